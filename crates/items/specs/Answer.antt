@@ -1,0 +1,125 @@
+-- What one finished message does: its code, its reply, and the settings after it.
+use Prim.Native.Nat.{ℕ, _+_, _*_}
+use mathlib.Core.Bool.{Bool, true, false, _&&_, _||_, not}
+use mathlib.Core.List.{List, [], _∷_, _++_}
+use lib.Dec.{eqb, leb, ltb}
+use lib.ListN.{length, getD, take, drop}
+use Rattle.wire.specs.Choice.{pick, Check, check, firstOf, oneOf}
+use Rattle.wire.specs.Number.{bytes, field}
+use Rattle.wire.specs.Header.{headerOf, nak, typeSet, typeRequest, typeRange, typeAcknowledgement, typeData, typeReply, typeRangeReply}
+use Rattle.tuning.specs.Bands.{bands, rangeBytes}
+use Rattle.items.specs.declared.Settings.{Settings}
+use Rattle.items.specs.Items.{Offer, total, dash, Channels, noChannel, anyChannel, zeroAndAll, Item, listed, rowOf}
+
+-- A finished message: its type, its length as the header has it, and its first 64 bytes.
+pub record Message : Type 0 where
+  pub type : ℕ
+  pub size : ℕ
+  pub held : List ℕ
+
+-- "Control messages have a 16-bit item code after the header, then parameters."
+abbrev pub itemIn : Message → ℕ
+itemIn m = field 2 2 (m .held)
+
+abbrev pub row : Message → Item
+row m = rowOf (itemIn m)
+
+abbrev pub parameters : Message → List ℕ
+parameters m = drop 4 (m .held)
+
+-- "acknowledgements of length 3 naming item 0 to 3"
+abbrev pub acknowledges : Message → Bool
+acknowledges m = eqb (m .type) typeAcknowledgement && eqb (m .size) 3 && leb (getD (m .held) 2 0) 3
+
+-- "Unanswered messages (code 2): 02 00; acknowledgements of length 3 naming item 0 to 3; data items of every length but 1."
+abbrev pub unanswered : Message → Bool
+unanswered m =
+    (eqb (m .type) typeSet && eqb (m .size) 2) || acknowledges m || (leb typeData (m .type) && not (eqb (m .size) 1))
+
+-- "bad header: length 1; length 0 in types 0 to 3; length 2 in types 1 to 3; length 3 in types 0 to 2; type 3 otherwise not as above"
+abbrev pub badHeader : Message → Bool
+badHeader m =
+    eqb (m .size) 1
+    || (eqb (m .size) 0 && leb (m .type) 3)
+    || (eqb (m .size) 2 && leb 1 (m .type) && leb (m .type) 3)
+    || (eqb (m .size) 3 && leb (m .type) 2)
+    || (eqb (m .type) typeAcknowledgement && not (acknowledges m))
+
+-- "types 0 to 2, length over 64"
+abbrev pub tooLong : Message → Bool
+tooLong m = leb (m .type) 2 && ltb 64 (m .size)
+
+-- what the table has for a kind: 0 set, 1 request, 2 range
+abbrev pub offered : Item → ℕ → Offer
+offered i kind = pick (eqb kind typeSet) (i .set) (pick (eqb kind typeRequest) (i .request) (i .range))
+
+abbrev pub isDash : Offer → Bool
+isDash (total n) = false
+isDash dash = true
+
+abbrev pub isTotal : Offer → ℕ → Bool
+isTotal (total n) size = eqb size n
+isTotal dash size = false
+
+-- "Channel for 0020 and 0038: 00, and on set also FF."
+abbrev pub channelAllowed : Channels → ℕ → ℕ → Bool
+channelAllowed noChannel kind byte = true
+channelAllowed anyChannel kind byte = true
+channelAllowed zeroAndAll kind byte = eqb byte 0x00 || (eqb kind typeSet && eqb byte 0xFF)
+
+-- the value that a message of a kind has is allowed
+abbrev pub valueAllowed : Item → ℕ → List ℕ → Bool
+valueAllowed i kind p = pick (eqb kind typeSet) (i .settable p) (pick (eqb kind typeRequest) (i .askable p) true)
+
+-- a set that is not taken now, since the box is running
+abbrev pub refusedRunning : Item → ℕ → Settings → List ℕ → Bool
+refusedRunning i kind s p = eqb kind typeSet && s .running && i .locked s p
+
+-- The last three checks, which an item makes of its parameters.
+abbrev pub itemChecks : Item → ℕ → Settings → List ℕ → List Check
+itemChecks i kind s p =
+    check 15 (not (channelAllowed (i .channels) kind (getD p 0 0)))
+    ∷ check 16 (not (valueAllowed i kind p))
+    ∷ check 17 (refusedRunning i kind s p)
+    ∷ []
+
+-- "Codes 10 to 17 stand in order of checking (11 first)"; 2 is for the unanswered, of which none has a bad header.
+abbrev pub checks : Settings → Message → List Check
+checks s m =
+    check 2 (unanswered m)
+    ∷ check 11 (badHeader m)
+    ∷ check 10 (tooLong m)
+    ∷ check 12 (not (listed (itemIn m)))
+    ∷ check 14 (isDash (offered (row m) (m .type)))
+    ∷ check 13 (not (isTotal (offered (row m) (m .type)) (m .size)))
+    ∷ itemChecks (row m) (m .type) s (parameters m)
+
+-- the message's code: 1 where nothing speaks against it
+unfoldable pub codeOf : Settings → Message → ℕ
+codeOf s m = firstOf (checks s m) 1
+
+-- the settings after it: an accepted set stores, everything else leaves every setting
+unfoldable pub settingsAfter : Settings → Message → Settings
+settingsAfter s m = pick (eqb (codeOf s m) 1 && eqb (m .type) typeSet) (row m .stored s (parameters m)) s
+
+-- "Replies have the item's set layout with the current value; the channel byte or id is echoed."
+abbrev pub replyBody : Item → Settings → List ℕ → List ℕ
+replyBody i s p = bytes 2 (i .code) ++ take (i .echoed) p ++ i .value s p
+
+-- "The range reply gives channel, 02, then minimum, maximum, oscillator of each in five bytes."
+abbrev pub rangeBody : Item → List ℕ → List ℕ
+rangeBody i p = bytes 2 (i .code) ++ take 1 p ++ 0x02 ∷ rangeBytes bands
+
+-- a header of the true length before the body
+abbrev pub framed : ℕ → List ℕ → List ℕ
+framed type body = bytes 2 (headerOf type (2 + length body)) ++ body
+
+-- the reply to an accepted message of an item, with the settings after it
+abbrev pub replyTo : Item → ℕ → Settings → List ℕ → List ℕ
+replyTo i kind s p = pick (eqb kind typeRange) (framed typeRangeReply (rangeBody i p)) (framed typeReply (replyBody i s p))
+
+-- what is written for a code: the reply for 1, nothing for 2, NAK for a refusal
+unfoldable pub replyOf : Settings → Message → List ℕ
+replyOf s m =
+    pick (eqb (codeOf s m) 1) (replyTo (row m) (m .type) (settingsAfter s m) (parameters m))
+    (pick (eqb (codeOf s m) 2) [] nak)

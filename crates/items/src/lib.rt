@@ -1,0 +1,36 @@
+// Items of document 01: the settings of a box, the table of items, and what one finished message does.
+
+// The settings of a box. A box started fresh keeps each within its range; specs/Settings.antt has the ranges.
+pub struct Settings {
+    // Hz
+    pub frequency: u64,
+    // packets cut in this capture
+    pub count: u64,
+    // Hz
+    pub clock: u32,
+    // the D of the rate, 20,000,000 / D
+    pub divisor: u32,
+    pub running: bool,
+    // 80 for 24 bits, 00 for 16
+    pub mode: u8,
+    // the signed byte as it is sent
+    pub gain: u8,
+    // 0 large, 1 small
+    pub size: u8,
+    pub serial: [u8; 8],
+}
+
+// What becomes of one message: its code, and the settings after it.
+pub struct Judged {
+    pub code: u8,
+    pub settings: Settings,
+}
+
+// The total length that the table of items gives for an item and a kind, or the refusal.
+pub enum Expected {
+    Total(u16),
+    // the item is not in the list
+    Unlisted,
+    // item known, this kind not offered
+    NotOffered,
+}

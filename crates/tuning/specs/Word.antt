@@ -1,0 +1,28 @@
+-- Tuning word (house): "The offset n is the frequency, or 160,000,000 less the frequency in the second band. The word is
+-- n x 2^32 / clock to the nearest whole number, halves up; it is worked out when asked."
+use Prim.Native.Nat.{ℕ, _+_, _*_, _-_, _/_, _^_}
+use mathlib.Core.Bool.{Bool}
+use mathlib.Core.List.{List, [], _∷_}
+use lib.Dec.{eqb}
+use Rattle.wire.specs.Choice.{pick, within}
+use Rattle.tuning.specs.Bands.{Band, bands}
+
+-- the offset in a band: the frequency where the band has no oscillator, else the oscillator less the frequency
+abbrev pub offsetIn : Band → ℕ → ℕ
+offsetIn b hz = pick (eqb (b .oscillator) 0) hz (b .oscillator - hz)
+
+-- the offset in the first band that has the frequency, 0 where none has it
+abbrev pub offsetAmong : List Band → ℕ → ℕ
+offsetAmong [] hz = 0
+offsetAmong (b ∷ bs) hz = pick (within (b .minimum) (b .maximum) hz) (offsetIn b hz) (offsetAmong bs hz)
+
+abbrev pub offsetOf : ℕ → ℕ
+offsetOf hz = offsetAmong bands hz
+
+-- n x 2^32 / clock, halves up
+unfoldable pub wordOf : ℕ → ℕ → ℕ
+wordOf hz clock = (2 * (offsetOf hz * 2 ^ 32) + clock) / (2 * clock)
+
+-- clock: "79,992,000 to 80,008,000 (house)"
+abbrev pub isClock : ℕ → Bool
+isClock hz = within 79_992_000 80_008_000 hz

@@ -1,0 +1,1 @@
+// Bands and tuning word of document 01.

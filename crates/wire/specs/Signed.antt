@@ -1,0 +1,15 @@
+-- Signed numbers in k bits, as two's complement.
+use Prim.Native.Nat.{ℕ, suc, _-_, _^_}
+use mathlib.Core.Bool.{Bool}
+use lib.Dec.{ltb}
+use lib.IntN.{ℤ, pos, negsuc}
+use Rattle.wire.specs.Choice.{pick}
+
+-- the k bits that stand for z
+abbrev pub coded : ℕ → ℤ → ℕ
+coded k (pos n) = n
+coded k (negsuc n) = 2 ^ k - suc n
+
+-- the number that k bits stand for: below the half it is itself, from the half on it lies 2 ^ k lower
+abbrev pub signed : ℕ → ℕ → ℤ
+signed k n = pick (ltb n (2 ^ (k - 1))) (pos n) (negsuc (2 ^ k - suc n))
