@@ -1,0 +1,82 @@
+-- Reading packets.
+use Prim.Native.Nat.{ℕ, _+_, _*_}
+use mathlib.Core.Bool.{Bool, true, false, _&&_, not}
+use mathlib.Core.List.{List, [], _∷_}
+use lib.Dec.{eqb, leb, ltb}
+use lib.IntN.{ℤ}
+use lib.ListN.{length, drop}
+use Rattle.wire.specs.Choice.{pick, Check, check, firstOf}
+use Rattle.packets.specs.declared.Form.{Form}
+use Rattle.packets.specs.Forms.{noForm, sameForm, listed, wholeOf, isPacket}
+use Rattle.packets.specs.Numbers.{numberAt, stepOf, numberIn}
+use Rattle.packets.specs.Samples.{samplesFrom}
+use Rattle.reader.specs.declared.Reader.{Reader}
+use Rattle.reader.specs.declared.Heard.{Heard}
+use Rattle.reader.specs.declared.Unpacked.{Unpacked}
+
+-- the last position that a capture can have
+abbrev pub last : ℕ
+last = 3_999_999_999
+
+-- a reader that has heard nothing
+abbrev pub silent : Reader
+silent = record { heard = false; position = 0; form = noForm }
+
+-- "A reader that has heard a packet holds its position (at most 3,999,999,999) and a listed form; other states are broken."
+abbrev pub sound : Reader → Bool
+sound r = pick (r .heard) (leb (r .position) last && listed (r .form)) (eqb (r .position) 0 && sameForm (r .form) noForm)
+
+-- "Number 0 begins a new capture, at any moment. From number s to number t above 0 the step is .."
+abbrev pub positionAfter : Reader → ℕ → ℕ
+positionAfter r number = pick (eqb number 0) 0 (r .position + stepOf (numberAt (r .position)) number)
+
+-- "Packet reading 21, 30, 31, 32, 33."
+abbrev pub readChecks : Reader → List ℕ → List Check
+readChecks r packet =
+    check 21 (not (sound r))
+    ∷ check 30 (not (isPacket packet))
+    ∷ check 31 (not (eqb (numberIn packet) 0) && not (r .heard))
+    ∷ check 32 (not (eqb (numberIn packet) 0) && not (sameForm (wholeOf packet) (r .form)))
+    ∷ check 33 (ltb last (positionAfter r (numberIn packet)))
+    ∷ []
+
+unfoldable pub readCode : Reader → List ℕ → ℕ
+readCode r packet = firstOf (readChecks r packet) 1
+
+-- "The answer is the packet's position and its first sample's position (packet position times I/Q pairs)."
+abbrev pub heardAt : ℕ → Form → Heard
+heardAt position f =
+    record {
+      code = 1;
+      position = position;
+      sample = position * f .pairs;
+      reader = record { heard = true; position = position; form = f };
+    }
+
+abbrev pub unheard : ℕ → Reader → Heard
+unheard code r = record { code = code; position = 0; sample = 0; reader = r }
+
+unfoldable pub readingOf : Reader → List ℕ → Heard
+readingOf r packet =
+    pick (eqb (readCode r packet) 1) (heardAt (positionAfter r (numberIn packet)) (wholeOf packet))
+    (unheard (readCode r packet) r)
+
+-- "A call of its own answers with the sample bytes handed back as that part of the caller's packet, or with an empty part
+-- where the slice is 30."
+abbrev pub sampleBytesOf : List ℕ → List ℕ
+sampleBytesOf packet = pick (isPacket packet) (drop 4 packet) []
+
+-- "Unpacking takes a packet and writes its I and Q in turn as signed numbers of the width sent; it refuses with 30, then 20."
+abbrev pub countIn : List ℕ → ℕ
+countIn packet = 2 * wholeOf packet .pairs
+
+abbrev pub unpackChecks : List ℕ → ℕ → List Check
+unpackChecks packet room = check 30 (not (isPacket packet)) ∷ check 20 (ltb room (countIn packet)) ∷ []
+
+unfoldable pub unpackCode : List ℕ → ℕ → ℕ
+unpackCode packet room = firstOf (unpackChecks packet room) 1
+
+-- the numbers that unpacking writes at the start of the lent slice
+unfoldable pub unpackedOf : List ℕ → ℕ → List ℤ
+unpackedOf packet room =
+    pick (eqb (unpackCode packet room) 1) (samplesFrom (wholeOf packet .bits) (drop 4 packet) 0 (countIn packet)) []

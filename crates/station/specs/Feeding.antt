@@ -1,0 +1,60 @@
+-- One call of feeding: the box, the host's bytes, and how much room there is for a reply.
+use Prim.Native.Nat.{ℕ}
+use mathlib.Core.Bool.{Bool, not}
+use mathlib.Core.List.{List, []}
+use lib.Dec.{ltb}
+use lib.ListN.{length}
+use Rattle.wire.specs.Choice.{pick}
+use Rattle.wire.specs.Header.{lengthIn, typeIn}
+use Rattle.framing.specs.Framing.{Taking, taken, finished, headerIn, between}
+use Rattle.framing.specs.declared.Store.{Store}
+use Rattle.items.specs.declared.Settings.{Settings}
+use Rattle.items.specs.Answer.{Message, codeOf, replyOf, settingsAfter}
+use Rattle.station.specs.declared.Station.{Station}
+use Rattle.station.specs.declared.Fed.{Fed}
+use Rattle.station.specs.Station.{valid}
+
+-- the finished message in a store
+abbrev pub messageIn : Store → Message
+messageIn t = record { type = typeIn (headerIn (t .held)); size = lengthIn (headerIn (t .held)); held = t .held }
+
+-- what a call returns, and the bytes that it writes at the start of the reply buffer
+pub record Feeding : Type 0 where
+  pub fed : Fed
+  pub bytes : List ℕ
+
+-- "Codes from 20 consume nothing and return the state given."
+abbrev pub refused : ℕ → Station → Feeding
+refused code s = record { fed = record { code = code; consumed = 0; wrote = 0; station = s }; bytes = [] }
+
+-- 0: "waiting, all bytes consumed"
+abbrev pub waiting : Settings → Taking → Feeding
+waiting s t =
+    record {
+      fed = record { code = 0; consumed = t .count; wrote = 0; station = record { settings = s; store = t .store } };
+      bytes = [];
+    }
+
+-- a finished message has its code, its reply and its settings; "all is zero between messages"
+abbrev pub answered : Settings → Taking → Feeding
+answered s t =
+    record {
+      fed =
+          record {
+            code = codeOf s (messageIn (t .store));
+            consumed = t .count;
+            wrote = length (replyOf s (messageIn (t .store)));
+            station = record { settings = settingsAfter s (messageIn (t .store)); store = between };
+          };
+      bytes = replyOf s (messageIn (t .store));
+    }
+
+-- what the taken bytes come to, where there is room: "lent buffer shorter than what this call would write" is 20
+abbrev pub fedBy : Station → Taking → ℕ → Feeding
+fedBy s t room =
+    pick (not (finished (t .store))) (waiting (s .settings) t)
+    (pick (ltb room (length (replyOf (s .settings) (messageIn (t .store))))) (refused 20 s) (answered (s .settings) t))
+
+-- "Orders: feeding 21, 20."
+unfoldable pub feedingOf : Station → List ℕ → ℕ → Feeding
+feedingOf s host room = pick (not (valid s)) (refused 21 s) (fedBy s (taken (s .store) host) room)

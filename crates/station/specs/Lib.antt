@@ -1,0 +1,2 @@
+pub mod Station
+pub mod Feeding
