@@ -1,0 +1,103 @@
+-- The judged examples of document 01 that are marked to be proved, as one table in the page's order. What a message does
+-- is asked of a fresh box, fed in one call with 64 bytes of room.
+use Prim.Native.Nat.{ℕ}
+use mathlib.Core.Bool.{Bool, true, false, _&&_, not}
+use mathlib.Core.List.{List, [], _∷_}
+use lib.Dec.{eqb}
+use lib.IntN.{ℤ, pos, negsuc}
+use lib.ListN.{replicate}
+use Rattle.wire.specs.Signed.{signed}
+use Rattle.rates.specs.Rate.{nearestOf, rateOf, mayAsk}
+use Rattle.tuning.specs.Word.{wordOf}
+use Rattle.packets.specs.Numbers.{numberAt, stepOf}
+use Rattle.packets.specs.Samples.{sampleBytes}
+use Rattle.items.specs.declared.Settings.{Settings}
+use Rattle.station.specs.declared.Station.{Station}
+use Rattle.station.specs.Station.{freshStation}
+use Rattle.station.specs.Feeding.{Feeding, feedingOf}
+
+-- a serial to ask with
+abbrev pub asked : Station
+asked = freshStation (replicate 8 0x30)
+
+abbrev pub does : List ℕ → Feeding
+does message = feedingOf asked message 64
+
+abbrev pub settingsBy : List ℕ → Settings
+settingsBy message = does message .fed .station .settings
+
+abbrev pub sameBytes : List ℕ → List ℕ → Bool
+sameBytes [] [] = true
+sameBytes [] (b ∷ bs) = false
+sameBytes (a ∷ rest) [] = false
+sameBytes (a ∷ rest) (b ∷ bs) = eqb a b && sameBytes rest bs
+
+abbrev pub sameInteger : ℤ → ℤ → Bool
+sameInteger (pos a) (pos b) = eqb a b
+sameInteger (pos a) (negsuc b) = false
+sameInteger (negsuc a) (pos b) = false
+sameInteger (negsuc a) (negsuc b) = eqb a b
+
+pub data Example : Type 0 where
+  -- a message gives a reply
+  gives : List ℕ → List ℕ → Example
+  -- a message is echoed, and the frequency is then this
+  tunes : List ℕ → ℕ → Example
+  -- a frequency at a clock has a tuning word
+  hasWord : ℕ → ℕ → ℕ → Example
+  -- a message gets a code
+  getsCode : List ℕ → ℕ → Example
+  -- a message is echoed, and the gain is then this
+  gains : List ℕ → ℤ → Example
+  -- a rate asked for gives a D and an achieved rate
+  givesRate : ℕ → ℕ → ℕ → Example
+  -- a rate that may not be asked for
+  refusesRate : ℕ → Example
+  -- the packet at a position has a number
+  hasNumber : ℕ → ℕ → Example
+  -- a number after another is a step
+  steps : ℕ → ℕ → ℕ → Example
+  -- a sample at a width has these bytes
+  packs : ℕ → ℤ → List ℕ → Example
+
+abbrev pub holds : Example → Bool
+holds (gives message reply) = eqb (does message .fed .code) 1 && sameBytes (does message .bytes) reply
+holds (tunes message hz) = sameBytes (does message .bytes) message && eqb (settingsBy message .frequency) hz
+holds (hasWord hz clock word) = eqb (wordOf hz clock) word
+holds (getsCode message code) = eqb (does message .fed .code) code
+holds (gains message db) = sameBytes (does message .bytes) message && sameInteger (signed 8 (settingsBy message .gain)) db
+holds (givesRate hz d achieved) = mayAsk hz && eqb (nearestOf hz) d && eqb (rateOf d) achieved
+holds (refusesRate hz) = not (mayAsk hz)
+holds (hasNumber position number) = eqb (numberAt position) number
+holds (steps s t step) = eqb (stepOf s t) step
+holds (packs bits z packed) = sameBytes (sampleBytes bits z) packed
+
+abbrev pub starred : List Example
+starred =
+    gives (0x04 ∷ 0x20 ∷ 0x01 ∷ 0x00 ∷ []) (0x0B ∷ 0x00 ∷ 0x01 ∷ 0x00 ∷ 0x4E ∷ 0x65 ∷ 0x74 ∷ 0x53 ∷ 0x44 ∷ 0x52 ∷ 0x00 ∷ [])
+    ∷ tunes (0x0A ∷ 0x00 ∷ 0x20 ∷ 0x00 ∷ 0x00 ∷ 0x90 ∷ 0xC6 ∷ 0xD5 ∷ 0x00 ∷ 0x00 ∷ []) 14_010_000
+    ∷ hasWord 14_010_000 80_000_000 752_156_148
+    ∷ hasWord 145_000_000 80_000_000 805_306_368
+    ∷ getsCode (0x0A ∷ 0x00 ∷ 0x20 ∷ 0x00 ∷ 0x00 ∷ 0x90 ∷ 0xC6 ∷ 0xD5 ∷ 0x00 ∷ 0x01 ∷ []) 16
+    ∷ gains (0x06 ∷ 0x00 ∷ 0x38 ∷ 0x00 ∷ 0x00 ∷ 0xEC ∷ []) (negsuc 19)
+    ∷ getsCode (0x06 ∷ 0x00 ∷ 0x38 ∷ 0x00 ∷ 0x00 ∷ 0xF0 ∷ []) 16
+    ∷ givesRate 55_556 360 55_556
+    ∷ gives (0x09 ∷ 0x00 ∷ 0xB8 ∷ 0x00 ∷ 0x00 ∷ 0x04 ∷ 0xD9 ∷ 0x00 ∷ 0x00 ∷ []) (0x09 ∷ 0x00 ∷ 0xB8 ∷ 0x00 ∷ 0x00 ∷ 0x04 ∷ 0xD9 ∷ 0x00 ∷ 0x00 ∷ [])
+    ∷ givesRate 1_907_000 11 1_818_182
+    ∷ givesRate 32_000 625 32_000
+    ∷ refusesRate 31_999
+    ∷ refusesRate 2_000_001
+    ∷ getsCode (0x04 ∷ 0x20 ∷ 0x09 ∷ 0x00 ∷ []) 12
+    ∷ getsCode (0x03 ∷ 0x60 ∷ 0x00 ∷ []) 2
+    ∷ getsCode (0x03 ∷ 0x60 ∷ 0x04 ∷ []) 11
+    ∷ hasNumber 65_535 65_535
+    ∷ hasNumber 65_536 1
+    ∷ steps 7 7 65_535
+    ∷ steps 65_535 1 1
+    ∷ packs 24 (negsuc 256) (0xFF ∷ 0xFE ∷ 0xFF ∷ [])
+    ∷ packs 16 (negsuc 256) (0xFE ∷ 0xFF ∷ [])
+    ∷ []
+
+abbrev pub allHold : List Example → Bool
+allHold [] = true
+allHold (e ∷ es) = holds e && allHold es
