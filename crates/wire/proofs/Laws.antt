@@ -1,8 +1,122 @@
--- What closes the returns of a function whose definition has its tests, and the parts of a test.
+-- What closes the returns of a function whose definition has its tests, and laws that take a test apart.
+use Prim.Native.Nat.{ℕ, _≤_, _<_}
 use mathlib.Core.Path.{_≡_, refl, sym, ap, _∙_}
-use mathlib.Core.Bool.{Bool, true, false, _&&_, _||_}
+use mathlib.Core.Bool.{Bool, true, false, _&&_, _||_, not}
+use native.Mathlib.Omega.{arith}
+use lib.Dec.{T, leb, ltb, eqb}
 use borrow.Author.Needs.{needs}
-use borrow.Author.Tests.{lt-ltb, le-ltb, le-leb, lt-leb, eq-eqb, ne-eqb}
+use borrow.Author.Tests.{lt-ltb, le-ltb, le-leb, lt-leb, eq-eqb, ne-eqb, leb-true, leb-false}
+use Rattle.wire.specs.Choice.{pick, within}
 
 -- each test of a definition is decided by a branch that was taken or left
 pub ruleset cases = (needs, lt-ltb, le-ltb, le-leb, lt-leb, eq-eqb, ne-eqb)
+
+-- ---- tests as facts
+
+pub true-not-false : true ≡ false → ⊥
+true-not-false e =
+    let z : _≡_ {A = ℕ} 0 1 = ap (λ (b : Bool). pick b 0 1) e in
+    omega arith
+
+pub test-true : (t : Bool) → T t → t ≡ true
+test-true true h = refl
+test-true false h = absurd h
+
+pub test-holds : (t : Bool) → t ≡ true → T t
+test-holds true e = tt
+test-holds false e = absurd (true-not-false (sym e))
+
+-- ---- `_&&_`
+
+pub and-both : (a b : Bool) → a ≡ true → b ≡ true → a && b ≡ true
+and-both true b p q = q
+and-both false b p q = p
+
+pub and-left : (a b : Bool) → a && b ≡ true → a ≡ true
+and-left true b e = refl
+and-left false b e = e
+
+pub and-right : (a b : Bool) → a && b ≡ true → b ≡ true
+and-right true b e = e
+and-right false b e = absurd (true-not-false (sym e))
+
+pub and-not-left : (a b : Bool) → a ≡ false → a && b ≡ false
+and-not-left true b p = absurd (true-not-false p)
+and-not-left false b p = refl
+
+pub and-not-right : (a b : Bool) → b ≡ false → a && b ≡ false
+and-not-right true b q = q
+and-not-right false b q = refl
+
+-- where both do not hold and the first does, the second does not
+pub and-rest : (a b : Bool) → a && b ≡ false → a ≡ true → b ≡ false
+and-rest true b e p = e
+and-rest false b e p = absurd (true-not-false (sym p))
+
+-- ---- `_||_`
+
+pub or-left : (a b : Bool) → a ≡ true → a || b ≡ true
+or-left true b p = refl
+or-left false b p = absurd (true-not-false (sym p))
+
+pub or-right : (a b : Bool) → b ≡ true → a || b ≡ true
+or-right true b q = refl
+or-right false b q = q
+
+pub or-neither : (a b : Bool) → a ≡ false → b ≡ false → a || b ≡ false
+or-neither true b p q = p
+or-neither false b p q = q
+
+pub or-not-left : (a b : Bool) → a || b ≡ false → a ≡ false
+or-not-left true b e = e
+or-not-left false b e = refl
+
+pub or-not-right : (a b : Bool) → a || b ≡ false → b ≡ false
+or-not-right true b e = absurd (true-not-false e)
+or-not-right false b e = e
+
+-- where one holds and the first does not, the second does
+pub or-rest : (a b : Bool) → a || b ≡ true → a ≡ false → b ≡ true
+or-rest true b e p = absurd (true-not-false p)
+or-rest false b e p = e
+
+-- ---- `pick`
+
+module _ {X : Type 0} where
+  pub pick-true : (t : Bool) (x y : X) → t ≡ true → pick t x y ≡ x
+  pick-true true x y p = refl
+  pick-true false x y p = absurd (true-not-false (sym p))
+
+  pub pick-false : (t : Bool) (x y : X) → t ≡ false → pick t x y ≡ y
+  pick-false true x y p = absurd (true-not-false p)
+  pick-false false x y p = refl
+
+  pub pick-same : (t : Bool) (x : X) → pick t x x ≡ x
+  pick-same true x = refl
+  pick-same false x = refl
+
+  -- what both answers have, the picked one has
+  pub pick-keeps : (P : X → Type 0) (t : Bool) (x y : X) → (t ≡ true → P x) → (t ≡ false → P y) → P (pick t x y)
+  pick-keeps P true x y h k = h refl
+  pick-keeps P false x y h k = k refl
+
+pub pick-ap : {X Y : Type 0} (f : X → Y) (t : Bool) (x y : X) → f (pick t x y) ≡ pick t (f x) (f y)
+pick-ap f true x y = refl
+pick-ap f false x y = refl
+
+-- ---- `within`
+
+pub within-low : (low high n : ℕ) → within low high n ≡ true → low ≤ n
+within-low low high n e = leb-true low n (and-left (leb low n) (leb n high) e)
+
+pub within-high : (low high n : ℕ) → within low high n ≡ true → n ≤ high
+within-high low high n e = leb-true n high (and-right (leb low n) (leb n high) e)
+
+pub is-within : (low high n : ℕ) → low ≤ n → n ≤ high → within low high n ≡ true
+is-within low high n l h = and-both (leb low n) (leb n high) (le-leb low n l) (le-leb n high h)
+
+pub below-within : (low high n : ℕ) → n < low → within low high n ≡ false
+below-within low high n l = and-not-left (leb low n) (leb n high) (lt-leb low n l)
+
+pub above-within : (low high n : ℕ) → high < n → within low high n ≡ false
+above-within low high n h = and-not-right (leb low n) (leb n high) (lt-leb n high h)

@@ -1,3 +1,5 @@
 pub mod Laws
 pub mod Stores
 pub mod Numbers
+pub mod Headers
+pub mod Signed

@@ -6,8 +6,8 @@ use native.Mathlib.Nat.{zero-min, min-zero, suc-min-suc, pow-le-pow-right, lt-of
 use native.Mathlib.Omega.{arith}
 use native.Mathlib.Decide.{decLt}
 use lib.ListN.{length, getD, set, take, drop, length-drop}
-use lib.Seq.{drop-cons, sets}
-use Rattle.wire.proofs.Stores.{sets-out}
+use lib.Seq.{drop-cons, sets, take-length, getD-drop}
+use Rattle.wire.proofs.Stores.{sets-out, sets-taken}
 use Rattle.wire.specs.Number.{number, bytes, field}
 
 -- a field is its first byte, and 256 times the field after it
@@ -67,3 +67,46 @@ put-end l w at n i v done is = elim (decLt i n) [ yes m ↦ sym (sets-out l (at 
     written m =
         let none : n - i ≡ 0 = omega arith in
         rw none at is
+
+-- ---- numbers and their bytes
+
+pub length-bytes : (n v : ℕ) → length (bytes n v) ≡ n
+length-bytes zero v = refl
+length-bytes (suc n) v = ap suc (length-bytes n (v / 256))
+
+pub bytes-below : (n v k : ℕ) → getD (bytes n v) k 0 < 256
+bytes-below zero v k = omega arith
+bytes-below (suc n) v zero = omega arith
+bytes-below (suc n) v (suc k) = bytes-below n (v / 256) k
+
+-- what n bytes can hold comes back
+pub number-bytes : (n v : ℕ) → v < 256 ^ n → number (bytes n v) ≡ v
+number-bytes zero v h = omega arith
+number-bytes (suc n) v h = rw (number-bytes n (v / 256) (omega arith)) (omega arith)
+
+-- n bytes are below their power
+taken-below : (n : ℕ) (bs : List ℕ) → ((k : ℕ) → getD bs k 0 < 256) → number (take n bs) < 256 ^ n
+taken-below zero bs h = omega arith
+taken-below (suc n) [] h = omega (arith, taken-below n [] h)
+taken-below (suc n) (b ∷ bs) h = omega (arith, h 0, taken-below n bs (λ k. h (suc k)))
+
+pub number-below : (bs : List ℕ) → ((k : ℕ) → getD bs k 0 < 256) → number bs < 256 ^ length bs
+number-below bs h = rw (take-length bs) at (taken-below (length bs) bs h)
+
+pub field-below : (at n : ℕ) (s : List ℕ) → ((k : ℕ) → getD s k 0 < 256) → field at n s < 256 ^ n
+field-below at n s h = taken-below n (drop at s) (λ k. rw (getD-drop at s k 0) (h (at + k)))
+
+-- bytes come back
+pub bytes-number : (bs : List ℕ) → ((k : ℕ) → getD bs k 0 < 256) → bytes (length bs) (number bs) ≡ bs
+bytes-number [] h = refl
+bytes-number (b ∷ bs) h =
+    let low : (b + 256 * number bs) % 256 ≡ b = omega (arith, h 0) in
+    let high : (b + 256 * number bs) / 256 ≡ number bs = omega (arith, h 0) in
+    rw (low, high) (ap (λ (r : List ℕ). b ∷ r) (bytes-number bs (λ k. h (suc k))))
+
+-- a number that was written is read
+pub field-written : (l : List ℕ) (at n v : ℕ) → at + n ≤ length l → v < 256 ^ n → field at n (sets l at (bytes n v)) ≡ v
+field-written l at n v room small =
+    let part : take n (drop at (sets l at (bytes n v))) ≡ bytes n v
+    = rw (length-bytes n v) at (sets-taken l at (bytes n v) (rw (length-bytes n v) room)) in
+    ap number part ∙ number-bytes n v small

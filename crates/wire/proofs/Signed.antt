@@ -1,0 +1,34 @@
+-- Signed numbers in k bits: what is coded comes back, and each code is one that comes back.
+use Prim.Native.Nat.{ℕ, suc, _+_, _-_, _^_, _≤_, _<_}
+use mathlib.Core.Path.{_≡_, refl, sym, ap, _∙_}
+use native.Mathlib.Decide.{decLt}
+use native.Mathlib.Omega.{arith}
+use lib.Dec.{ltb}
+use lib.IntN.{ℤ, pos, negsuc}
+use lib.Signed.{mag}
+use borrow.Author.Tests.{lt-ltb, le-ltb}
+use Rattle.wire.specs.Choice.{pick}
+use Rattle.wire.specs.Signed.{coded, signed}
+
+-- the power is twice its half
+halves : (k : ℕ) → 1 ≤ k → 2 ^ k ≡ 2 ^ (k - 1) + 2 ^ (k - 1)
+halves k h =
+    let e : k ≡ suc (k - 1) = omega arith in
+    ap (λ (n : ℕ). 2 ^ n) e ∙ omega arith
+
+pub coded-below : (k : ℕ) (z : ℤ) → 1 ≤ k → mag z < 2 ^ (k - 1) → coded k z < 2 ^ k
+coded-below k (pos n) some h = omega (arith, halves k some)
+coded-below k (negsuc n) some h = omega (arith, halves k some)
+
+pub signed-coded : (k : ℕ) (z : ℤ) → 1 ≤ k → mag z < 2 ^ (k - 1) → signed k (coded k z) ≡ z
+signed-coded k (pos n) some h = simp (lt-ltb n (2 ^ (k - 1)) h)
+signed-coded k (negsuc n) some h =
+    simp (le-ltb (2 ^ k - suc n) (2 ^ (k - 1)) (omega (arith, halves k some))) (ap negsuc (omega (arith, halves k some)))
+
+-- The other way: each code stands for a number of k bits, and is that number's code.
+module _ (k n : ℕ) (some : 1 ≤ k) (h : n < 2 ^ k) where
+  pub mag-signed : mag (signed k n) < 2 ^ (k - 1)
+  mag-signed = elim (decLt n (2 ^ (k - 1))) [ yes low ↦ simp (lt-ltb n (2 ^ (k - 1)) low) low | no low ↦ simp (le-ltb n (2 ^ (k - 1)) (omega arith)) (omega (arith, halves k some)) ]
+
+  pub coded-signed : coded k (signed k n) ≡ n
+  coded-signed = elim (decLt n (2 ^ (k - 1))) [ yes low ↦ simp (lt-ltb n (2 ^ (k - 1)) low) | no low ↦ simp (le-ltb n (2 ^ (k - 1)) (omega arith)) (omega (arith, halves k some)) ]
