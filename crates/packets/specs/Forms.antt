@@ -56,6 +56,14 @@ formForIn (r ∷ rs) mode size = pick (eqb (r .mode) mode && eqb (r .size) size)
 abbrev pub formFor : ℕ → ℕ → Form
 formFor mode size = formForIn forms mode size
 
+-- the form whose two header bytes hold this number
+abbrev pub formWithIn : List Row → ℕ → Form
+formWithIn [] header = noForm
+formWithIn (r ∷ rs) header = pick (eqb header (field 0 2 (r .header))) (formOf r) (formWithIn rs header)
+
+abbrev pub formWithHeader : ℕ → Form
+formWithHeader header = formWithIn forms header
+
 -- "The slice must be one whole packet of a listed form": the form whose header stands first and whose total is the slice's length
 abbrev pub wholeIn : List Row → List ℕ → Form
 wholeIn [] packet = noForm

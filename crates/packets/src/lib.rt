@@ -1,8 +1,175 @@
 // Packets and numbers of document 01: the four forms, the number at each position, and the samples' bytes.
+ghost use mathlib.Core.Path.{_≡_};
+ghost use Prim.Native.Nat.{_<_};
+ghost use lib.ListN.{getD};
+ghost use Rattle.wire.specs.Choice.{pick};
+ghost use Rattle.wire.specs.Number.{field};
+ghost use Rattle.packets.specs.Forms.{formFor, listed, sameForm, totalOf, noForm, formWithHeader, wholeOf};
+ghost use Rattle.packets.specs.Numbers.{numberAt, numberIn, stepOf};
 
 // How a packet is laid out: the bits of a sample and the I/Q pairs in a packet. The four listed forms are those of the
 // table in specs/Forms.antt.
 pub struct Form {
     pub bits: u64,
     pub pairs: u64,
+}
+
+// No form at all: what a function answers that finds none.
+pub fn no_form() -> Form
+    ensures { λ r. ⌜ r ≡ noForm ⌝ }
+{
+    Form { bits: 0, pairs: 0 }
+}
+
+// The form that a box with this mode byte and this size byte cuts; no form for bytes that are neither.
+pub fn form_for(mode: u8, size: u8) -> Form
+    ensures { λ r. ⌜ r ≡ formFor mode size ⌝ }
+{
+    match mode {
+        0x80 => match size {
+            0 => Form {
+                bits: 24,
+                pairs: 240,
+            },
+            1 => Form {
+                bits: 24,
+                pairs: 64,
+            },
+            _ => Form { bits: 0, pairs: 0 },
+        },
+        0x00 => match size {
+            0 => Form {
+                bits: 16,
+                pairs: 256,
+            },
+            1 => Form {
+                bits: 16,
+                pairs: 128,
+            },
+            _ => Form { bits: 0, pairs: 0 },
+        },
+        _ => Form { bits: 0, pairs: 0 },
+    }
+}
+
+// Whether two forms agree in width and pair count.
+pub fn same_form(a: Form, b: Form) -> bool
+    ensures { λ r. ⌜ r ≡ sameForm a b ⌝ }
+{
+    if a.bits == b.bits {
+        return a.pairs == b.pairs;
+    }
+    false
+}
+
+// Whether the form is one of the four.
+pub fn is_listed(f: Form) -> bool
+    ensures { λ r. ⌜ r ≡ listed f ⌝ }
+{
+    let bits = f.bits;
+    let pairs = f.pairs;
+    match bits {
+        24 => match pairs {
+            240 => true,
+            64 => true,
+            _ => false,
+        },
+        16 => match pairs {
+            256 => true,
+            128 => true,
+            _ => false,
+        },
+        _ => false,
+    }
+}
+
+// How many bytes a packet of a listed form has; 0 for any other form.
+pub fn total_of(f: Form) -> u64
+    ensures { λ r. ⌜ r ≡ pick (listed f) (totalOf f) 0 ⌝ }
+{
+    if is_listed(f) {
+        return 4 + f.pairs * 2 * (f.bits / 8);
+    }
+    0
+}
+
+// The form whose two header bytes hold this number; no form for any other header.
+pub fn form_of_header(header: u16) -> Form
+    ensures { λ r. ⌜ r ≡ formWithHeader header ⌝ }
+{
+    match header {
+        0x85A4 => Form {
+            bits: 24,
+            pairs: 240,
+        },
+        0x8184 => Form {
+            bits: 24,
+            pairs: 64,
+        },
+        0x8404 => Form {
+            bits: 16,
+            pairs: 256,
+        },
+        0x8204 => Form {
+            bits: 16,
+            pairs: 128,
+        },
+        _ => Form { bits: 0, pairs: 0 },
+    }
+}
+
+// A byte of a slice, 0 where the slice has no such place.
+fn byte_at(s: &[u8], at: usize) -> u16
+    ensures { λ r. ⌜ (r ≡ getD (now (s .entry)) at 0) × (r < 256) ⌝ }
+{
+    if at < s.len() {
+        return s[at] as u16;
+    }
+    0
+}
+
+// The 16-bit number at one of the first places of a packet. Bytes past the end of the slice are not there, and count nothing.
+fn two_at(packet: &[u8], at: usize) -> u16
+    requires { ⌜ at < 4 ⌝ }
+    ensures { λ r. ⌜ r ≡ field at 2 (now (packet .entry)) ⌝ }
+{
+    byte_at(packet, at) + 256 * byte_at(packet, at + 1)
+}
+
+// The form of a slice that is one whole packet of a listed form; no form for any other slice.
+pub fn whole(packet: &[u8]) -> Form
+    ensures { λ r. ⌜ r ≡ wholeOf (now (packet .entry)) ⌝ }
+{
+    let header = two_at(packet, 0);
+    if wire::length_in(header) as usize == packet.len() {
+        return form_of_header(header);
+    }
+    no_form()
+}
+
+// The number that a packet carries.
+pub fn number_in(packet: &[u8]) -> u16
+    ensures { λ r. ⌜ r ≡ numberIn (now (packet .entry)) ⌝ }
+{
+    two_at(packet, 2)
+}
+
+// "The packet at position 0 has number 0; at position p of 1 or more, ((p - 1) mod 65,535) + 1."
+pub fn number_at_position(p: u64) -> u16
+    ensures { λ r. ⌜ r ≡ numberAt p ⌝ }
+{
+    if p == 0 {
+        return 0;
+    }
+    ((p - 1) % 65535 + 1) as u16
+}
+
+// "From number s to number t above 0 the step is t - s, and 65,535 more if t is not above s."
+pub fn step(s: u16, t: u16) -> u64
+    ensures { λ r. ⌜ r ≡ stepOf s t ⌝ }
+{
+    if s < t {
+        return t as u64 - s as u64;
+    }
+    t as u64 + 65535 - s as u64
 }

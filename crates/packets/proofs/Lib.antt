@@ -1,0 +1,3 @@
+pub mod Cases
+pub mod Forms
+pub mod Numbers

@@ -1,0 +1,23 @@
+-- `packets::form_of_header` meets its contract: each key is the number that a row's header holds, and the last arm is none.
+use borrow.Author.Tests.{ne-eqb}
+use Rattle.packets.proofs.form_of_header.Statement.{statement}
+use Rattle.packets.proofs.form_of_header.Tie as tie
+
+returns : tie.Need-returns
+returns c = rw (c .match .keys1)
+
+returns-2 : tie.Need-returns-2
+returns-2 c = rw (c .match .keys2)
+
+returns-3 : tie.Need-returns-3
+returns-3 c = rw (c .match .keys3)
+
+returns-4 : tie.Need-returns-4
+returns-4 c = rw (c .match .keys4)
+
+returns-5 : tie.Need-returns-5
+returns-5 c =
+    rw (ne-eqb _ 0x85A4 (c .match .rest .0 .0 .0 .1), ne-eqb _ 0x8184 (c .match .rest .0 .0 .1), ne-eqb _ 0x8404 (c .match .rest .0 .1), ne-eqb _ 0x8204 (c .match .rest .1))
+
+pub form-of-header-spec : {M : Type 1} → statement M
+form-of-header-spec = tie.close (tie.spec returns returns-2 returns-3 returns-4 returns-5)
