@@ -1,2 +1,3 @@
 pub mod Station
 pub mod Feeding
+pub mod Serving
