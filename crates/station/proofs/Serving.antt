@@ -2,7 +2,8 @@
 -- Assumes nothing.
 use Prim.Native.Nat.{ℕ, zero, suc, _+_, _-_, _≤_, _<_}
 use native.Mathlib.Nat.{le-refl, le-trans, not-suc-le-zero}
-use borrow.Author.Tests.{le-ltb}
+use borrow.Author.Tests.{le-ltb, not-true}
+use Rattle.wire.proofs.Laws.{true-not-false, and-left, and-right, and-both}
 use native.Mathlib.Numerals.{add-one}
 use native.Mathlib.Omega.{arith}
 use mathlib.Core.Path.{_≡_, refl, sym, ap, _∙_}
@@ -127,7 +128,7 @@ taking-all n t (b ∷ bs) h = go (λ q. taking-all (n + 1) (pushed t b) bs q) (f
         → (d : Bool) → finished (pushed t b) ≡ d
         → finished (pick d (record { count = n + 1; store = pushed t b }) (taking (n + 1) (pushed t b) bs) .store) ≡ false
         → pick d (record { count = n + 1; store = pushed t b }) (taking (n + 1) (pushed t b) bs) .count ≡ n + suc (length bs)
-    go ih true q r = let z : _≡_ {A = ℕ} 0 1 = ap (λ (d : Bool). pick d 1 0) (sym r ∙ q) in omega arith
+    go ih true q r = absurd (true-not-false (sym q ∙ r))
     go ih false q r = omega (arith, ih r)
 
 calling-nil : (room calls : ℕ) (s : Station) → calling room calls s [] ≡ unserved s
@@ -135,24 +136,9 @@ unfolding calling
 calling-nil room zero s = refl
 calling-nil room (suc calls) s = refl
 
-and-left : (a b : Bool) → (a && b) ≡ true → a ≡ true
-and-left true b h = refl
-and-left false b h = h
-
-and-right : (a b : Bool) → (a && b) ≡ true → b ≡ true
-and-right true b h = h
-and-right false b h = let z : _≡_ {A = ℕ} 0 1 = ap (λ (d : Bool). pick d 1 0) h in absurd (never z)
-  where
-    never : _≡_ {A = ℕ} 0 1 → ⊥
-    never e = omega arith
-
-not-true : (a : Bool) → not a ≡ true → a ≡ false
-not-true true h = sym h
-not-true false h = refl
-
 open-store : (t : Store) → couldBeLeft t ≡ true → finished t ≡ false
 unfolding couldBeLeft
-open-store t h = not-true _ (and-right (zeros (drop (t .taken) (t .held))) (not (finished t)) h)
+open-store t h = not-true (finished t) (and-right (zeros (drop (t .taken) (t .held))) (not (finished t)) h)
 
 valid-settings : (s : Settings) (t : Store) → valid (box s t) ≡ true → inRange s ≡ true
 unfolding valid
@@ -164,7 +150,7 @@ valid-store s t h = and-right (inRange s) (couldBeLeft t) h
 
 valid-both : (s : Settings) (t : Store) → inRange s ≡ true → couldBeLeft t ≡ true → valid (box s t) ≡ true
 unfolding valid
-valid-both s t p q = rw p q
+valid-both s t p q = and-both (inRange s) (couldBeLeft t) p q
 
 feeding-answered : (s : Settings) (t : Store) (host : List ℕ) (room : ℕ) → valid (box s t) ≡ true
     → finished (taken t host .store) ≡ true → length (replyOf s (messageIn (taken t host .store))) ≤ room

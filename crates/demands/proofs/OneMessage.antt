@@ -1,0 +1,93 @@
+-- One whole message, fed to a box between messages in one call: it is taken to its end, and what is held of it is the
+-- message and then zeros.
+-- Assumes nothing.
+use Prim.Native.Nat.{ℕ, zero, suc, _+_, _-_, _≤_, _<_}
+use native.Mathlib.Nat.{le-refl, le-trans, not-suc-le-zero}
+use native.Mathlib.Decide.{decLe}
+use native.Mathlib.Numerals.{add-one}
+use native.Mathlib.Omega.{arith}
+use borrow.Author.Tests.{le-leb, lt-leb}
+use mathlib.Core.Path.{_≡_, refl, sym, ap, _∙_}
+use mathlib.Core.Bool.{Bool, true, false, _&&_}
+use mathlib.Core.List.{List, [], _∷_, _++_, append-assoc, append-nil}
+use lib.Dec.{leb}
+use lib.ListN.{length, set, take, replicate, length-append}
+use lib.Seq.{set-at, take-append-le, append-snoc}
+use Rattle.wire.specs.Choice.{pick}
+use Rattle.wire.specs.Number.{number, field}
+use Rattle.wire.specs.Header.{lengthIn, typeIn}
+use Rattle.framing.specs.declared.Store.{Store}
+use Rattle.framing.specs.Framing.{Taking, taking, taken, pushed, finished, announced, totalOf, between}
+
+-- what is held of a message's first bytes
+abbrev pub holding : List ℕ → Store
+holding p = record { held = p ++ replicate (64 - length p) 0; taken = length p }
+
+pushed-holding : (p : List ℕ) (b : ℕ) → length p < 64 → pushed (holding p) b ≡ holding (p ++ b ∷ [])
+pushed-holding p b h =
+    let room : 64 - length p ≡ suc (63 - length p) = omega arith in
+    let long : length (p ++ b ∷ []) ≡ length p + 1 = simp length-append in
+    let less : 64 - (length p + 1) ≡ 63 - length p = omega arith in
+    rw (room, set-at p 0 (replicate (63 - length p) 0) b (length p) refl, long, less)
+    (ap (λ (l : List ℕ). record { held = l; taken = length p + 1 }) (sym (append-snoc p b (replicate (63 - length p) 0))))
+
+-- the total that is announced stands in the first two bytes
+announced-by : (p q : List ℕ) → 2 ≤ length p → announced (p ++ q) ≡ announced p
+announced-by p q h = ap (λ (l : List ℕ). totalOf (typeIn (number l)) (lengthIn (number l))) (take-append-le 2 p q h)
+
+-- it is not finished while bytes are to come
+not-yet : (p q : List ℕ) → announced (p ++ q) ≡ length (p ++ q) → 1 ≤ length q → finished (holding p) ≡ false
+not-yet p q e more =
+    let long : length (p ++ q) ≡ length p + length q = length-append p q in
+    elim (decLe 2 (length p)) [
+      | yes two ↦
+          let a : announced (p ++ replicate (64 - length p) 0) ≡ length p + length q =
+          announced-by p (replicate (64 - length p) 0) two ∙ sym (announced-by p q two) ∙ e ∙ long in
+          rw (a, le-leb 2 (length p) two) (lt-leb (length p + length q) (length p) (omega arith))
+      | no one ↦ rw (lt-leb 2 (length p) (not-le one))
+    ]
+  where
+    not-le : (2 ≤ length p → ⊥) → length p < 2
+    not-le h = omega arith
+
+-- it is finished with its last byte
+now-done : (p : List ℕ) → announced p ≡ length p → 2 ≤ length p → finished (holding p) ≡ true
+now-done p e two =
+    rw (announced-by p (replicate (64 - length p) 0) two, e, le-leb 2 (length p) two, le-leb (length p) (length p) (le-refl (length p)))
+
+taking-on : (n : ℕ) (t : Store) (b : ℕ) (bs : List ℕ) → finished (pushed t b) ≡ false → taking n t (b ∷ bs) ≡ taking (n + 1) (pushed t b) bs
+unfolding taking
+taking-on n t b bs f = rw f
+
+taking-last : (n : ℕ) (t : Store) (b : ℕ) (bs : List ℕ) → finished (pushed t b) ≡ true
+    → taking n t (b ∷ bs) ≡ record { count = n + 1; store = pushed t b }
+unfolding taking
+taking-last n t b bs f = rw f
+
+-- the bytes to come are taken to the end
+taking-rest : (p : List ℕ) (b : ℕ) (q : List ℕ) → announced (p ++ b ∷ q) ≡ length (p ++ b ∷ q) → 2 ≤ length (p ++ b ∷ q) → length (p ++ b ∷ q) ≤ 64
+    → taking (length p) (holding p) (b ∷ q) ≡ record { count = length (p ++ b ∷ q); store = holding (p ++ b ∷ q) }
+unfolding taking
+taking-rest p b [] e two most =
+    let long : length (p ++ b ∷ []) ≡ length p + 1 = simp length-append in
+    taking-last (length p) (holding p) b [] (ap finished (pushed-holding p b (omega arith)) ∙ now-done (p ++ b ∷ []) e two)
+    ∙ ap (λ (t : Store). record { count = length p + 1; store = t }) (pushed-holding p b (omega arith))
+    ∙ ap (λ (n : ℕ). record { count = n; store = holding (p ++ b ∷ []) }) (sym long)
+taking-rest p b (c ∷ q) e two most =
+    let long : length (p ++ b ∷ c ∷ q) ≡ length p + suc (suc (length q)) = length-append p (b ∷ c ∷ q) in
+    let one : length (p ++ b ∷ []) ≡ length p + 1 = simp length-append in
+    let same : (p ++ b ∷ []) ++ (c ∷ q) ≡ p ++ b ∷ c ∷ q = append-snoc p b (c ∷ q) in
+    let ih : taking (length (p ++ b ∷ [])) (holding (p ++ b ∷ [])) (c ∷ q)
+    ≡ record { count = length ((p ++ b ∷ []) ++ c ∷ q); store = holding ((p ++ b ∷ []) ++ c ∷ q) } =
+    taking-rest (p ++ b ∷ []) c q (rw same e) (rw same two) (rw same most) in
+    taking-on (length p) (holding p) b (c ∷ q) (ap finished (pushed-holding p b (omega arith)) ∙ not-yet (p ++ b ∷ []) (c ∷ q) (rw same e) (omega arith))
+    ∙ ap (λ (t : Store). taking (length p + 1) t (c ∷ q)) (pushed-holding p b (omega arith))
+    ∙ ap (λ (n : ℕ). taking n (holding (p ++ b ∷ [])) (c ∷ q)) (sym one)
+    ∙ ih
+    ∙ ap (λ (l : List ℕ). record { count = length l; store = holding l }) same
+
+-- One whole message, in one call.
+pub one-message : (m : List ℕ) → announced m ≡ length m → 2 ≤ length m → length m ≤ 64
+    → taken between m ≡ record { count = length m; store = holding m }
+one-message [] e two most = absurd (not-suc-le-zero two)
+one-message (b ∷ q) e two most = taking-rest [] b q e two most
