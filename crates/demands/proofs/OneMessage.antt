@@ -17,7 +17,8 @@ use Rattle.wire.specs.Choice.{pick}
 use Rattle.wire.specs.Number.{number, field}
 use Rattle.wire.specs.Header.{lengthIn, typeIn}
 use Rattle.framing.specs.declared.Store.{Store}
-use Rattle.framing.specs.Framing.{Taking, taking, taken, pushed, finished, announced, totalOf, between}
+use Rattle.framing.specs.declared.Taking.{Taking}
+use Rattle.framing.specs.Framing.{taking, taken, pushed, finished, announced, totalOf, between}
 
 -- what is held of a message's first bytes
 abbrev pub holding : List ℕ → Store
@@ -55,39 +56,34 @@ now-done : (p : List ℕ) → announced p ≡ length p → 2 ≤ length p → fi
 now-done p e two =
     rw (announced-by p (replicate (64 - length p) 0) two, e, le-leb 2 (length p) two, le-leb (length p) (length p) (le-refl (length p)))
 
-taking-on : (n : ℕ) (t : Store) (b : ℕ) (bs : List ℕ) → finished (pushed t b) ≡ false → taking n t (b ∷ bs) ≡ taking (n + 1) (pushed t b) bs
+taking-on : (n : ℕ) (t : Store) (b : ℕ) (bs : List ℕ) → finished t ≡ false → taking n t (b ∷ bs) ≡ taking (n + 1) (pushed t b) bs
 unfolding taking
 taking-on n t b bs f = rw f
 
-taking-last : (n : ℕ) (t : Store) (b : ℕ) (bs : List ℕ) → finished (pushed t b) ≡ true
-    → taking n t (b ∷ bs) ≡ record { count = n + 1; store = pushed t b }
+-- a call that has taken a whole message
+abbrev pub tookAll : List ℕ → Taking
+tookAll m = record { store = holding m; count = length m; finished = true }
+
+all-taken : (m : List ℕ) → announced m ≡ length m → 2 ≤ length m → taking (length m) (holding m) [] ≡ tookAll m
 unfolding taking
-taking-last n t b bs f = rw f
+all-taken m e two = ap (λ (d : Bool). record { store = holding m; count = length m; finished = d }) (now-done m e two)
 
 -- the bytes to come are taken to the end
-taking-rest : (p : List ℕ) (b : ℕ) (q : List ℕ) → announced (p ++ b ∷ q) ≡ length (p ++ b ∷ q) → 2 ≤ length (p ++ b ∷ q) → length (p ++ b ∷ q) ≤ 64
-    → taking (length p) (holding p) (b ∷ q) ≡ record { count = length (p ++ b ∷ q); store = holding (p ++ b ∷ q) }
-unfolding taking
-taking-rest p b [] e two most =
-    let long : length (p ++ b ∷ []) ≡ length p + 1 = simp length-append in
-    taking-last (length p) (holding p) b [] (ap finished (pushed-holding p b (omega arith)) ∙ now-done (p ++ b ∷ []) e two)
-    ∙ ap (λ (t : Store). record { count = length p + 1; store = t }) (pushed-holding p b (omega arith))
-    ∙ ap (λ (n : ℕ). record { count = n; store = holding (p ++ b ∷ []) }) (sym long)
-taking-rest p b (c ∷ q) e two most =
-    let long : length (p ++ b ∷ c ∷ q) ≡ length p + suc (suc (length q)) = length-append p (b ∷ c ∷ q) in
+taking-rest : (p : List ℕ) (q : List ℕ) → announced (p ++ q) ≡ length (p ++ q) → 2 ≤ length (p ++ q) → length (p ++ q) ≤ 64
+    → taking (length p) (holding p) q ≡ tookAll (p ++ q)
+taking-rest p [] e two most = rw append-nil (all-taken p (rw append-nil at e) (rw append-nil at two))
+taking-rest p (b ∷ q) e two most =
+    let long : length (p ++ b ∷ q) ≡ length p + suc (length q) = length-append p (b ∷ q) in
     let one : length (p ++ b ∷ []) ≡ length p + 1 = simp length-append in
-    let same : (p ++ b ∷ []) ++ (c ∷ q) ≡ p ++ b ∷ c ∷ q = append-snoc p b (c ∷ q) in
-    let ih : taking (length (p ++ b ∷ [])) (holding (p ++ b ∷ [])) (c ∷ q)
-    ≡ record { count = length ((p ++ b ∷ []) ++ c ∷ q); store = holding ((p ++ b ∷ []) ++ c ∷ q) } =
-    taking-rest (p ++ b ∷ []) c q (rw same e) (rw same two) (rw same most) in
-    taking-on (length p) (holding p) b (c ∷ q) (ap finished (pushed-holding p b (omega arith)) ∙ not-yet (p ++ b ∷ []) (c ∷ q) (rw same e) (omega arith))
-    ∙ ap (λ (t : Store). taking (length p + 1) t (c ∷ q)) (pushed-holding p b (omega arith))
-    ∙ ap (λ (n : ℕ). taking n (holding (p ++ b ∷ [])) (c ∷ q)) (sym one)
-    ∙ ih
-    ∙ ap (λ (l : List ℕ). record { count = length l; store = holding l }) same
+    let same : (p ++ b ∷ []) ++ q ≡ p ++ b ∷ q = append-snoc p b q in
+    let rest : taking (length (p ++ b ∷ [])) (holding (p ++ b ∷ [])) q ≡ tookAll ((p ++ b ∷ []) ++ q) =
+    taking-rest (p ++ b ∷ []) q (rw same e) (rw same two) (rw same most) in
+    taking-on (length p) (holding p) b q (not-yet p (b ∷ q) e (omega arith))
+    ∙ ap (λ (t : Store). taking (length p + 1) t q) (pushed-holding p b (omega arith))
+    ∙ ap (λ (n : ℕ). taking n (holding (p ++ b ∷ [])) q) (sym one)
+    ∙ rest
+    ∙ ap tookAll same
 
 -- One whole message, in one call.
-pub one-message : (m : List ℕ) → announced m ≡ length m → 2 ≤ length m → length m ≤ 64
-    → taken between m ≡ record { count = length m; store = holding m }
-one-message [] e two most = absurd (not-suc-le-zero two)
-one-message (b ∷ q) e two most = taking-rest [] b q e two most
+pub one-message : (m : List ℕ) → announced m ≡ length m → 2 ≤ length m → length m ≤ 64 → taken between m ≡ tookAll m
+one-message m e two most = taking-rest [] m e two most

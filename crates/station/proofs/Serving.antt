@@ -13,7 +13,9 @@ use lib.ListN.{length, drop, length-drop, drop-of-length-le}
 use lib.Dec.{eqb}
 use lib.Seq.{drop-set-lt}
 use Rattle.wire.specs.Choice.{pick}
-use Rattle.framing.specs.Framing.{Taking, taking, taken, pushed, finished, between, couldBeLeft, zeros}
+use Rattle.framing.specs.declared.Taking.{Taking}
+use Rattle.framing.proofs.Runs.{stops}
+use Rattle.framing.specs.Framing.{stopped, taking, taken, pushed, finished, between, couldBeLeft, zeros}
 use Rattle.framing.specs.declared.Store.{Store}
 use Rattle.items.specs.declared.Settings.{Settings}
 use Rattle.items.specs.Settings.{inRange}
@@ -73,12 +75,20 @@ eaten-append s t (b ∷ bs) c = go (finished (pushed t b)) (eaten-append _ betwe
 taking-from : (n : ℕ) (t : Store) (host : List ℕ) → n ≤ taking n t host .count
 unfolding taking
 taking-from n t [] = le-refl n
-taking-from n t (b ∷ bs) = go (finished (pushed t b)) (taking-from (n + 1) (pushed t b) bs)
+taking-from n t (b ∷ bs) = go (finished t) (taking-from (n + 1) (pushed t b) bs)
   where
-    go : (d : Bool) → n + 1 ≤ taking (n + 1) (pushed t b) bs .count
-        → n ≤ pick d (record { count = n + 1; store = pushed t b }) (taking (n + 1) (pushed t b) bs) .count
-    go true h = omega arith
+    go : (d : Bool) → n + 1 ≤ taking (n + 1) (pushed t b) bs .count → n ≤ pick d (stopped n t) (taking (n + 1) (pushed t b) bs) .count
+    go true h = le-refl n
     go false h = omega arith
+
+taking-none : (n : ℕ) (t : Store) → taking n t [] ≡ stopped n t
+unfolding taking
+taking-none n t = refl
+
+-- one byte more of a message that is not finished
+taking-on : (n : ℕ) (t : Store) (b : ℕ) (bs : List ℕ) → finished t ≡ false → taking n t (b ∷ bs) ≡ taking (n + 1) (pushed t b) bs
+unfolding taking
+taking-on n t b bs f = rw f
 
 -- what is eaten of a message that the call's bytes finish, and of one that they do not
 abbrev after : Settings → Taking → List ℕ → Served
@@ -89,45 +99,40 @@ after s t rest =
 
 eaten-taking : (n : ℕ) (s : Settings) (t : Store) (host : List ℕ) → finished t ≡ false
     → eaten s t host ≡ after s (taking n t host) (drop (taking n t host .count - n) host)
-unfolding taking eaten
-eaten-taking n s t [] h = rw h
-eaten-taking n s t (b ∷ bs) h = go (λ q. eaten-taking (n + 1) s (pushed t b) bs q) (finished (pushed t b)) refl
+unfolding eaten
+eaten-taking n s t [] h = rw (taking-none n t, h)
+eaten-taking n s t (b ∷ bs) h =
+    go (λ q. eaten-taking (n + 1) s (pushed t b) bs q) (finished (pushed t b)) refl (taking n t (b ∷ bs)) (taking-on n t b bs h)
   where
     go : (finished (pushed t b) ≡ false
         → eaten s (pushed t b) bs
         ≡ after s (taking (n + 1) (pushed t b) bs) (drop (taking (n + 1) (pushed t b) bs .count - (n + 1)) bs))
         → (d : Bool) → finished (pushed t b) ≡ d
+        → (k : Taking) → k ≡ taking (n + 1) (pushed t b) bs
         → pick d (noted (replyOf s (messageIn (pushed t b))) (eaten (settingsAfter s (messageIn (pushed t b))) between bs))
         (eaten s (pushed t b) bs)
-        ≡ after s (pick d (record { count = n + 1; store = pushed t b }) (taking (n + 1) (pushed t b) bs))
-        (drop (pick d (record { count = n + 1; store = pushed t b }) (taking (n + 1) (pushed t b) bs) .count - n) (b ∷ bs))
-    go ih true q =
+        ≡ after s k (drop (k .count - n) (b ∷ bs))
+    go ih true q k e =
         let one : n + 1 - n ≡ 1 = omega arith in
-        rw (one, q)
-    go ih false q =
+        rw (e ∙ stops (n + 1) (pushed t b) bs q, one, q)
+    go ih false q k e =
         let from : n + 1 ≤ taking (n + 1) (pushed t b) bs .count = taking-from (n + 1) (pushed t b) bs in
-        let e : taking (n + 1) (pushed t b) bs .count - n ≡ suc (taking (n + 1) (pushed t b) bs .count - (n + 1)) = omega arith in
-        rw e (ih q)
+        let more : taking (n + 1) (pushed t b) bs .count - n ≡ suc (taking (n + 1) (pushed t b) bs .count - (n + 1)) = omega arith in
+        rw (e, more) (ih q)
 
-taking-one : (n : ℕ) (t : Store) (b : ℕ) (bs : List ℕ) → n + 1 ≤ taking n t (b ∷ bs) .count
-unfolding taking
-taking-one n t b bs = go (finished (pushed t b)) (taking-from (n + 1) (pushed t b) bs)
-  where
-    go : (d : Bool) → n + 1 ≤ taking (n + 1) (pushed t b) bs .count
-        → n + 1 ≤ pick d (record { count = n + 1; store = pushed t b }) (taking (n + 1) (pushed t b) bs) .count
-    go true h = le-refl (n + 1)
-    go false h = h
+taking-one : (n : ℕ) (t : Store) (b : ℕ) (bs : List ℕ) → finished t ≡ false → n + 1 ≤ taking n t (b ∷ bs) .count
+taking-one n t b bs f = rw (taking-on n t b bs f) (taking-from (n + 1) (pushed t b) bs)
 
 -- a call that does not finish a message has taken all its bytes
 taking-all : (n : ℕ) (t : Store) (host : List ℕ) → finished (taking n t host .store) ≡ false → taking n t host .count ≡ n + length host
 unfolding taking
 taking-all n t [] h = omega arith
-taking-all n t (b ∷ bs) h = go (λ q. taking-all (n + 1) (pushed t b) bs q) (finished (pushed t b)) refl h
+taking-all n t (b ∷ bs) h = go (λ q. taking-all (n + 1) (pushed t b) bs q) (finished t) refl h
   where
     go : (finished (taking (n + 1) (pushed t b) bs .store) ≡ false → taking (n + 1) (pushed t b) bs .count ≡ n + 1 + length bs)
-        → (d : Bool) → finished (pushed t b) ≡ d
-        → finished (pick d (record { count = n + 1; store = pushed t b }) (taking (n + 1) (pushed t b) bs) .store) ≡ false
-        → pick d (record { count = n + 1; store = pushed t b }) (taking (n + 1) (pushed t b) bs) .count ≡ n + suc (length bs)
+        → (d : Bool) → finished t ≡ d
+        → finished (pick d (stopped n t) (taking (n + 1) (pushed t b) bs) .store) ≡ false
+        → pick d (stopped n t) (taking (n + 1) (pushed t b) bs) .count ≡ n + suc (length bs)
     go ih true q r = absurd (true-not-false (sym q ∙ r))
     go ih false q r = omega (arith, ih r)
 
@@ -193,17 +198,17 @@ pushed-left t b h f =
 
 taking-left : (n : ℕ) (t : Store) (host : List ℕ) → couldBeLeft t ≡ true → finished (taking n t host .store) ≡ false
     → couldBeLeft (taking n t host .store) ≡ true
-unfolding taking
-taking-left n t [] h f = h
-taking-left n t (b ∷ bs) h f = go (λ q r. taking-left (n + 1) (pushed t b) bs q r) (finished (pushed t b)) refl f
+taking-left n t [] h f = rw (taking-none n t) h
+taking-left n t (b ∷ bs) h f =
+    go (λ q r. taking-left (n + 1) (pushed t b) bs q r) (taking n t (b ∷ bs)) (taking-on n t b bs (open-store t h)) f (finished (pushed t b)) refl
   where
     go : (couldBeLeft (pushed t b) ≡ true → finished (taking (n + 1) (pushed t b) bs .store) ≡ false
         → couldBeLeft (taking (n + 1) (pushed t b) bs .store) ≡ true)
-        → (d : Bool) → finished (pushed t b) ≡ d
-        → finished (pick d (record { count = n + 1; store = pushed t b }) (taking (n + 1) (pushed t b) bs) .store) ≡ false
-        → couldBeLeft (pick d (record { count = n + 1; store = pushed t b }) (taking (n + 1) (pushed t b) bs) .store) ≡ true
-    go ih true q r = pushed-left t b h r
-    go ih false q r = ih (pushed-left t b h q) r
+        → (k : Taking) → k ≡ taking (n + 1) (pushed t b) bs → finished (k .store) ≡ false
+        → (d : Bool) → finished (pushed t b) ≡ d → couldBeLeft (k .store) ≡ true
+    go ih k e r true q =
+        absurd (true-not-false (sym q ∙ ap (λ (j : Taking). finished (j .store)) (sym (e ∙ stops (n + 1) (pushed t b) bs q)) ∙ r))
+    go ih k e r false q = rw e (ih (pushed-left t b h q) (rw e at r))
 
 module _
     (keeps : (s : Settings) (m : Message) → inRange s ≡ true → inRange (settingsAfter s m) ≡ true)
@@ -231,7 +236,7 @@ module _
           (ih (messageIn (taken t (b ∷ bs) .store)) (drop (taken t (b ∷ bs) .count) (b ∷ bs))
           (valid-both _ between (keeps s (messageIn (taken t (b ∷ bs) .store)) (valid-settings s t v)) between-left)
           (ap length (serial-kept s (messageIn (taken t (b ∷ bs) .store))) ∙ l)
-          (simp length-drop (omega (arith, taking-one 0 t b bs))))
+          (simp length-drop (omega (arith, taking-one 0 t b bs (open-store t (valid-store s t v))))))
           ∙ sym (after-finished s (taken t (b ∷ bs)) (b ∷ bs) f)
           ∙ sym (eaten-taking 0 s t (b ∷ bs) (open-store t (valid-store s t v))))
       go ih false f =

@@ -6,7 +6,8 @@ use lib.Dec.{ltb}
 use lib.ListN.{length}
 use Rattle.wire.specs.Choice.{pick}
 use Rattle.wire.specs.Header.{lengthIn, typeIn}
-use Rattle.framing.specs.Framing.{Taking, taken, finished, headerIn, between}
+use Rattle.framing.specs.declared.Taking.{Taking}
+use Rattle.framing.specs.Framing.{taken, finished, headerIn, between}
 use Rattle.framing.specs.declared.Store.{Store}
 use Rattle.items.specs.declared.Settings.{Settings}
 use Rattle.items.specs.Answer.{Message, codeOf, replyOf, settingsAfter}
