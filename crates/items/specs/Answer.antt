@@ -9,7 +9,9 @@ use Rattle.wire.specs.Number.{bytes, field}
 use Rattle.wire.specs.Header.{headerOf, nak, typeSet, typeRequest, typeRange, typeAcknowledgement, typeData, typeReply, typeRangeReply}
 use Rattle.tuning.specs.Bands.{bands, rangeBytes}
 use Rattle.items.specs.declared.Settings.{Settings}
-use Rattle.items.specs.Items.{Offer, total, dash, Channels, noChannel, anyChannel, zeroAndAll, Item, listed, rowOf}
+use Rattle.items.specs.Items.{Channels, noChannel, anyChannel, zeroAndAll, Item, rowOf}
+use Rattle.items.specs.Header.{headerChecks}
+use Rattle.items.specs.Table.{tableChecks}
 
 -- A finished message: its type, its length as the header has it, and its first 64 bytes.
 pub record Message : Type 0 where
@@ -26,40 +28,6 @@ row m = rowOf (itemIn m)
 
 abbrev pub parameters : Message → List ℕ
 parameters m = drop 4 (m .held)
-
--- "acknowledgements of length 3 naming item 0 to 3"
-abbrev pub acknowledges : Message → Bool
-acknowledges m = eqb (m .type) typeAcknowledgement && eqb (m .size) 3 && leb (getD (m .held) 2 0) 3
-
--- "Unanswered messages (code 2): 02 00; acknowledgements of length 3 naming item 0 to 3; data items of every length but 1."
-abbrev pub unanswered : Message → Bool
-unanswered m =
-    (eqb (m .type) typeSet && eqb (m .size) 2) || acknowledges m || (leb typeData (m .type) && not (eqb (m .size) 1))
-
--- "bad header: length 1; length 0 in types 0 to 3; length 2 in types 1 to 3; length 3 in types 0 to 2; type 3 otherwise not as above"
-abbrev pub badHeader : Message → Bool
-badHeader m =
-    eqb (m .size) 1
-    || (eqb (m .size) 0 && leb (m .type) 3)
-    || (eqb (m .size) 2 && leb 1 (m .type) && leb (m .type) 3)
-    || (eqb (m .size) 3 && leb (m .type) 2)
-    || (eqb (m .type) typeAcknowledgement && not (acknowledges m))
-
--- "types 0 to 2, length over 64"
-abbrev pub tooLong : Message → Bool
-tooLong m = leb (m .type) 2 && ltb 64 (m .size)
-
--- what the table has for a kind: 0 set, 1 request, 2 range
-abbrev pub offered : Item → ℕ → Offer
-offered i kind = pick (eqb kind typeSet) (i .set) (pick (eqb kind typeRequest) (i .request) (i .range))
-
-abbrev pub isDash : Offer → Bool
-isDash (total n) = false
-isDash dash = true
-
-abbrev pub isTotal : Offer → ℕ → Bool
-isTotal (total n) size = eqb size n
-isTotal dash size = false
 
 -- "Channel for 0020 and 0038: 00, and on set also FF."
 abbrev pub channelAllowed : Channels → ℕ → ℕ → Bool
@@ -83,16 +51,12 @@ itemChecks i kind s p =
     ∷ check 17 (refusedRunning i kind s p)
     ∷ []
 
--- "Codes 10 to 17 stand in order of checking (11 first)"; 2 is for the unanswered, of which none has a bad header.
+-- "Codes 10 to 17 stand in order of checking (11 first)".
 abbrev pub checks : Settings → Message → List Check
 checks s m =
-    check 2 (unanswered m)
-    ∷ check 11 (badHeader m)
-    ∷ check 10 (tooLong m)
-    ∷ check 12 (not (listed (itemIn m)))
-    ∷ check 14 (isDash (offered (row m) (m .type)))
-    ∷ check 13 (not (isTotal (offered (row m) (m .type)) (m .size)))
-    ∷ itemChecks (row m) (m .type) s (parameters m)
+    headerChecks (m .type) (m .size) (getD (m .held) 2 0)
+    ++ tableChecks (itemIn m) (m .type) (m .size)
+    ++ itemChecks (row m) (m .type) s (parameters m)
 
 -- the message's code: 1 where nothing speaks against it
 unfoldable pub codeOf : Settings → Message → ℕ

@@ -297,7 +297,7 @@ abbrev pub listedIn : List Item → ℕ → Bool
 listedIn [] code = false
 listedIn (i ∷ is) code = eqb code (i .code) || listedIn is code
 
-abbrev pub listed : ℕ → Bool
+unfoldable pub listed : ℕ → Bool
 listed code = listedIn items code
 
 -- no item: every kind is a dash
@@ -322,5 +322,5 @@ abbrev pub rowIn : List Item → ℕ → Item
 rowIn [] code = noItem
 rowIn (i ∷ is) code = pick (eqb code (i .code)) i (rowIn is code)
 
-abbrev pub rowOf : ℕ → Item
+unfoldable pub rowOf : ℕ → Item
 rowOf code = rowIn items code

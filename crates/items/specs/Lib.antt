@@ -1,3 +1,5 @@
 pub mod Settings
+pub mod Header
 pub mod Items
+pub mod Table
 pub mod Answer

@@ -1,0 +1,62 @@
+-- The lines of the table of items: what is no line's code or kind is refused, and the enum's cases stay apart.
+use Prim.Native.Nat.{ℕ}
+use mathlib.Core.Path.{_≡_, refl, ap, subst}
+use mathlib.Core.Bool.{Bool, true, false, not}
+use lib.Dec.{eqb, T, T-not, eqb-refl}
+use borrow.Author.Tests.{ne-eqb}
+use Rattle.wire.specs.Choice.{pick, firstOf}
+use Rattle.items.specs.declared.Expected.{Expected}
+use Rattle.items.specs.declared.Expected.the-variants.{Total, Unlisted, NotOffered}
+use Rattle.items.specs.Items.{Offer, total, dash, listed, rowOf}
+use Rattle.items.specs.Table.{Told, told, tell, tableSays, tableChecks, offered, offerFor, isDash, isTotal}
+
+-- a test that does not matter
+pub pick-same : {X : Type 0} (b : Bool) (x : X) → pick b x x ≡ x
+pick-same true x = refl
+pick-same false x = refl
+
+-- a line that has no set and no range
+pub asked-else : (kind request : ℕ) → (kind ≡ 1 → ⊥) → told dash ≡ told (offerFor dash (total request) dash kind)
+asked-else kind request h = simp (ne-eqb kind 1 h, pick-same)
+
+-- a line that has no range
+pub set-or-asked-else : (kind set request : ℕ) → (kind ≡ 0 → ⊥) → (kind ≡ 1 → ⊥)
+    → told dash ≡ told (offerFor (total set) (total request) dash kind)
+set-or-asked-else kind set request h0 h1 = simp (ne-eqb kind 0 h0, ne-eqb kind 1 h1, pick-same)
+
+-- the one line that has a range
+pub else : (kind : ℕ) (set request range : Offer) → (kind ≡ 0 → ⊥) → (kind ≡ 1 → ⊥) → (kind ≡ 2 → ⊥) → told dash ≡ told (offerFor set request range kind)
+else kind set request range h0 h1 h2 = simp (ne-eqb kind 0 h0, ne-eqb kind 1 h1, ne-eqb kind 2 h2)
+
+-- "12, 14, 13" in their order, from what the table says
+abbrev pub codeBy : Told → ℕ → ℕ
+codeBy t size = pick (eqb (t .code) 1) (pick (eqb size (t .length)) 1 13) (t .code)
+
+pub code-by : (item kind size : ℕ) → codeBy (tableSays item kind) size ≡ firstOf (tableChecks item kind size) 1
+code-by item kind size = go (listed item) (offered (rowOf item) kind)
+  where
+    by : (b : Bool) → pick {X = ℕ} b 1 13 ≡ pick (not b) 13 1
+    by true = refl
+    by false = refl
+
+    go : (l : Bool) (o : Offer)
+        → codeBy (pick l (told o) (record { code = 12; length = 0 })) size ≡ pick (not l) 12 (pick (isDash o) 14 (pick (not (isTotal o size)) 13 1))
+    go false o = refl
+    go true (total n) = by (eqb size n)
+    go true dash = refl
+
+-- codes apart
+apart : {t u : Told} → t ≡ u → T (not (eqb (t .code) (u .code))) → ⊥
+apart {t} {u} h w = T-not (eqb (t .code) (u .code)) w (subst (λ (v : Told). T (eqb (t .code) (v .code))) h (eqb-refl (t .code)))
+
+-- two cases of the enum that tell the same are the same
+pub tell-one : (e f : Expected) → tell e ≡ tell f → e ≡ f
+tell-one (Total n) (Total m) h = ap Total (ap (λ (t : Told). t .length) h)
+tell-one Unlisted Unlisted h = refl
+tell-one NotOffered NotOffered h = refl
+tell-one (Total n) Unlisted h = absurd (apart h tt)
+tell-one (Total n) NotOffered h = absurd (apart h tt)
+tell-one Unlisted (Total m) h = absurd (apart h tt)
+tell-one Unlisted NotOffered h = absurd (apart h tt)
+tell-one NotOffered (Total m) h = absurd (apart h tt)
+tell-one NotOffered Unlisted h = absurd (apart h tt)

@@ -1,0 +1,55 @@
+-- What the enum tells is what the table says, and that gives the code.
+use borrow.Author.Needs.{needs}
+use mathlib.Core.Path.{_≡_, sym, _∙_, ap}
+use Prim.Native.Nat.{ℕ}
+use borrow.Author.Tests.{eq-eqb, ne-eqb}
+use Rattle.wire.specs.Choice.{firstOf}
+use Rattle.items.specs.Table.{Told, tell, tableChecks}
+use Rattle.items.proofs.Lines.{codeBy, code-by}
+use Rattle.items.proofs.table.listed_code.Statement.{statement}
+use Rattle.items.proofs.table.listed_code.Tie as tie
+
+expected-requires : tie.Need-expected-requires
+expected-requires c κs = search needs
+
+enum-told : tie.Need-enum-told
+enum-told c = search needs
+
+enum-told-2 : tie.Need-enum-told-2
+enum-told-2 c = search needs
+
+enum-known-length : tie.Need-enum-known-length
+enum-known-length c = search needs
+
+-- the code by what the table said
+said : (c : tie.After-expected) → codeBy (tell (c .expected .result)) (c .before .args .size) ≡ firstOf (tableChecks (c .before .args .item) (c .before .args .kind) (c .before .args .size)) 1
+said c = ap (λ (t : Told). codeBy t (c .before .args .size)) (c .expected .ensures) ∙ code-by (c .before .args .item) (c .before .args .kind) (c .before .args .size)
+
+returns : tie.Need-returns
+returns c =
+    let known = c .before .before .length .given in
+    simp (eq-eqb (c .before .before .before .before .before .args .size) (known .0 .0) (c .if1 .taken)) at (rw (known .1) at (said (c .before .before .before .before)))
+
+returns-2 : tie.Need-returns-2
+returns-2 c = rw (c .enum-told .given .1) at (said (c .before .before))
+
+returns-3 : tie.Need-returns-3
+returns-3 c = rw (c .enum-told2 .given .1) at (said (c .before .before))
+
+returns-4 : tie.Need-returns-4
+returns-4 c =
+    let known = c .before .before .length .given in
+    simp (ne-eqb (c .before .before .before .before .before .args .size) (known .0 .0) (c .if1 .left)) at (rw (known .1) at (said (c .before .before .before .before)))
+
+pub listed-code-spec : {M : Type 1} → statement M
+listed-code-spec =
+    tie.close
+    (tie.spec
+    expected-requires
+    enum-told
+    enum-told-2
+    enum-known-length
+    returns
+    returns-2
+    returns-3
+    returns-4)
