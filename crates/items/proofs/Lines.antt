@@ -5,15 +5,11 @@ use mathlib.Core.Bool.{Bool, true, false, not}
 use lib.Dec.{eqb, T, T-not, eqb-refl}
 use borrow.Author.Tests.{ne-eqb}
 use Rattle.wire.specs.Choice.{pick, firstOf}
+use Rattle.wire.proofs.Laws.{pick-same}
 use Rattle.items.specs.declared.Expected.{Expected}
 use Rattle.items.specs.declared.Expected.the-variants.{Total, Unlisted, NotOffered}
 use Rattle.items.specs.Items.{Offer, total, dash, listed, rowOf}
 use Rattle.items.specs.Table.{Told, told, tell, tableSays, tableChecks, offered, offerFor, isDash, isTotal}
-
--- a test that does not matter
-pub pick-same : {X : Type 0} (b : Bool) (x : X) → pick b x x ≡ x
-pick-same true x = refl
-pick-same false x = refl
 
 -- a line that has no set and no range
 pub asked-else : (kind request : ℕ) → (kind ≡ 1 → ⊥) → told dash ≡ told (offerFor dash (total request) dash kind)
