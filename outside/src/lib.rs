@@ -1,0 +1,26 @@
+//! Document 01 in plain safe Rust: the box, the harvester and the span text.
+//!
+//! Written from the document alone, without a look at the proved crates' rules, so that a difference between the two
+//! says that one of them misread it. It is also the peer that the benchmarks time: iterators over exact chunks, state
+//! behind `&mut self`, nothing copied that can be borrowed.
+
+pub mod code;
+pub mod head;
+pub mod item;
+pub mod message;
+pub mod packet;
+pub mod rate;
+pub mod reader;
+pub mod reply;
+pub mod span;
+pub mod station;
+pub mod tuning;
+pub mod wish;
+
+pub use code::Code;
+pub use head::Head;
+pub use packet::Form;
+pub use reader::Reader;
+pub use reply::Reply;
+pub use station::Station;
+pub use wish::Wish;

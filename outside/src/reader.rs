@@ -1,0 +1,83 @@
+//! The packet reader: positions, and unpacking.
+
+use crate::code::Code;
+use crate::packet::{number_at, Form};
+
+pub const LAST_POSITION: u64 = 3_999_999_999;
+
+/// What a reader has heard of the capture so far; before the first packet all is zero.
+#[derive(Clone, Copy, Debug, PartialEq, Eq)]
+pub struct Reader {
+    pub heard: bool,
+    pub position: u64,
+    pub form: Form,
+}
+
+/// Where a packet stands in its capture.
+#[derive(Clone, Copy, Debug, PartialEq, Eq)]
+pub struct Place {
+    pub position: u64,
+    /// the position of its first sample
+    pub sample: u64,
+}
+
+impl Default for Reader {
+    fn default() -> Self {
+        Reader { heard: false, position: 0, form: Form { bits: 0, pairs: 0 } }
+    }
+}
+
+impl Reader {
+    pub fn is_sound(&self) -> bool {
+        if self.heard {
+            self.position <= LAST_POSITION && self.form.is_listed()
+        } else {
+            *self == Reader::default()
+        }
+    }
+
+    pub fn read(&mut self, packet: &[u8]) -> Result<Place, Code> {
+        if !self.is_sound() {
+            return Err(Code::Broken);
+        }
+        let form = Form::of_packet(packet).ok_or(Code::NotAPacket)?;
+        let number = u16::from_le_bytes([packet[2], packet[3]]);
+        let position = if number == 0 { 0 } else { self.next(form, number)? };
+        *self = Reader { heard: true, position, form };
+        Ok(Place { position, sample: position * form.pairs })
+    }
+
+    /// The position of a packet numbered above 0 within the capture.
+    fn next(&self, form: Form, number: u16) -> Result<u64, Code> {
+        if !self.heard {
+            return Err(Code::NoStart);
+        }
+        if form != self.form {
+            return Err(Code::FormChanged);
+        }
+        let last = number_at(self.position);
+        let turn = if number > last { 0 } else { 65_535 };
+        let position = self.position + turn + u64::from(number) - u64::from(last);
+        if position > LAST_POSITION {
+            return Err(Code::PastEnd);
+        }
+        Ok(position)
+    }
+}
+
+/// Writes a packet's I and Q in turn as signed numbers of the width sent; answers how many.
+pub fn unpack(packet: &[u8], numbers: &mut [i32]) -> Result<usize, Code> {
+    let form = Form::of_packet(packet).ok_or(Code::NotAPacket)?;
+    let numbers = numbers.get_mut(..form.samples()).ok_or(Code::ShortBuffer)?;
+    let body = &packet[4..];
+    if form.bits == 24 {
+        for (number, b) in numbers.iter_mut().zip(body.chunks_exact(3)) {
+            *number = i32::from_le_bytes([0, b[0], b[1], b[2]]) >> 8;
+        }
+    } else {
+        for (number, b) in numbers.iter_mut().zip(body.chunks_exact(2)) {
+            *number = i16::from_le_bytes([b[0], b[1]]).into();
+        }
+    }
+    Ok(numbers.len())
+}

@@ -1,0 +1,113 @@
+//! The reply reader: which bytes some valid box could have answered to a wish.
+
+use crate::code::Code;
+use crate::item::{self, Item};
+use crate::message::{Header, Kind, NAK};
+use crate::wish::{StateWish, Wish};
+use crate::{rate, tuning};
+
+/// What a reply says.
+#[derive(Clone, Copy, Debug, PartialEq, Eq)]
+pub enum Reply {
+    Nak,
+    Name,
+    Serial([u8; 8]),
+    Interface(u16),
+    Version([u8; 2]),
+    Status { running: bool },
+    State { running: bool, mode: u8 },
+    Frequency(u64),
+    Gain(i8),
+    Clock(u32),
+    Rate(u32),
+    PacketSize(u8),
+    FrequencyRange,
+}
+
+/// Reads the bytes that came for a wish: 16 where the writer would refuse it, 28 where no valid box answers so.
+pub fn read(wish: Wish, bytes: &[u8]) -> Result<Reply, Code> {
+    if !wish.is_allowed() {
+        return Err(Code::BadValue);
+    }
+    if bytes == NAK {
+        return Ok(Reply::Nak);
+    }
+    body_of(wish, bytes).and_then(|body| value(wish, body)).ok_or(Code::NotAReply)
+}
+
+/// What follows header and item code, where these are those of a reply to the wish.
+fn body_of(wish: Wish, bytes: &[u8]) -> Option<&[u8]> {
+    let (kind, length) = match wish.kind() {
+        Kind::Range => (2, 36),
+        _ => (0, wish.item().reply_length()),
+    };
+    let body = bytes
+        .strip_prefix(&Header { kind, length: length as u16 }.bytes())?
+        .strip_prefix(&(wish.item() as u16).to_le_bytes())?;
+    (bytes.len() == length).then_some(body)
+}
+
+fn value(wish: Wish, body: &[u8]) -> Option<Reply> {
+    if wish.kind() == Kind::Range {
+        return (body == RANGES).then_some(Reply::FrequencyRange);
+    }
+    let reply = any_value(wish, body)?;
+    let as_set = match (wish, reply) {
+        (Wish::SetState(StateWish { run: item::RUN_IDLE, .. }), Reply::State { running, .. }) => !running,
+        (Wish::SetState(wished), Reply::State { running, mode }) => running && mode == wished.mode,
+        (Wish::SetFrequency(wished), Reply::Frequency(frequency)) => frequency == wished,
+        (Wish::SetGain(wished), Reply::Gain(gain)) => gain == wished,
+        (Wish::SetClock(wished), Reply::Clock(clock)) => clock == wished,
+        (Wish::SetRate(wished), Reply::Rate(rate)) => rate == rate::achieved(rate::nearest(wished)),
+        (Wish::SetPacketSize(wished), Reply::PacketSize(size)) => size == wished,
+        _ => wish.kind() == Kind::Request,
+    };
+    as_set.then_some(reply)
+}
+
+/// The value in a reply's body, of any valid box, with channel byte 00 or the id asked for.
+fn any_value(wish: Wish, body: &[u8]) -> Option<Reply> {
+    match (wish.item(), body) {
+        (Item::Name, body) => (body == item::NAME).then_some(Reply::Name),
+        (Item::Serial, [serial @ .., 0]) if item::serial_allowed(serial) => {
+            Some(Reply::Serial(serial.try_into().ok()?))
+        }
+        (Item::Interface, &[low, high]) => match u16::from_le_bytes([low, high]) {
+            item::INTERFACE => Some(Reply::Interface(item::INTERFACE)),
+            _ => None,
+        },
+        (Item::Versions, &[id, a, b]) => {
+            let asked = wish == Wish::Version(id) && item::version(id) == Some([a, b]);
+            asked.then_some(Reply::Version([a, b]))
+        }
+        (Item::Status, &[item::STATUS_IDLE]) => Some(Reply::Status { running: false }),
+        (Item::Status, &[item::STATUS_RUNNING]) => Some(Reply::Status { running: true }),
+        (Item::State, &[item::COMPLEX, run, mode, 0]) if item::mode_allowed(mode) => match run {
+            item::RUN_IDLE => Some(Reply::State { running: false, mode }),
+            item::RUN_START => Some(Reply::State { running: true, mode }),
+            _ => None,
+        },
+        (Item::Frequency, &[0, a, b, c, d, e]) => {
+            let frequency = tuning::frequency_from([a, b, c, d, e]);
+            tuning::frequency_allowed(frequency).then_some(Reply::Frequency(frequency))
+        }
+        (Item::Gain, &[0, gain]) => item::gain_allowed(gain as i8).then_some(Reply::Gain(gain as i8)),
+        (Item::Clock, &[0, a, b, c, d]) => {
+            let clock = u32::from_le_bytes([a, b, c, d]);
+            item::clock_allowed(clock).then_some(Reply::Clock(clock))
+        }
+        (Item::Rate, &[0, a, b, c, d]) => {
+            let rate = u32::from_le_bytes([a, b, c, d]);
+            rate::divisor_of(rate).map(|_| Reply::Rate(rate))
+        }
+        (Item::PacketSize, &[size]) => item::size_allowed(size).then_some(Reply::PacketSize(size)),
+        _ => None,
+    }
+}
+
+/// The body of the range reply for channel 00, as source document 003 prints it.
+const RANGES: [u8; 32] = [
+    0x00, 0x02, //
+    0xA0, 0x86, 0x01, 0x00, 0x00, 0x80, 0xCC, 0x06, 0x02, 0x00, 0x00, 0x00, 0x00, 0x00, 0x00, //
+    0x00, 0x3B, 0x58, 0x08, 0x00, 0x80, 0xD1, 0xF0, 0x08, 0x00, 0x00, 0x68, 0x89, 0x09, 0x00,
+];

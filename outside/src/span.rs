@@ -1,0 +1,87 @@
+//! The lines of the span program, for an input that is there as a whole.
+
+use std::fmt::Write;
+
+use crate::code::Code;
+use crate::head::{self, Head};
+use crate::packet::Form;
+use crate::reader::{Place, Reader};
+
+/// A capture that has begun.
+struct Capture {
+    packets: u64,
+    last: u64,
+}
+
+pub fn text(input: &[u8]) -> String {
+    let mut out = String::from("SPAN 1\n");
+    let head = match Head::read(input) {
+        Ok(head) => head,
+        Err(code) => {
+            refuse(&mut out, code, 0);
+            return out;
+        }
+    };
+    let mut captures = 0;
+    let mut open: Option<Capture> = None;
+    let mut reader = Reader::default();
+    let mut rest = &input[head::LENGTH..];
+    while !rest.is_empty() {
+        match next_packet(&head, &mut reader, rest) {
+            Ok(place) if place.position == 0 => {
+                if let Some(capture) = open.take() {
+                    line(&mut out, &head, captures, &capture);
+                }
+                captures += 1;
+                open = Some(Capture { packets: 1, last: 0 });
+            }
+            Ok(place) => {
+                if let Some(capture) = &mut open {
+                    capture.packets += 1;
+                    capture.last = place.position;
+                }
+            }
+            Err(code) => {
+                if let Some(capture) = &open {
+                    line(&mut out, &head, captures, capture);
+                }
+                refuse(&mut out, code, input.len() - rest.len());
+                return out;
+            }
+        }
+        rest = &rest[head.form().total()..];
+    }
+    if let Some(capture) = &open {
+        line(&mut out, &head, captures, capture);
+    }
+    let _ = writeln!(out, "E {captures}");
+    out
+}
+
+fn next_packet(head: &Head, reader: &mut Reader, rest: &[u8]) -> Result<Place, Code> {
+    let &[low, high, ..] = rest else { return Err(Code::NotAPacket) };
+    let form = Form::of_header([low, high]).ok_or(Code::NotAPacket)?;
+    let packet = rest.get(..form.total()).ok_or(Code::NotAPacket)?;
+    if form != head.form() {
+        return Err(Code::FormChanged);
+    }
+    reader.read(packet)
+}
+
+fn line(out: &mut String, head: &Head, number: u64, capture: &Capture) {
+    let form = head.form();
+    let positions = capture.last + 1;
+    let samples = positions * form.pairs;
+    let _ = writeln!(
+        out,
+        "C {number} {} {} {} {positions} {samples} {}",
+        form.bits,
+        form.pairs,
+        capture.packets,
+        samples * u64::from(head.divisor) / 20,
+    );
+}
+
+fn refuse(out: &mut String, code: Code, offset: usize) {
+    let _ = writeln!(out, "R {} {offset}", code as u8);
+}

@@ -1,0 +1,353 @@
+//! The examples of document 01, and those that source document 003 prints.
+
+use outside::packet::{number_at, sample_bytes, samples_fit};
+use outside::reader::unpack;
+use outside::wish::StateWish;
+use outside::{reply, span, Code, Form, Head, Reader, Reply, Station, Wish};
+
+fn hex(text: &str) -> Vec<u8> {
+    text.split_whitespace().map(|byte| u8::from_str_radix(byte, 16).expect("two hexadecimal digits")).collect()
+}
+
+fn fresh() -> Station {
+    Station::fresh(b"MT123456").0
+}
+
+/// Feeds one message in one call; its code and what was answered.
+fn tell(station: &mut Station, message: &str) -> (u8, Vec<u8>) {
+    let bytes = hex(message);
+    let mut buffer = [0xEE; 64];
+    let fed = station.feed(&bytes, &mut buffer);
+    assert_eq!(fed.consumed, bytes.len(), "{message}");
+    assert!(buffer[fed.wrote..].iter().all(|&b| b == 0xEE));
+    (fed.code as u8, buffer[..fed.wrote].to_vec())
+}
+
+fn nak(code: u8) -> (u8, Vec<u8>) {
+    (code, vec![0x02, 0x00])
+}
+
+#[test]
+fn examples_of_003() {
+    let mut station = None;
+    let mut run = 0;
+    for line in include_str!("../examples-003.txt").lines() {
+        if line.is_empty() || line.starts_with('#') {
+            continue;
+        }
+        if let Some(serial) = line.strip_prefix("box ") {
+            let (fresh, code) = Station::fresh(serial.as_bytes());
+            assert_eq!(code, Code::Done);
+            station = Some(fresh);
+            continue;
+        }
+        let columns: Vec<&str> = line.split('|').map(str::trim).collect();
+        let [section, message, _, answer, code] = columns[..] else {
+            panic!("five columns: {line}");
+        };
+        let answer = if answer == "-" { vec![] } else { hex(answer) };
+        let station = station.as_mut().expect("a box before the first message");
+        let code: u8 = code.parse().unwrap();
+        assert_eq!(tell(station, message), (code, answer), "section {section}");
+        run += 1;
+    }
+    assert_eq!(run, 57);
+}
+
+#[test]
+fn name() {
+    assert_eq!(tell(&mut fresh(), "04 20 01 00"), (1, hex("0B 00 01 00 4E 65 74 53 44 52 00")));
+}
+
+#[test]
+fn frequency_and_word() {
+    let mut station = fresh();
+    let message = "0A 00 20 00 00 90 C6 D5 00 00";
+    assert_eq!(tell(&mut station, message), (1, hex(message)));
+    assert_eq!(station.settings.frequency, 14_010_000);
+    assert_eq!(station.word(), Ok(752_156_148));
+    // the SDR-IQ form: 4,308,977,296 Hz
+    assert_eq!(tell(&mut station, "0A 00 20 00 00 90 C6 D5 00 01"), nak(16));
+    // 34,000,000 is taken, 34,000,001 not
+    let highest = "0A 00 20 00 00 80 CC 06 02 00";
+    assert_eq!(tell(&mut station, highest), (1, hex(highest)));
+    assert_eq!(tell(&mut station, "0A 00 20 00 00 81 CC 06 02 00"), nak(16));
+    assert_eq!(station.settings.frequency, 34_000_000);
+    // 145,000,000
+    let second = "0A 00 20 00 FF 40 86 A4 08 00";
+    assert_eq!(tell(&mut station, second), (1, hex(second)));
+    assert_eq!(station.word(), Ok(805_306_368));
+}
+
+#[test]
+fn gain() {
+    let mut station = fresh();
+    assert_eq!(tell(&mut station, "06 00 38 00 00 EC"), (1, hex("06 00 38 00 00 EC")));
+    assert_eq!(station.settings.gain, -20);
+    assert_eq!(tell(&mut station, "06 00 38 00 00 F0"), nak(16));
+    assert_eq!(tell(&mut station, "06 00 38 00 01 F0"), nak(15));
+    assert_eq!(tell(&mut station, "05 20 38 00 FF"), nak(15));
+}
+
+#[test]
+fn rates() {
+    let mut station = fresh();
+    let set = |station: &mut Station, rate: u32| {
+        let [a, b, c, d] = rate.to_le_bytes();
+        tell(station, &format!("09 00 B8 00 7F {a:02X} {b:02X} {c:02X} {d:02X}"))
+    };
+    assert_eq!(set(&mut station, 55_556), (1, hex("09 00 B8 00 7F 04 D9 00 00")));
+    assert_eq!(station.settings.divisor, 360);
+    assert_eq!(set(&mut station, 1_907_000).0, 1);
+    assert_eq!(station.settings.divisor, 11);
+    let shown = tell(&mut station, "05 20 B8 00 12");
+    assert_eq!(shown.1[..5], [0x09, 0x00, 0xB8, 0x00, 0x12]);
+    assert_eq!(shown.1[5..], 1_818_182u32.to_le_bytes());
+    assert_eq!(set(&mut station, 32_000).0, 1);
+    assert_eq!(station.settings.divisor, 625);
+    assert_eq!(set(&mut station, 31_999), nak(16));
+    assert_eq!(set(&mut station, 2_000_001), nak(16));
+}
+
+#[test]
+fn refusals_of_headers_and_items() {
+    let mut station = fresh();
+    assert_eq!(tell(&mut station, "04 20 09 00"), nak(12));
+    assert_eq!(tell(&mut station, "03 60 00"), (2, vec![]));
+    assert_eq!(tell(&mut station, "03 60 04"), nak(11));
+    assert_eq!(tell(&mut station, "02 00"), (2, vec![]));
+    for header in ["00 00", "01 00", "00 20", "01 80", "02 20", "02 40", "02 60", "00 60"] {
+        assert_eq!(tell(&mut station, header), nak(11), "{header}");
+    }
+    assert_eq!(tell(&mut station, "03 00 00"), nak(11));
+    assert_eq!(tell(&mut station, "05 00 01 00 00"), nak(14));
+    assert_eq!(tell(&mut station, "04 40 C4 00"), nak(14));
+    assert_eq!(tell(&mut station, "05 20 01 00 00"), nak(13));
+    assert_eq!(tell(&mut station, "05 20 04 00 04"), nak(16));
+    assert_eq!(station, fresh());
+}
+
+#[test]
+fn a_long_message_is_taken_to_its_end() {
+    let mut station = fresh();
+    let mut buffer = [0; 64];
+    let mut message = [0u8; 65];
+    message[0] = 65;
+    let fed = station.feed(&message[..64], &mut buffer);
+    assert_eq!((fed.code, fed.consumed, fed.wrote), (Code::Waiting, 64, 0));
+    let fed = station.feed(&message[64..], &mut buffer);
+    assert_eq!((fed.code, fed.consumed, fed.wrote), (Code::TooLong, 1, 2));
+    assert_eq!(station, fresh());
+}
+
+#[test]
+fn a_data_item_of_length_zero_is_8194_bytes() {
+    let mut station = fresh();
+    let mut bytes = vec![0x55; 8194 + 4];
+    bytes[..2].copy_from_slice(&[0x00, 0x80]);
+    bytes[8194..].copy_from_slice(&[0x04, 0x20, 0x05, 0x00]);
+    let mut buffer = [0; 64];
+    let fed = station.feed(&bytes, &mut buffer);
+    assert_eq!((fed.code, fed.consumed, fed.wrote), (Code::Quiet, 8194, 0));
+    let fed = station.feed(&bytes[fed.consumed..], &mut buffer);
+    assert_eq!(buffer[..fed.wrote], [0x05, 0x00, 0x05, 0x00, 0x0B]);
+}
+
+#[test]
+fn state_and_locks() {
+    let mut station = fresh();
+    let run_24 = "08 00 18 00 80 02 80 00";
+    let run_16 = "08 00 18 00 80 02 00 07";
+    assert_eq!(tell(&mut station, run_24), (1, hex(run_24)));
+    station.settings.count = 5;
+    assert_eq!(tell(&mut station, run_24), (1, hex(run_24)));
+    assert_eq!(station.settings.count, 5);
+    assert_eq!(tell(&mut station, run_16), nak(17));
+    assert_eq!(tell(&mut station, "08 00 18 00 80 02 01 00"), nak(16));
+    assert_eq!(tell(&mut station, "08 00 18 00 80 03 80 00"), nak(16));
+    assert_eq!(tell(&mut station, "09 00 B8 00 00 20 A1 07 00"), nak(17));
+    assert_eq!(tell(&mut station, "09 00 B8 00 00 00 00 00 00"), nak(16));
+    assert_eq!(tell(&mut station, "05 00 C4 00 01"), nak(17));
+    assert_eq!(tell(&mut station, "05 00 C4 00 02"), nak(16));
+    assert_eq!(tell(&mut station, "08 00 18 00 12 01 34 56"), (1, hex("08 00 18 00 80 01 80 00")));
+    assert_eq!(station.settings.count, 5);
+    assert_eq!(tell(&mut station, run_16), (1, hex("08 00 18 00 80 02 00 00")));
+    assert_eq!(station.settings.count, 0);
+}
+
+#[test]
+fn short_buffers_consume_nothing() {
+    let mut station = fresh();
+    let message = hex("0A 00 20 00 00 90 C6 D5 00 00");
+    let mut buffer = [0xEE; 9];
+    let fed = station.feed(&message, &mut buffer);
+    assert_eq!((fed.code, fed.consumed, fed.wrote), (Code::ShortBuffer, 0, 0));
+    assert_eq!((station, buffer), (fresh(), [0xEE; 9]));
+}
+
+#[test]
+fn serials() {
+    for serial in [&b"MT12345"[..], b"MT1234567", b"mt123456", b""] {
+        let (station, code) = Station::fresh(serial);
+        assert_eq!((code, &station.settings.serial), (Code::BadSerial, b"00000000"));
+    }
+}
+
+#[test]
+fn numbers() {
+    assert_eq!(number_at(0), 0);
+    assert_eq!(number_at(65_535), 65_535);
+    assert_eq!(number_at(65_536), 1);
+    let packet = |number: u16| {
+        let mut packet = vec![0; Form::SMALL_16.total()];
+        packet[..2].copy_from_slice(&Form::SMALL_16.header());
+        packet[2..4].copy_from_slice(&number.to_le_bytes());
+        packet
+    };
+    let mut reader = Reader::default();
+    assert_eq!(reader.read(&packet(7)), Err(Code::NoStart));
+    assert_eq!(reader.read(&packet(0)).unwrap().position, 0);
+    assert_eq!(reader.read(&packet(7)).unwrap().position, 7);
+    assert_eq!(reader.read(&packet(7)).unwrap().position, 7 + 65_535);
+    assert_eq!(reader.read(&packet(65_535)).unwrap().position, 65_535 + 65_535);
+    let place = reader.read(&packet(1)).unwrap();
+    assert_eq!((place.position, place.sample), (131_071, 131_071 * 128));
+    reader.position = 3_999_999_999;
+    let next = number_at(4_000_000_000);
+    assert_eq!(reader.read(&packet(next)), Err(Code::PastEnd));
+    assert_eq!(reader.read(&packet(0)).unwrap().position, 0);
+    reader.position = 4_000_000_000;
+    assert_eq!(reader.read(&packet(0)), Err(Code::Broken));
+}
+
+#[test]
+fn minus_257_and_every_form_cut_and_unpacked() {
+    for (mode, size, header) in
+        [(0x80, 0, [0xA4, 0x85]), (0x80, 1, [0x84, 0x81]), (0x00, 0, [0x04, 0x84]), (0x00, 1, [0x04, 0x82])]
+    {
+        let mut station = fresh();
+        station.settings.mode = mode;
+        station.settings.size = size;
+        station.settings.running = true;
+        let form = station.settings.form();
+        let mut samples: Vec<i32> = (0..form.samples() as i32).map(|i| i * 30_011 - 8_388_608).collect();
+        samples[0] = -257;
+        samples[1] = 8_388_607;
+        samples.iter_mut().for_each(|x| *x = (*x).min(8_388_607));
+        assert!(samples_fit(&samples));
+        let mut packet = vec![0xEE; form.total() + 1];
+        let cut = station.cut(&samples, &mut packet);
+        assert_eq!((cut.code, cut.wrote), (Code::Done, form.total()));
+        assert_eq!(packet[..4], [header[0], header[1], 0, 0]);
+        assert_eq!(packet[form.total()], 0xEE);
+        let packet = &packet[..form.total()];
+        if mode == 0x80 {
+            assert_eq!(packet[4..7], [0xFF, 0xFE, 0xFF]);
+        } else {
+            assert_eq!(packet[4..6], [0xFE, 0xFF]);
+        }
+        assert_eq!(sample_bytes(packet), &packet[4..]);
+        assert!(sample_bytes(&packet[1..]).is_empty());
+        let mut numbers = vec![0; form.samples()];
+        assert_eq!(unpack(packet, &mut numbers), Ok(form.samples()));
+        let shift = 24 - form.bits;
+        assert!(numbers.iter().zip(&samples).all(|(n, s)| *n == s >> shift));
+        assert_eq!(unpack(packet, &mut numbers[1..]), Err(Code::ShortBuffer));
+        assert_eq!(unpack(&packet[1..], &mut []), Err(Code::NotAPacket));
+        samples[3] = 8_388_608;
+        assert_eq!(station.cut(&samples, &mut []).code, Code::SampleRange);
+        assert_eq!(station.cut(&samples[1..], &mut []).code, Code::SampleCount);
+        station.settings.count = 4_000_000_000;
+        assert_eq!(station.cut(&samples[1..], &mut []).code, Code::CaptureFull);
+        station.settings.running = false;
+        assert_eq!(station.cut(&samples[1..], &mut []).code, Code::Idle);
+        station.settings.count = 4_000_000_001;
+        assert_eq!(station.cut(&samples[1..], &mut []).code, Code::Broken);
+    }
+}
+
+#[test]
+fn wishes_reach_the_box_and_its_reply_is_read() {
+    let wishes = [
+        (Wish::Name, Reply::Name),
+        (Wish::Serial, Reply::Serial(*b"MT123456")),
+        (Wish::Interface, Reply::Interface(105)),
+        (Wish::Version(3), Reply::Version([1, 7])),
+        (Wish::Status, Reply::Status { running: false }),
+        (Wish::State, Reply::State { running: false, mode: 0x80 }),
+        (Wish::FrequencyRange, Reply::FrequencyRange),
+        (Wish::SetFrequency(145_000_000), Reply::Frequency(145_000_000)),
+        (Wish::Frequency, Reply::Frequency(145_000_000)),
+        (Wish::SetGain(-30), Reply::Gain(-30)),
+        (Wish::Gain, Reply::Gain(-30)),
+        (Wish::SetClock(79_999_999), Reply::Clock(79_999_999)),
+        (Wish::Clock, Reply::Clock(79_999_999)),
+        (Wish::SetRate(1_907_000), Reply::Rate(1_818_182)),
+        (Wish::Rate, Reply::Rate(1_818_182)),
+        (Wish::SetPacketSize(1), Reply::PacketSize(1)),
+        (Wish::PacketSize, Reply::PacketSize(1)),
+        (Wish::SetState(StateWish { run: 2, mode: 0 }), Reply::State { running: true, mode: 0 }),
+        (Wish::Status, Reply::Status { running: true }),
+        (Wish::SetState(StateWish { run: 2, mode: 0x80 }), Reply::Nak),
+        (Wish::SetRate(32_000), Reply::Nak),
+        (Wish::SetState(StateWish { run: 1, mode: 9 }), Reply::State { running: false, mode: 0 }),
+    ];
+    let mut station = fresh();
+    for (wish, expected) in wishes {
+        let mut message = [0; 16];
+        let length = wish.write(&mut message).unwrap();
+        let mut buffer = [0; 64];
+        let fed = station.feed(&message[..length], &mut buffer);
+        assert_eq!(reply::read(wish, &buffer[..fed.wrote]), Ok(expected), "{wish:?}");
+        assert_eq!(reply::read(wish, &buffer[..fed.wrote + 1]), Err(Code::NotAReply));
+    }
+    assert_eq!(Wish::SetGain(1).write(&mut []), Err(Code::BadValue));
+    assert_eq!(Wish::SetGain(0).write(&mut [0; 15]), Err(Code::ShortBuffer));
+    assert_eq!(reply::read(Wish::Version(4), &[2, 0]), Err(Code::BadValue));
+}
+
+fn capture(numbers: &[u16]) -> Vec<u8> {
+    let head = Head { divisor: 100, frequency: 10_000_000, mode: 0x80, size: 1 };
+    let mut bytes = vec![0; 14];
+    head.write(&mut bytes).unwrap();
+    for number in numbers {
+        let at = bytes.len();
+        bytes.resize(at + 388, 0x33);
+        bytes[at..at + 2].copy_from_slice(&[0x84, 0x81]);
+        bytes[at + 2..at + 4].copy_from_slice(&number.to_le_bytes());
+    }
+    bytes
+}
+
+#[test]
+fn heads() {
+    let bytes = capture(&[]);
+    assert_eq!(bytes, hex("53 50 4E 01 00 64 00 80 96 98 00 00 80 01"));
+    assert_eq!(Head::read(&bytes).unwrap().divisor, 100);
+    assert_eq!(Head::read(&bytes[..13]), Err(Code::NotAHead));
+    let with = |at: usize, value: u8| {
+        let mut changed = bytes.clone();
+        changed[at] = value;
+        Head::read(&changed)
+    };
+    assert_eq!(with(0, b's'), Err(Code::NotAHead));
+    assert_eq!(with(3, 2), Err(Code::OtherVersion));
+    assert_eq!(with(12, 1), Err(Code::NotAHead));
+    assert_eq!(with(5, 9), Err(Code::NotAHead));
+}
+
+#[test]
+fn span_lines() {
+    assert_eq!(span::text(&capture(&[0, 1, 4])), "SPAN 1\nC 1 24 64 3 5 320 1600\nE 1\n");
+    assert_eq!(span::text(&[]), "SPAN 1\nR 40 0\n");
+    assert_eq!(span::text(&capture(&[])), "SPAN 1\nE 0\n");
+    assert_eq!(span::text(&capture(&[1])), "SPAN 1\nR 31 14\n");
+    assert_eq!(span::text(&capture(&[0, 0, 2])), "SPAN 1\nC 1 24 64 1 1 64 320\nC 2 24 64 2 3 192 960\nE 2\n");
+    let mut cut_off = capture(&[0, 1]);
+    cut_off.pop();
+    assert_eq!(span::text(&cut_off), "SPAN 1\nC 1 24 64 1 1 64 320\nR 30 402\n");
+    let mut foreign = capture(&[0]);
+    foreign.extend([0x04, 0x82]);
+    foreign.resize(402 + 516, 0);
+    assert_eq!(span::text(&foreign), "SPAN 1\nC 1 24 64 1 1 64 320\nR 32 402\n");
+}
