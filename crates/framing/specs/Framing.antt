@@ -4,11 +4,13 @@ use mathlib.Core.Path.{_≡_}
 use mathlib.Core.Bool.{Bool, true, false, _&&_, not}
 use mathlib.Core.List.{List, [], _∷_, _++_}
 use lib.Dec.{leb, ltb, eqb}
-use lib.ListN.{length, getD, set, take, drop, replicate}
+use lib.ListN.{length, set, drop, replicate}
+use lib.Seq.{sets}
 use Rattle.wire.specs.Choice.{pick}
 use Rattle.wire.specs.Number.{field}
 use Rattle.wire.specs.Header.{lengthIn, typeIn, typeData}
 use Rattle.framing.specs.declared.Store.{Store}
+pub use Rattle.framing.specs.declared.Taking.{Taking}
 
 -- How many bytes a message has in all: its length; "lengths 0 and 1 finish after the two header bytes, except length 0 in
 -- types 4 to 7"; "a data item of length 0 means 8,194 bytes in all".
@@ -19,9 +21,12 @@ totalOf type length = pick (leb typeData type && eqb length 0) 8194 (max 2 lengt
 abbrev pub headerIn : List ℕ → ℕ
 headerIn held = field 0 2 held
 
--- the total that the first two bytes of a message announce
+-- the total that a header announces, and the first two bytes of a message
+abbrev pub announcedBy : ℕ → ℕ
+announcedBy header = totalOf (typeIn header) (lengthIn header)
+
 abbrev pub announced : List ℕ → ℕ
-announced held = totalOf (typeIn (headerIn held)) (lengthIn (headerIn held))
+announced held = announcedBy (headerIn held)
 
 -- "all is zero between messages"
 abbrev pub between : Store
@@ -36,19 +41,23 @@ pushed s b = record { held = set (s .held) (s .taken) b; taken = s .taken + 1 }
 abbrev pub finished : Store → Bool
 finished s = leb 2 (s .taken) && leb (announced (s .held)) (s .taken)
 
--- What one call takes of the host's bytes: how many, and the store after them.
-pub record Taking : Type 0 where
-  pub count : ℕ
-  pub store : Store
+-- What a call has taken when it stops after n bytes: the store, n, and whether the message is finished.
+abbrev pub stopped : ℕ → Store → Taking
+stopped n s = record { store = s; count = n; finished = finished s }
 
 -- "One call takes a part of the host's bytes and consumes up to the end of one message, never past it." `taking n s bs`
--- has taken n bytes so far.
+-- has taken n bytes so far. (So of a message that is finished already it takes nothing.)
 unfoldable pub taking : ℕ → Store → List ℕ → Taking
-taking n s [] = record { count = n; store = s }
-taking n s (b ∷ bs) = pick (finished (pushed s b)) (record { count = n + 1; store = pushed s b }) (taking (n + 1) (pushed s b) bs)
+taking n s [] = stopped n s
+taking n s (b ∷ bs) = pick (finished s) (stopped n s) (taking (n + 1) (pushed s b) bs)
 
 abbrev pub taken : Store → List ℕ → Taking
 taken s host = taking 0 s host
+
+-- What one call can know of the total beforehand: what the header announces with all of the host's bytes stored, and two
+-- bytes while they do not make a header.
+unfoldable pub totalAhead : List ℕ → ℕ → List ℕ → ℕ
+totalAhead held had host = pick (ltb (had + length host) 2) 2 (announced (sets held had host))
 
 -- The store that a message's first bytes leave.
 abbrev pub pushedAll : Store → List ℕ → Store

@@ -1,9 +1,160 @@
 // Feeding, the part of it that no item has a say in: which bytes make a message, and what the box keeps of one that is
 // not finished.
+ghost use mathlib.Core.Path.{_≡_};
+ghost use Prim.Native.Nat.{_+_, _*_, _-_, _≤_, min};
+ghost use lib.ListN.{length, take, drop};
+ghost use lib.Seq.{sets};
+ghost use Rattle.framing.specs.Framing.{between, totalOf, announcedBy, totalAhead, finished, zeros, couldBeLeft, taken};
 
 // What the box keeps of an unfinished message: its first 64 bytes and how many were taken. Unused places are zero, and
 // all is zero between messages.
 pub struct Store {
     pub held: [u8; 64],
     pub taken: usize,
+}
+
+// What one call takes of the host's bytes: how many, the store after them, and whether they finished the message.
+pub struct Taking {
+    pub store: Store,
+    pub count: usize,
+    pub finished: bool,
+}
+
+// The store between messages.
+pub fn between() -> Store
+    ensures { λ r. ⌜ r ≡ between ⌝ }
+{
+    Store {
+        held: [0; 64],
+        taken: 0,
+    }
+}
+
+// How many bytes a message has in all.
+pub fn total_of(kind: u8, length: u16) -> u16
+    ensures { λ r. ⌜ r ≡ totalOf kind length ⌝ }
+{
+    match length {
+        0 => match kind {
+            0..=3 => 2,
+            _ => 8194,
+        },
+        1 => 2,
+        _ => length,
+    }
+}
+
+// Whether some bytes of a host could have left this store: what was not taken is zero, and the message is not finished.
+pub fn could_be_left(s: Store) -> bool
+    ensures { λ r. ⌜ r ≡ couldBeLeft s ⌝ }
+{
+    let held = s.held;
+    let taken = s.taken;
+    if is_finished(&held, taken) {
+        return false;
+    }
+    unused(&held, taken)
+}
+
+// Takes the host's bytes up to the end of the message, and not past it. Of a message that is finished already nothing is
+// taken.
+pub fn take_in(s: Store, host: &[u8]) -> Taking
+    ensures { λ r. ⌜ r ≡ taken s (now (host .entry)) ⌝ }
+{
+    let mut held = s.held;
+    let had = s.taken;
+    let total = total_ahead(&held, had, host);
+    let count = lesser(rest(total, had), host.len());
+    keep(&mut held, had, host, count);
+    let now = had + count;
+    let store = Store {
+        held: held,
+        taken: now,
+    };
+    Taking {
+        store: store,
+        count: count,
+        finished: total <= now,
+    }
+}
+
+// The header that two bytes make.
+fn header(low: u8, high: u8) -> u16
+    ensures { λ r. ⌜ r ≡ low + 256 * high ⌝ }
+{
+    low as u16 + 256 * high as u16
+}
+
+// The total that a header announces.
+fn announced_by(header: u16) -> usize
+    ensures { λ r. ⌜ r ≡ announcedBy header ⌝ }
+{
+    total_of(wire::type_in(header), wire::length_in(header)) as usize
+}
+
+// Whether the message is finished of which these bytes are held and `taken` were taken.
+fn is_finished(held: &[u8; 64], taken: usize) -> bool
+    requires { ⌜ length (now held) ≡ 64 ⌝ }
+    ensures { λ r. ⌜ r ≡ finished (record { held = now (held .entry); taken = taken }) ⌝ }
+{
+    if taken < 2 {
+        return false;
+    }
+    announced_by(header(held[0], held[1])) <= taken
+}
+
+// The total of a message of which `had` bytes are held and the host's come next: two while they do not make a header.
+fn total_ahead(held: &[u8; 64], had: usize, host: &[u8]) -> usize
+    requires { ⌜ length (now held) ≡ 64 ⌝ }
+    ensures { λ r. ⌜ r ≡ totalAhead (now (held .entry)) had (now (host .entry)) ⌝ }
+{
+    if host.len() < rest(2, had) {
+        return 2;
+    }
+    match had {
+        0 => announced_by(header(host[0], host[1])),
+        1 => announced_by(header(held[0], host[0])),
+        _ => announced_by(header(held[0], held[1])),
+    }
+}
+
+// The lesser of two counts.
+fn lesser(a: usize, b: usize) -> usize
+    ensures { λ r. ⌜ r ≡ min a b ⌝ }
+{
+    if a < b { a } else { b }
+}
+
+// What is left of a whole, which may be nothing.
+fn rest(whole: usize, part: usize) -> usize
+    ensures { λ r. ⌜ r ≡ whole - part ⌝ }
+{
+    if part < whole { whole - part } else { 0 }
+}
+
+// Keeps the host's first `count` bytes from a place on, those of them that belong to the first 64.
+fn keep(held: &mut [u8; 64], at: usize, host: &[u8], count: usize)
+    requires { ⌜ (length (now held) ≡ 64) × (count ≤ length (now host)) ⌝ }
+    ensures { λ r. ⌜ now (held .exit) ≡ sets (now (held .entry)) at (take count (now (host .entry))) ⌝ }
+{
+    let kept = lesser(count, rest(64, at));
+    let mut i = 0;
+    while i < kept {
+        held[at + i] = host[i];
+        i += 1;
+    }
+}
+
+// Whether every place from `from` on is zero.
+fn unused(held: &[u8; 64], from: usize) -> bool
+    requires { ⌜ length (now held) ≡ 64 ⌝ }
+    ensures { λ r. ⌜ r ≡ zeros (drop from (now (held .entry))) ⌝ }
+{
+    let mut any: u8 = 0;
+    let mut i = from;
+    while i < 64 {
+        any = any | held[i];
+        i += 1;
+    }
+    any == 0
 }

@@ -1,0 +1,5 @@
+pub mod Totals
+pub mod Runs
+pub mod Keeping
+pub mod Zeros
+pub mod Leaving
