@@ -1,11 +1,13 @@
 -- Tuning word (house): "The offset n is the frequency, or 160,000,000 less the frequency in the second band. The word is
 -- n x 2^32 / clock to the nearest whole number, halves up; it is worked out when asked."
 use Prim.Native.Nat.{ℕ, _+_, _*_, _-_, _/_, _^_}
-use mathlib.Core.Bool.{Bool}
+use mathlib.Core.Bool.{Bool, not}
 use mathlib.Core.List.{List, [], _∷_}
 use lib.Dec.{eqb}
-use Rattle.wire.specs.Choice.{pick, within}
-use Rattle.tuning.specs.Bands.{Band, bands}
+use Rattle.wire.specs.Choice.{pick, check, firstOf, within}
+use Rattle.tuning.specs.Bands.{Band, bands, inBands}
+use Rattle.tuning.specs.declared.word.Word.{Word}
+use Rattle.tuning.specs.declared.word.Word.the-variants.{Is, NotAllowed}
 
 -- the offset in a band: the frequency where the band has no oscillator, else the oscillator less the frequency
 abbrev pub offsetIn : Band → ℕ → ℕ
@@ -26,3 +28,24 @@ wordOf hz clock = (2 * (offsetOf hz * 2 ^ 32) + clock) / (2 * clock)
 -- clock: "79,992,000 to 80,008,000 (house)"
 abbrev pub isClock : ℕ → Bool
 isClock hz = within 79_992_000 80_008_000 hz
+
+-- What an answer tells, in the numbers of "What comes back": 1 and the word, or 16 and no value.
+abbrev pub codeIn : Word → ℕ
+codeIn (Is w) = 1
+codeIn NotAllowed = 16
+
+abbrev pub valuesIn : Word → List ℕ
+valuesIn (Is w) = w ∷ []
+valuesIn NotAllowed = []
+
+-- the answer that tells a code, and the word where the code is 1
+abbrev pub telling : ℕ → ℕ → Word
+telling code w = pick (eqb code 1) (Is w) NotAllowed
+
+-- "value not allowed": the frequency lies in no band, or the clock is none that may be set
+abbrev pub wordCode : ℕ → ℕ → ℕ
+wordCode hz clock = firstOf (check 16 (not (inBands hz)) ∷ check 16 (not (isClock clock)) ∷ []) 1
+
+-- the answer to a frequency and a clock
+abbrev pub wordAnswer : ℕ → ℕ → Word
+wordAnswer hz clock = telling (wordCode hz clock) (wordOf hz clock)

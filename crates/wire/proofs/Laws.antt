@@ -80,6 +80,10 @@ pub or-rest : (a b : Bool) → a || b ≡ true → a ≡ false → b ≡ true
 or-rest true b e p = absurd (true-not-false p)
 or-rest false b e p = e
 
+pub or-false : (a : Bool) → a || false ≡ a
+or-false true = refl
+or-false false = refl
+
 -- ---- `pick`
 
 module _ {X : Type 0} where

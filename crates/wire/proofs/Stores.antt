@@ -21,6 +21,10 @@ module _ {A : Type 0} where
       let next : i + suc (length vs) ≡ suc i + length vs = omega arith in
       rw next (sets-append (set l i a) (suc i) vs ws)
 
+  -- the same of lists that two calls leave
+  pub sets-then : (l : List A) {l₁ l₂ : List A} (i : ℕ) (vs ws : List A) → l₁ ≡ sets l i vs → l₂ ≡ sets l₁ (i + length vs) ws → l₂ ≡ sets l i (vs ++ ws)
+  sets-then l i vs ws first second = second ∙ rw first (sets-append l i vs ws)
+
   -- what stands before a run stays
   pub take-sets : (n : ℕ) (l : List A) (i : ℕ) (vs : List A) → n ≤ i → take n (sets l i vs) ≡ take n l
   take-sets n l i [] h = refl
