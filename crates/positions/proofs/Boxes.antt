@@ -1,0 +1,287 @@
+-- A running box within one capture: a cut that is not refused makes the packet at the count's position, and what feeding
+-- leaves running keeps mode, size and count.
+use Prim.Native.Nat.{ℕ, _+_, _*_, _≤_, _<_}
+use mathlib.Core.Path.{_≡_, refl, sym, ap, _∙_}
+use mathlib.Core.Bool.{Bool, true, false, _&&_, _||_, not}
+use mathlib.Core.List.{List, [], _∷_, _++_}
+use mathlib.Core.Logic.{_⊎_, inl, inr}
+use native.Mathlib.Omega.{arith}
+use borrow.Author.Tests.{eq-eqb, eqb-true, eqb-false, leb-true, leb-false, not-false}
+use lib.Dec.{eqb, leb, ltb}
+use lib.IntN.{ℤ}
+use lib.ListN.{length, getD}
+use Rattle.wire.specs.Choice.{pick, Check, check, firstOf}
+use Rattle.wire.specs.Header.{typeSet}
+use Rattle.packets.specs.declared.Form.{Form}
+use Rattle.packets.specs.Forms.{formFor, listed, totalOf}
+use Rattle.packets.specs.Numbers.{most}
+use Rattle.packets.specs.Samples.{allSamples}
+use Rattle.framing.specs.Framing.{couldBeLeft, taken, finished}
+use Rattle.rates.specs.Rate.{isD}
+use Rattle.tuning.specs.Bands.{inBands}
+use Rattle.tuning.specs.Word.{isClock}
+use Rattle.items.specs.declared.Settings.{Settings}
+use Rattle.items.specs.Settings.{isMode, isSize, isGain, allSerial, inRange}
+use Rattle.items.specs.Items.{Item, items, noItem, rowIn, state, stateAfter, runByte, idle}
+use Rattle.items.specs.Answer.{Message, replyOf, codeOf, checks, refusedRunning, settingsAfter, row, parameters, itemIn}
+use Rattle.station.specs.declared.Station.{Station}
+use Rattle.station.specs.Station.{valid}
+use Rattle.station.specs.Feeding.{Feeding, feedingOf, fedBy, messageIn, waiting, answered, refused as refuses}
+use Rattle.cutting.specs.Cutting.{formNow, cutChecks, cutCode, cuttingOf, cutFrom, refused}
+use Rattle.positions.proofs.Tests.{never, and-left, and-right, third-fails, absent}
+
+-- the table has a form for each mode and each size
+form-listed : (mode size : ℕ) → isMode mode ≡ true → isSize size ≡ true → listed (formFor mode size) ≡ true
+form-listed mode size m z = go (eqb mode 0x80) refl (eqb mode 0x00) refl (eqb size 0) refl
+  where
+    go : (a : Bool) → eqb mode 0x80 ≡ a → (b : Bool) → eqb mode 0x00 ≡ b → (c : Bool) → eqb size 0 ≡ c → listed (formFor mode size) ≡ true
+    go true e b f true g = rw (eqb-true mode 0x80 e, eqb-true size 0 g)
+    go true e b f false g =
+        let one : size ≡ 1 = omega (arith, leb-true size 1 z, eqb-false size 0 g) in
+        rw (eqb-true mode 0x80 e, one)
+    go false e true f true g = rw (eqb-true mode 0x00 f, eqb-true size 0 g)
+    go false e true f false g =
+        let one : size ≡ 1 = omega (arith, leb-true size 1 z, eqb-false size 0 g) in
+        rw (eqb-true mode 0x00 f, one)
+    go false e false f c g = never (rw (e, f) at m)
+
+-- of tests that all hold these two do
+two-of : (x m g z l : Bool) → x && m && g && z && l ≡ true → (m ≡ true) × (z ≡ true)
+two-of x m g z l e =
+    let upTo : x && m && g && z ≡ true = and-left (x && m && g && z) l e in
+    (and-right x m (and-left (x && m) g (and-left (x && m && g) z upTo)), and-right (x && m && g) z upTo)
+
+-- a box that is not broken cuts packets of a listed form
+pub valid-form : (s : Station) → valid s ≡ true → listed (formNow (s .settings)) ≡ true
+unfolding valid inRange
+valid-form s v =
+    let t : Settings = s .settings in
+    let both : (isMode (t .mode) ≡ true) × (isSize (t .size) ≡ true)
+    = two-of (inBands (t .frequency) && leb (t .count) most && isClock (t .clock) && isD (t .divisor)) (isMode (t .mode)) (isGain (t .gain)) (isSize (t .size)) (allSerial (t .serial)) (and-left (inRange t) (couldBeLeft (s .store)) v) in
+    form-listed (t .mode) (t .size) (both .0) (both .1)
+
+-- What a cut that is not refused tells: the box is valid, the count below the most, the samples of the form's number.
+pub record Made (s : Station) (samples : List ℤ) : Type 0 where
+  pub sound : valid s ≡ true
+  pub running : s .settings .running ≡ true
+  pub below : s .settings .count < most
+  pub enough : length samples ≡ 2 * formNow (s .settings) .pairs
+
+made : (s : Station) (samples : List ℤ) (room : ℕ) → cutCode s samples room ≡ 1 → Made s samples
+unfolding cutCode
+made s samples room e =
+    let clear = absent (cutChecks s samples room) refl e in
+    record {
+      sound = not-false (valid s) (clear .0);
+      running = not-false (s .settings .running) (clear .1 .0);
+      below = leb-false most (s .settings .count) (clear .1 .1 .0);
+      enough = eqb-true _ _ (not-false _ (clear .1 .1 .1 .0));
+    }
+
+-- the answer of a cut whose code is 1
+pub cut-is : (s : Station) (samples : List ℤ) (room : ℕ) → cuttingOf s samples room .cut .code ≡ 1
+    → Made s samples × (cuttingOf s samples room ≡ cutFrom s samples)
+unfolding cuttingOf
+cut-is s samples room = go (eqb (cutCode s samples room) 1) refl
+  where
+    go : (b : Bool) → eqb (cutCode s samples room) 1 ≡ b → pick (eqb (cutCode s samples room) 1) (cutFrom s samples) (refused (cutCode s samples room) s) .cut .code ≡ 1
+        → Made s samples × (pick (eqb (cutCode s samples room) 1) (cutFrom s samples) (refused (cutCode s samples room) s) ≡ cutFrom s samples)
+    go true q e = (made s samples room (eqb-true _ _ q), rw q)
+    go false q e = absurd (eqb-false _ _ q (rw q at e))
+
+-- What a running box cuts next: the position, and the form.
+pub record Next : Type 0 where
+  pub position : ℕ
+  pub form : Form
+
+abbrev pub nextOf : Settings → Next
+nextOf s = record { position = s .count; form = formNow s }
+
+-- an item's accepted set leaves it, where the box is running before and after the set
+abbrev Leaves : Item → Type 0
+Leaves i =
+    (s : Settings) (p : List ℕ)
+    → s .running ≡ true
+    → i .locked s p ≡ false
+    → i .stored s p .running ≡ true
+    → nextOf (i .stored s p) ≡ nextOf s
+
+-- an item's set that finds the box idle and leaves it running sets the count to 0
+abbrev Starts : Item → Type 0
+Starts i = (s : Settings) (p : List ℕ) → s .running ≡ false → i .stored s p .running ≡ true → i .stored s p .count ≡ 0
+
+-- what is true of each item of a table
+abbrev Each : (Item → Type 0) → List Item → Type 0
+Each P [] = Unit {0}
+Each P (i ∷ is) = P i × Each P is
+
+-- is true of the row of any code
+each-row : (P : Item → Type 0) (is : List Item) → P noItem → Each P is → (code : ℕ) → P (rowIn is code)
+each-row P [] none all code = none
+each-row P (i ∷ is) none all code = go (eqb code (i .code)) (each-row P is none (all .1) code)
+  where
+    go : (b : Bool) → P (rowIn is code) → P (pick b i (rowIn is code))
+    go true later = all .0
+    go false later = later
+
+-- idle stops the box, and run while running changes nothing
+state-leaves : Leaves state
+state-leaves s p r l a = go (eqb (runByte p) idle) refl
+  where
+    go : (b : Bool) → eqb (runByte p) idle ≡ b → nextOf (stateAfter s p) ≡ nextOf s
+    go true q = never (rw q at a)
+    go false q = rw (q, r)
+
+-- "Starting from idle sets the packet count to 0."
+state-starts : Starts state
+state-starts s p r a = go (eqb (runByte p) idle) refl
+  where
+    go : (b : Bool) → eqb (runByte p) idle ≡ b → stateAfter s p .count ≡ 0
+    go true q = never (rw q at a)
+    go false q = rw (q, r)
+
+-- name, serial, interface, versions and status; state; frequency, gain and clock; rate and packet size, which are locked
+rows-leave : (code : ℕ) → Leaves (rowIn items code)
+rows-leave =
+    each-row Leaves items (λ s p r l a. refl) (
+      λ s p r l a. refl,
+      (
+        λ s p r l a. refl,
+        (
+          λ s p r l a. refl,
+          (
+            λ s p r l a. refl,
+            (
+              λ s p r l a. refl,
+              (
+                state-leaves,
+                (
+                  λ s p r l a. refl,
+                  (
+                    λ s p r l a. refl,
+                    (
+                      λ s p r l a. refl,
+                      (
+                        λ s p r l a. never (sym l),
+                        (
+                          λ s p r l a. never (sym l),
+                          tt,
+                        ),
+                      ),
+                    ),
+                  ),
+                ),
+              ),
+            ),
+          ),
+        ),
+      ),
+    )
+
+-- all but the state keep an idle box idle
+rows-start : (code : ℕ) → Starts (rowIn items code)
+rows-start =
+    each-row Starts items (λ s p r a. never (sym r ∙ a)) (
+      λ s p r a. never (sym r ∙ a),
+      (
+        λ s p r a. never (sym r ∙ a),
+        (
+          λ s p r a. never (sym r ∙ a),
+          (
+            λ s p r a. never (sym r ∙ a),
+            (
+              λ s p r a. never (sym r ∙ a),
+              (
+                state-starts,
+                (
+                  λ s p r a. never (sym r ∙ a),
+                  (
+                    λ s p r a. never (sym r ∙ a),
+                    (
+                      λ s p r a. never (sym r ∙ a),
+                      (
+                        λ s p r a. never (sym r ∙ a),
+                        (
+                          λ s p r a. never (sym r ∙ a),
+                          tt,
+                        ),
+                      ),
+                    ),
+                  ),
+                ),
+              ),
+            ),
+          ),
+        ),
+      ),
+    )
+
+-- an accepted set was not locked
+unlocked : (s : Settings) (m : Message) → codeOf s m ≡ 1 → m .type ≡ typeSet → s .running ≡ true → row m .locked s (parameters m) ≡ false
+unfolding codeOf
+unlocked s m e t r =
+    let clear = absent (checks s m) refl e in
+    let free : refusedRunning (row m) (m .type) s (parameters m) ≡ false = clear .1 .1 .1 .1 .1 .1 .1 .1 .0 in
+    third-fails (eqb (m .type) typeSet) (s .running) (row m .locked s (parameters m)) (eq-eqb _ _ t) r free
+
+-- one message
+message-leaves : (s : Settings) (m : Message) → s .running ≡ true → settingsAfter s m .running ≡ true → nextOf (settingsAfter s m) ≡ nextOf s
+unfolding settingsAfter
+message-leaves s m r = go (eqb (codeOf s m) 1) refl (eqb (m .type) typeSet) refl
+  where
+    after : Bool → Settings
+    after b = pick b (row m .stored s (parameters m)) s
+
+    go : (b : Bool) → eqb (codeOf s m) 1 ≡ b → (c : Bool) → eqb (m .type) typeSet ≡ c
+        → after (eqb (codeOf s m) 1 && eqb (m .type) typeSet) .running ≡ true → nextOf (after (eqb (codeOf s m) 1 && eqb (m .type) typeSet)) ≡ nextOf s
+    go true q true t = rw (q, t) (rows-leave (itemIn m) s (parameters m) r (unlocked s m (eqb-true _ _ q) (eqb-true _ _ t) r))
+    go true q false t = rw (q, t) (λ a. refl)
+    go false q c t = rw q (λ a. refl)
+
+message-starts : (s : Settings) (m : Message) → s .running ≡ false → settingsAfter s m .running ≡ true → settingsAfter s m .count ≡ 0
+unfolding settingsAfter
+message-starts s m r = go (eqb (codeOf s m) 1 && eqb (m .type) typeSet)
+  where
+    after : Bool → Settings
+    after b = pick b (row m .stored s (parameters m)) s
+
+    go : (b : Bool) → after b .running ≡ true → after b .count ≡ 0
+    go true a = rows-start (itemIn m) s (parameters m) r a
+    go false a = never (sym r ∙ a)
+
+-- what one call of feeding can leave: the settings given, or those after the message that it finished
+either : (P : Feeding → Type 0) (b : Bool) (x y : Feeding) → P x → P y → P (pick b x y)
+either P true x y p q = p
+either P false x y p q = q
+
+fed-leaves : (P : Settings → Type 0) (s : Station) (host : List ℕ) (room : ℕ)
+    → P (s .settings)
+    → ((m : Message) → P (settingsAfter (s .settings) m))
+    → P (feedingOf s host room .fed .station .settings)
+unfolding feedingOf
+fed-leaves P s host room same after =
+    let t = taken (s .store) host in
+    let m = messageIn (t .store) in
+    either Q (not (valid s)) (refuses 21 s) (fedBy s t room) same
+    (either Q (not (finished (t .store))) (waiting (s .settings) t)
+    (pick (ltb room (length (replyOf (s .settings) m))) (refuses 20 s) (answered (s .settings) t)) same
+    (either Q (ltb room (length (replyOf (s .settings) m))) (refuses 20 s) (answered (s .settings) t) same (after m)))
+  where
+    Q : Feeding → Type 0
+    Q x = P (x .fed .station .settings)
+
+-- a box that is running before a call of feeding and after it cuts next what it would have cut
+pub feeding-leaves : (s : Station) (host : List ℕ) (room : ℕ)
+    → s .settings .running ≡ true
+    → feedingOf s host room .fed .station .settings .running ≡ true
+    → nextOf (feedingOf s host room .fed .station .settings) ≡ nextOf (s .settings)
+feeding-leaves s host room r =
+    fed-leaves (λ t. t .running ≡ true → nextOf t ≡ nextOf (s .settings)) s host room (λ a. refl) (λ m. message-leaves (s .settings) m r)
+
+-- a box that is idle before a call of feeding and running after it has cut nothing
+pub feeding-starts : (s : Station) (host : List ℕ) (room : ℕ)
+    → s .settings .running ≡ false
+    → feedingOf s host room .fed .station .settings .running ≡ true
+    → feedingOf s host room .fed .station .settings .count ≡ 0
+feeding-starts s host room r =
+    fed-leaves (λ t. t .running ≡ true → t .count ≡ 0) s host room (λ a. never (sym r ∙ a)) (λ m. message-starts (s .settings) m r)

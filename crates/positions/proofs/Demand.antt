@@ -1,0 +1,164 @@
+-- Demand 3. What the box cuts is numbered from 0 on in one form; a reader that has heard a position takes each later packet
+-- within a turn at its own; and a list of numbers leaves one list of positions, which leaves one choice of what was lost.
+use Prim.Native.Nat.{ℕ, zero, suc, _+_, _≤_, _<_}
+use mathlib.Core.Path.{_≡_, refl, sym, ap, subst, _∙_}
+use mathlib.Core.Bool.{true, false}
+use mathlib.Core.List.{List, [], _∷_, map}
+use native.Mathlib.Omega.{arith}
+use lib.IntN.{ℤ}
+use lib.ListN.{length}
+use Rattle.packets.specs.declared.Form.{Form}
+use Rattle.packets.specs.Numbers.{numberAt, numberIn, stepOf}
+use Rattle.station.specs.declared.Station.{Station}
+use Rattle.station.specs.Feeding.{feedingOf}
+use Rattle.cutting.specs.Cutting.{Cutting, formNow, cuttingOf, cutFrom}
+use Rattle.reader.specs.declared.Reader.{Reader}
+use Rattle.reader.specs.Reading.{sound, heardAt}
+use Rattle.positions.specs.Captures.{Cuts, ends, cuts, feeds, Capture}
+use Rattle.positions.specs.Losses.{Fate, arrives, lost, left, bounded, allowed, positionsFrom, answers}
+use Rattle.positions.specs.Demand.{ExactPositions, NoTwoAlike}
+use Rattle.positions.proofs.Steps.{position-is-exact}
+use Rattle.positions.proofs.Packets.{packet-whole, packet-number}
+use Rattle.positions.proofs.Boxes.{Made, cut-is, valid-form, Next, nextOf, feeding-leaves, feeding-starts}
+use Rattle.positions.proofs.Readings.{At, hasHeard, reads-first, reads-next}
+
+-- the packets of a capture of form f from position n on
+abbrev Numbered : Form → ℕ → List (List ℕ) → Type 0
+Numbered f n [] = Unit {0}
+Numbered f n (p ∷ ps) = At f n p × Numbered f (n + 1) ps
+
+-- the packet of one cut
+cut-at : (s : Station) (samples : List ℤ) (room : ℕ) → cuttingOf s samples room .cut .code ≡ 1
+    → At (formNow (s .settings)) (s .settings .count) (cuttingOf s samples room .bytes)
+cut-at s samples room e =
+    let is = cut-is s samples room e in
+    let fine = valid-form s (is .0 .sound) in
+    rw (is .1)
+    (record {
+      fine = fine;
+      form = packet-whole (formNow (s .settings)) (s .settings .count) samples fine (is .0 .enough);
+      number = packet-number (formNow (s .settings)) (s .settings .count) samples;
+      below = is .0 .below;
+    })
+
+cuts-numbered : {s : Station} {packets : List (List ℕ)} → s .settings .running ≡ true → Cuts s packets → Numbered (formNow (s .settings)) (s .settings .count) packets
+cuts-numbered r ends = tt
+cuts-numbered {s} r (cuts {packets = ps} samples room e later) =
+    let is = cut-is s samples room e in
+    let kept : cuttingOf s samples room .cut .station .settings .running ≡ true = rw (is .1) r in (
+      cut-at s samples room e,
+      subst (λ (x : Cutting). Numbered (formNow (x .cut .station .settings)) (x .cut .station .settings .count) ps) (is .1) (cuts-numbered kept later),
+    )
+cuts-numbered {s} r (feeds {packets = ps} host room on later) =
+    subst (λ (x : Next). Numbered (x .form) (x .position) ps) (feeding-leaves s host room r on) (cuts-numbered on later)
+
+-- after position m, with k lost since
+exact-after : (f : Form) (fs : List Fate) (ps : List (List ℕ)) (m k n : ℕ) → n ≡ m + k + 1 → Numbered f n ps → bounded k fs
+    → answers (hasHeard f m) (left fs ps) ≡ map (λ p. heardAt p f) (left fs (positionsFrom n ps))
+exact-after f [] ps m k n e all b = refl
+exact-after f (arrives ∷ fs) [] m k n e all b = refl
+exact-after f (arrives ∷ fs) (p ∷ ps) m k n e all b =
+    rw (reads-next f p m n (all .0) (omega arith) (omega arith)) (ap (λ l. heardAt n f ∷ l) (exact-after f fs ps n 0 (n + 1) (omega arith) (all .1) (b .1)))
+exact-after f (lost ∷ fs) [] m k n e all b = refl
+exact-after f (lost ∷ fs) (p ∷ ps) m k n e all b = exact-after f fs ps m (k + 1) (n + 1) (omega arith) (all .1) b
+
+exact : (f : Form) (fs : List Fate) (ps : List (List ℕ)) → Numbered f 0 ps → allowed fs → (r : Reader) → sound r ≡ true
+    → answers r (left fs ps) ≡ map (λ p. heardAt p f) (left fs (positionsFrom 0 ps))
+exact f [] ps all b r s = refl
+exact f (arrives ∷ fs) [] all b r s = refl
+exact f (arrives ∷ fs) (p ∷ ps) all b r s =
+    rw (reads-first f p r (all .0) s) (ap (λ l. heardAt 0 f ∷ l) (exact-after f fs ps 0 0 1 (omega arith) (all .1) b))
+exact f (lost ∷ fs) ps all b r s = absurd b
+
+-- a box that a call of feeding finds idle and leaves running begins a capture
+pub begins : (s : Station) (host : List ℕ) (room : ℕ) (packets : List (List ℕ)) → s .settings .running ≡ false
+    → feedingOf s host room .fed .station .settings .running ≡ true
+    → Cuts (feedingOf s host room .fed .station) packets
+    → Capture (feedingOf s host room .fed .station) packets
+begins s host room packets idle on calls = record { running = on; fresh = feeding-starts s host room idle on; calls = calls }
+
+-- a capture's packets are numbered from 0 on
+from-start : {s : Station} {packets : List (List ℕ)} → Capture s packets → Numbered (formNow (s .settings)) 0 packets
+from-start c = rw (c .fresh) at (cuts-numbered (c .running) (c .calls))
+
+pub exact-positions : ExactPositions
+exact-positions s packets c fates b r g = exact (formNow (s .settings)) fates packets (from-start c) b r g
+
+-- Positions after m that rise by at most 65,535 at a time: up to 65,534 lost between two.
+abbrev pub Rising : ℕ → List ℕ → Type 0
+Rising m [] = Unit {0}
+Rising m (p ∷ ps) = (m < p) × (p ≤ m + 65_535) × Rising p ps
+
+-- the same numbers after the same position: the same positions
+pub same-positions : (m : ℕ) (ps qs : List ℕ) → Rising m ps → Rising m qs → map numberAt ps ≡ map numberAt qs → ps ≡ qs
+same-positions m [] [] a b e = refl
+same-positions m [] (q ∷ qs) a b e = absurd (let z : _≡_ {A = ℕ} 0 1 = cc in omega arith)
+same-positions m (p ∷ ps) [] a b e = absurd (let z : _≡_ {A = ℕ} 0 1 = cc in omega arith)
+same-positions m (p ∷ ps) (q ∷ qs) a b e =
+    let number : numberAt p ≡ numberAt q = cc in
+    let numbers : map numberAt ps ≡ map numberAt qs = cc in
+    let here : p ≡ q =
+    sym (position-is-exact m p (a .0) (a .1)) ∙ ap (λ n. m + stepOf (numberAt m) n) number ∙ position-is-exact m q (b .0) (b .1) in
+    let rest : ps ≡ qs = same-positions p ps qs (a .2) (rw (← here) at (b .2)) numbers in
+    cc
+
+-- what is left of the positions rises so
+left-rises : (fs : List Fate) (ps : List (List ℕ)) (m k n : ℕ) → n ≡ m + k + 1 → bounded k fs → Rising m (left fs (positionsFrom n ps))
+left-rises [] ps m k n e b = tt
+left-rises (arrives ∷ fs) [] m k n e b = tt
+left-rises (arrives ∷ fs) (p ∷ ps) m k n e b = (omega arith, omega arith, left-rises fs ps n 0 (n + 1) (omega arith) (b .1))
+left-rises (lost ∷ fs) [] m k n e b = tt
+left-rises (lost ∷ fs) (p ∷ ps) m k n e b = left-rises fs ps m (k + 1) (n + 1) (omega arith) b
+
+-- the numbers that are left are those of the positions that are left
+left-numbers : (f : Form) (fs : List Fate) (ps : List (List ℕ)) (n : ℕ) → Numbered f n ps → map numberIn (left fs ps) ≡ map numberAt (left fs (positionsFrom n ps))
+left-numbers f [] ps n all = refl
+left-numbers f (arrives ∷ fs) [] n all = refl
+left-numbers f (arrives ∷ fs) (p ∷ ps) n all = rw (all .0 .number) (ap (λ l. numberAt n ∷ l) (left-numbers f fs ps (n + 1) (all .1)))
+left-numbers f (lost ∷ fs) [] n all = refl
+left-numbers f (lost ∷ fs) (p ∷ ps) n all = left-numbers f fs ps (n + 1) (all .1)
+
+-- what is left of the positions from n on lies there
+left-lies : (fs : List Fate) (ps : List (List ℕ)) (n q : ℕ) (qs : List ℕ) → q ∷ qs ≡ left fs (positionsFrom n ps) → n ≤ q
+left-lies [] ps n q qs e = absurd (let z : _≡_ {A = ℕ} 0 1 = cc in omega arith)
+left-lies (arrives ∷ fs) [] n q qs e = absurd (let z : _≡_ {A = ℕ} 0 1 = cc in omega arith)
+left-lies (arrives ∷ fs) (p ∷ ps) n q qs e = let here : q ≡ n = cc in omega arith
+left-lies (lost ∷ fs) [] n q qs e = absurd (let z : _≡_ {A = ℕ} 0 1 = cc in omega arith)
+left-lies (lost ∷ fs) (p ∷ ps) n q qs e = omega (arith, left-lies fs ps (n + 1) q qs e)
+
+-- the same positions left: the same fates
+same-fates : (fs gs : List Fate) (ps : List (List ℕ)) (n : ℕ) → length fs ≡ length ps → length gs ≡ length ps
+    → left fs (positionsFrom n ps) ≡ left gs (positionsFrom n ps) → fs ≡ gs
+same-fates [] [] ps n a b e = refl
+same-fates [] (g ∷ gs) ps n a b e = absurd (omega arith)
+same-fates (f ∷ fs) [] ps n a b e = absurd (omega arith)
+same-fates (f ∷ fs) (g ∷ gs) [] n a b e = absurd (omega arith)
+same-fates (arrives ∷ fs) (arrives ∷ gs) (p ∷ ps) n a b e =
+    let tails : left fs (positionsFrom (n + 1) ps) ≡ left gs (positionsFrom (n + 1) ps) = cc in
+    ap (λ l. arrives ∷ l) (same-fates fs gs ps (n + 1) (omega arith) (omega arith) tails)
+same-fates (arrives ∷ fs) (lost ∷ gs) (p ∷ ps) n a b e = absurd (omega (arith, left-lies gs ps (n + 1) n _ e))
+same-fates (lost ∷ fs) (arrives ∷ gs) (p ∷ ps) n a b e = absurd (omega (arith, left-lies fs ps (n + 1) n _ (sym e)))
+same-fates (lost ∷ fs) (lost ∷ gs) (p ∷ ps) n a b e = ap (λ l. lost ∷ l) (same-fates fs gs ps (n + 1) (omega arith) (omega arith) e)
+
+same-left : (f : Form) (fs gs : List Fate) (ps : List (List ℕ)) → Numbered f 0 ps → length fs ≡ length gs → allowed fs → allowed gs
+    → map numberIn (left fs ps) ≡ map numberIn (left gs ps) → left fs (positionsFrom 0 ps) ≡ left gs (positionsFrom 0 ps)
+same-left f [] [] ps all l a b e = refl
+same-left f [] (g ∷ gs) ps all l a b e = absurd (omega arith)
+same-left f (arrives ∷ fs) [] ps all l a b e = absurd (omega arith)
+same-left f (arrives ∷ fs) (arrives ∷ gs) [] all l a b e = refl
+same-left f (arrives ∷ fs) (arrives ∷ gs) (p ∷ ps) all l a b e =
+    let tails : map numberIn (left fs ps) ≡ map numberIn (left gs ps) = cc in
+    let numbers : map numberAt (left fs (positionsFrom 1 ps)) ≡ map numberAt (left gs (positionsFrom 1 ps)) =
+    sym (left-numbers f fs ps 1 (all .1)) ∙ tails ∙ left-numbers f gs ps 1 (all .1) in
+    ap (λ l. 0 ∷ l) (same-positions 0 _ _ (left-rises fs ps 0 0 1 refl a) (left-rises gs ps 0 0 1 refl b) numbers)
+same-left f (arrives ∷ fs) (lost ∷ gs) ps all l a b e = absurd b
+same-left f (lost ∷ fs) gs ps all l a b e = absurd a
+
+pub no-two-alike : NoTwoAlike
+no-two-alike s packets c fates others la lb a b e =
+    same-fates fates others packets 0 la lb
+    (same-left (formNow (s .settings)) fates others packets (from-start c) (la ∙ sym lb) a b e)
+
+-- The bound is sharp: with 65,535 lost between two, position 65,536 after 0 reads as position 1.
+pub bound-is-sharp : numberAt 65_536 ≡ numberAt 1
+bound-is-sharp = refl

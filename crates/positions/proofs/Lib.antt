@@ -1,0 +1,6 @@
+pub mod Tests
+pub mod Steps
+pub mod Packets
+pub mod Boxes
+pub mod Readings
+pub mod Demand

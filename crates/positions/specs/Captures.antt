@@ -1,0 +1,31 @@
+-- One capture from the box: the packets that it cuts, in order, from its start on.
+use Prim.Native.Nat.{ℕ}
+use mathlib.Core.Bool.{true}
+use mathlib.Core.List.{List, [], _∷_}
+use mathlib.Core.Path.{_≡_}
+use lib.IntN.{ℤ}
+use Rattle.station.specs.declared.Station.{Station}
+use Rattle.station.specs.Feeding.{feedingOf}
+use Rattle.cutting.specs.Cutting.{cuttingOf}
+
+-- `Cuts s packets`: from the box s on, call by call, these packets come out in this order. A call cuts a packet (code 1),
+-- or it feeds the box some of the host's bytes, which leave it running. (A cut that is refused returns the box given, so it
+-- is no step.)
+pub data Cuts : Station → List (List ℕ) → Type 0 where
+  ends : {s : Station} → Cuts s []
+  cuts :
+      {s : Station} {packets : List (List ℕ)} (samples : List ℤ) (room : ℕ)
+      → cuttingOf s samples room .cut .code ≡ 1
+      → Cuts (cuttingOf s samples room .cut .station) packets
+      → Cuts s (cuttingOf s samples room .bytes ∷ packets)
+  feeds :
+      {s : Station} {packets : List (List ℕ)} (host : List ℕ) (room : ℕ)
+      → feedingOf s host room .fed .station .settings .running ≡ true
+      → Cuts (feedingOf s host room .fed .station) packets
+      → Cuts s packets
+
+-- The box is running and has cut nothing yet: "Starting from idle sets the packet count to 0."
+pub record Capture (s : Station) (packets : List (List ℕ)) : Type 0 where
+  pub running : s .settings .running ≡ true
+  pub fresh : s .settings .count ≡ 0
+  pub calls : Cuts s packets
