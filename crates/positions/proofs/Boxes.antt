@@ -1,22 +1,23 @@
 -- A running box within one capture: a cut that is not refused makes the packet at the count's position, and what feeding
 -- leaves running keeps mode, size and count.
-use Prim.Native.Nat.{ℕ, _+_, _*_, _≤_, _<_}
-use mathlib.Core.Path.{_≡_, refl, sym, ap, _∙_}
-use mathlib.Core.Bool.{Bool, true, false, _&&_, _||_, not}
-use mathlib.Core.List.{List, [], _∷_, _++_}
+use Prim.Native.Nat.{ℕ, _*_, _<_}
+use mathlib.Core.Path.{_≡_, refl, sym, _∙_}
+use mathlib.Core.Bool.{Bool, true, false, _&&_, not}
+use mathlib.Core.List.{List, [], _∷_}
 use mathlib.Core.Logic.{_⊎_, inl, inr}
 use native.Mathlib.Omega.{arith}
 use borrow.Author.Tests.{eq-eqb, eqb-true, eqb-false, leb-true, leb-false, not-false}
 use lib.Dec.{eqb, leb, ltb}
 use lib.IntN.{ℤ}
-use lib.ListN.{length, getD}
-use Rattle.wire.specs.Choice.{pick, Check, check, firstOf}
+use lib.ListN.{length}
+use Rattle.wire.specs.Choice.{pick}
 use Rattle.wire.specs.Header.{typeSet}
+use Rattle.wire.proofs.Laws.{and-both, and-left, and-right, and-rest, pick-keeps}
 use Rattle.packets.specs.declared.Form.{Form}
-use Rattle.packets.specs.Forms.{formFor, listed, totalOf}
+use Rattle.packets.specs.Forms.{listed}
 use Rattle.packets.specs.Numbers.{most}
-use Rattle.packets.specs.Samples.{allSamples}
 use Rattle.framing.specs.Framing.{couldBeLeft, taken, finished}
+use Rattle.packets.proofs.Forms.{form-for-listed}
 use Rattle.rates.specs.Rate.{isD}
 use Rattle.tuning.specs.Bands.{inBands}
 use Rattle.tuning.specs.Word.{isClock}
@@ -28,22 +29,23 @@ use Rattle.station.specs.declared.Station.{Station}
 use Rattle.station.specs.Station.{valid}
 use Rattle.station.specs.Feeding.{Feeding, feedingOf, fedBy, messageIn, waiting, answered, refused as refuses}
 use Rattle.cutting.specs.Cutting.{formNow, cutChecks, cutCode, cuttingOf, cutFrom, refused}
-use Rattle.positions.proofs.Tests.{never, and-left, and-right, third-fails, absent}
+use Rattle.positions.proofs.Tests.{never, absent}
 
--- the table has a form for each mode and each size
-form-listed : (mode size : ℕ) → isMode mode ≡ true → isSize size ≡ true → listed (formFor mode size) ≡ true
-form-listed mode size m z = go (eqb mode 0x80) refl (eqb mode 0x00) refl (eqb size 0) refl
+-- mode and size as the table has them
+mode-either : (mode : ℕ) → isMode mode ≡ true → (mode ≡ 0x80) ⊎ (mode ≡ 0x00)
+mode-either mode m = go (eqb mode 0x80) refl (eqb mode 0x00) refl
   where
-    go : (a : Bool) → eqb mode 0x80 ≡ a → (b : Bool) → eqb mode 0x00 ≡ b → (c : Bool) → eqb size 0 ≡ c → listed (formFor mode size) ≡ true
-    go true e b f true g = rw (eqb-true mode 0x80 e, eqb-true size 0 g)
-    go true e b f false g =
-        let one : size ≡ 1 = omega (arith, leb-true size 1 z, eqb-false size 0 g) in
-        rw (eqb-true mode 0x80 e, one)
-    go false e true f true g = rw (eqb-true mode 0x00 f, eqb-true size 0 g)
-    go false e true f false g =
-        let one : size ≡ 1 = omega (arith, leb-true size 1 z, eqb-false size 0 g) in
-        rw (eqb-true mode 0x00 f, one)
-    go false e false f c g = never (rw (e, f) at m)
+    go : (a : Bool) → eqb mode 0x80 ≡ a → (b : Bool) → eqb mode 0x00 ≡ b → (mode ≡ 0x80) ⊎ (mode ≡ 0x00)
+    go true e b f = inl (eqb-true mode 0x80 e)
+    go false e true f = inr (eqb-true mode 0x00 f)
+    go false e false f = never (rw (e, f) at m)
+
+size-either : (size : ℕ) → isSize size ≡ true → (size ≡ 0) ⊎ (size ≡ 1)
+size-either size z = go (eqb size 0) refl
+  where
+    go : (a : Bool) → eqb size 0 ≡ a → (size ≡ 0) ⊎ (size ≡ 1)
+    go true e = inl (eqb-true size 0 e)
+    go false e = inr (omega (arith, leb-true size 1 z, eqb-false size 0 e))
 
 -- of tests that all hold these two do
 two-of : (x m g z l : Bool) → x && m && g && z && l ≡ true → (m ≡ true) × (z ≡ true)
@@ -58,7 +60,7 @@ valid-form s v =
     let t : Settings = s .settings in
     let both : (isMode (t .mode) ≡ true) × (isSize (t .size) ≡ true)
     = two-of (inBands (t .frequency) && leb (t .count) most && isClock (t .clock) && isD (t .divisor)) (isMode (t .mode)) (isGain (t .gain)) (isSize (t .size)) (allSerial (t .serial)) (and-left (inRange t) (couldBeLeft (s .store)) v) in
-    form-listed (t .mode) (t .size) (both .0) (both .1)
+    form-for-listed (t .mode) (t .size) (mode-either (t .mode) (both .0)) (size-either (t .size) (both .1))
 
 -- What a cut that is not refused tells: the box is valid, the count below the most, the samples of the form's number.
 pub record Made (s : Station) (samples : List ℤ) : Type 0 where
@@ -222,7 +224,7 @@ unfolding codeOf
 unlocked s m e t r =
     let clear = absent (checks s m) refl e in
     let free : refusedRunning (row m) (m .type) s (parameters m) ≡ false = clear .1 .1 .1 .1 .1 .1 .1 .1 .0 in
-    third-fails (eqb (m .type) typeSet) (s .running) (row m .locked s (parameters m)) (eq-eqb _ _ t) r free
+    and-rest (eqb (m .type) typeSet && s .running) (row m .locked s (parameters m)) free (and-both (eqb (m .type) typeSet) (s .running) (eq-eqb _ _ t) r)
 
 -- one message
 message-leaves : (s : Settings) (m : Message) → s .running ≡ true → settingsAfter s m .running ≡ true → nextOf (settingsAfter s m) ≡ nextOf s
@@ -250,10 +252,6 @@ message-starts s m r = go (eqb (codeOf s m) 1 && eqb (m .type) typeSet)
     go false a = never (sym r ∙ a)
 
 -- what one call of feeding can leave: the settings given, or those after the message that it finished
-either : (P : Feeding → Type 0) (b : Bool) (x y : Feeding) → P x → P y → P (pick b x y)
-either P true x y p q = p
-either P false x y p q = q
-
 fed-leaves : (P : Settings → Type 0) (s : Station) (host : List ℕ) (room : ℕ)
     → P (s .settings)
     → ((m : Message) → P (settingsAfter (s .settings) m))
@@ -262,10 +260,11 @@ unfolding feedingOf
 fed-leaves P s host room same after =
     let t = taken (s .store) host in
     let m = messageIn (t .store) in
-    either Q (not (valid s)) (refuses 21 s) (fedBy s t room) same
-    (either Q (not (finished (t .store))) (waiting (s .settings) t)
-    (pick (ltb room (length (replyOf (s .settings) m))) (refuses 20 s) (answered (s .settings) t)) same
-    (either Q (ltb room (length (replyOf (s .settings) m))) (refuses 20 s) (answered (s .settings) t) same (after m)))
+    pick-keeps Q (not (valid s)) (refuses 21 s) (fedBy s t room) (λ q. same) λ q.
+    pick-keeps Q (not (finished (t .store))) (waiting (s .settings) t)
+    (pick (ltb room (length (replyOf (s .settings) m))) (refuses 20 s) (answered (s .settings) t)) (λ q. same) λ q.
+    pick-keeps Q (ltb room (length (replyOf (s .settings) m))) (refuses 20 s) (answered (s .settings) t) (λ q. same) λ q.
+    after m
   where
     Q : Feeding → Type 0
     Q x = P (x .fed .station .settings)

@@ -1,6 +1,6 @@
 -- Demand 3. What the box cuts is numbered from 0 on in one form; a reader that has heard a position takes each later packet
 -- within a turn at its own; and a list of numbers leaves one list of positions, which leaves one choice of what was lost.
-use Prim.Native.Nat.{ℕ, zero, suc, _+_, _≤_, _<_}
+use Prim.Native.Nat.{ℕ, _+_, _≤_, _<_}
 use mathlib.Core.Path.{_≡_, refl, sym, ap, subst, _∙_}
 use mathlib.Core.Bool.{true, false}
 use mathlib.Core.List.{List, [], _∷_, map}
@@ -11,7 +11,7 @@ use Rattle.packets.specs.declared.Form.{Form}
 use Rattle.packets.specs.Numbers.{numberAt, numberIn, stepOf}
 use Rattle.station.specs.declared.Station.{Station}
 use Rattle.station.specs.Feeding.{feedingOf}
-use Rattle.cutting.specs.Cutting.{Cutting, formNow, cuttingOf, cutFrom}
+use Rattle.cutting.specs.Cutting.{Cutting, formNow, cuttingOf}
 use Rattle.reader.specs.declared.Reader.{Reader}
 use Rattle.reader.specs.Reading.{sound, heardAt}
 use Rattle.positions.specs.Captures.{Cuts, ends, cuts, feeds, Capture}
@@ -19,7 +19,7 @@ use Rattle.positions.specs.Losses.{Fate, arrives, lost, left, bounded, a
 use Rattle.positions.specs.Demand.{ExactPositions, NoTwoAlike}
 use Rattle.positions.proofs.Steps.{position-is-exact}
 use Rattle.positions.proofs.Packets.{packet-whole, packet-number}
-use Rattle.positions.proofs.Boxes.{Made, cut-is, valid-form, Next, nextOf, feeding-leaves, feeding-starts}
+use Rattle.positions.proofs.Boxes.{cut-is, valid-form, Next, feeding-leaves, feeding-starts}
 use Rattle.positions.proofs.Readings.{At, hasHeard, reads-first, reads-next}
 
 -- the packets of a capture of form f from position n on
@@ -158,7 +158,3 @@ pub no-two-alike : NoTwoAlike
 no-two-alike s packets c fates others la lb a b e =
     same-fates fates others packets 0 la lb
     (same-left (formNow (s .settings)) fates others packets (from-start c) (la ∙ sym lb) a b e)
-
--- The bound is sharp: with 65,535 lost between two, position 65,536 after 0 reads as position 1.
-pub bound-is-sharp : numberAt 65_536 ≡ numberAt 1
-bound-is-sharp = refl

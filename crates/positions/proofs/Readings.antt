@@ -1,20 +1,19 @@
 -- One reading of a packet that the box cut: it is accepted, at its position.
-use Prim.Native.Nat.{ℕ, _+_, _*_, _≤_, _<_}
+use Prim.Native.Nat.{ℕ, _+_, _≤_, _<_}
 use mathlib.Core.Path.{_≡_, refl, sym, ap, _∙_}
-use mathlib.Core.Bool.{Bool, true, false, _&&_, not}
-use mathlib.Core.List.{List, [], _∷_}
+use mathlib.Core.Bool.{true, false, _&&_, not}
+use mathlib.Core.List.{List}
 use native.Mathlib.Omega.{arith}
 use borrow.Author.Tests.{eq-eqb, ne-eqb, le-leb, le-ltb}
-use lib.Dec.{eqb, leb, ltb}
-use Rattle.wire.specs.Choice.{pick, Check, check, firstOf}
+use lib.Dec.{eqb, ltb}
 use Rattle.packets.specs.declared.Form.{Form}
 use Rattle.packets.specs.Forms.{listed, wholeOf, isPacket, sameForm}
 use Rattle.packets.specs.Numbers.{numberAt, numberIn, stepOf, most}
+use Rattle.packets.proofs.Numbers.{number-zero}
 use Rattle.reader.specs.declared.Reader.{Reader}
-use Rattle.reader.specs.declared.Heard.{Heard}
 use Rattle.reader.specs.Reading.{last, sound, positionAfter, readChecks, readCode, readingOf, heardAt}
 use Rattle.positions.proofs.Tests.{clear}
-use Rattle.positions.proofs.Steps.{number-positive, position-is-exact, repeated-is-a-turn}
+use Rattle.positions.proofs.Steps.{position-is-exact, repeated-is-a-turn}
 
 -- the packet at position n of a capture of form f
 pub record At (f : Form) (n : ℕ) (packet : List ℕ) : Type 0 where
@@ -55,7 +54,7 @@ reads-first f packet r a s =
 reads-at : (f : Form) (packet : List ℕ) (m p n : ℕ) → At f p packet → 0 < p → m ≤ last → n ≤ last
     → m + stepOf (numberAt m) (numberAt p) ≡ n → readingOf (hasHeard f m) packet ≡ heardAt n f
 reads-at f packet m p n a above before within there =
-    let later : eqb (numberIn packet) 0 ≡ false = ne-eqb (numberIn packet) 0 (λ z. omega (arith, a .number, number-positive p above)) in
+    let later : eqb (numberIn packet) 0 ≡ false = ne-eqb (numberIn packet) 0 (λ z. omega (arith, number-zero p (sym (a .number) ∙ z))) in
     let leads : positionAfter (hasHeard f m) (numberIn packet) ≡ n = rw (later, a .number) there in
     let same : sameForm (wholeOf packet) f ≡ true = rw (a .form) (sameForm-refl f) in
     accepted (hasHeard f m) packet (rw (le-leb m last before) (a .fine)) (rw (a .form) (a .fine)) (rw later) (rw (later, same)) (rw leads (le-ltb last n within))

@@ -1,35 +1,18 @@
--- What tests that hold together tell.
-use Prim.Native.Nat.{ℕ}
-use mathlib.Core.Path.{_≡_, refl, ap}
-use mathlib.Core.Bool.{Bool, true, false, _&&_, _||_, not}
+-- What tests that hold together tell, and the checks behind an answer of 1.
+use mathlib.Core.Path.{_≡_, refl, sym}
+use mathlib.Core.Bool.{Bool, true, false, _&&_, not}
 use mathlib.Core.List.{List, [], _∷_}
-use native.Mathlib.Omega.{arith}
 use borrow.Author.Tests.{eqb-false, not-true}
 use lib.Dec.{eqb}
-use Rattle.wire.specs.Choice.{pick, Check, firstOf}
+use Rattle.wire.specs.Choice.{Check, firstOf}
+use Rattle.wire.proofs.Laws.{true-not-false, and-left, and-right}
 
 -- no test both holds and fails
 pub never {ℓ} : {X : Type ℓ} → false ≡ true → X
-never e =
-    let z : _≡_ {A = ℕ} 1 0 = ap (λ (b : Bool). pick b 0 1) e in
-    absurd (omega arith)
-
-pub and-left : (a b : Bool) → a && b ≡ true → a ≡ true
-and-left true b e = refl
-and-left false b e = e
-
-pub and-right : (a b : Bool) → a && b ≡ true → b ≡ true
-and-right true b e = e
-and-right false b e = never e
-
--- of three tests that fail together the third fails, where the others hold
-pub third-fails : (a b c : Bool) → a ≡ true → b ≡ true → a && b && c ≡ false → c ≡ false
-third-fails true true c p q e = e
-third-fails true false c p q e = never q
-third-fails false b c p q e = never p
+never e = absurd (true-not-false (sym e))
 
 -- no check of the list has the code 1
-abbrev refusals : List Check → Bool
+abbrev pub refusals : List Check → Bool
 refusals [] = true
 refusals (c ∷ cs) = not (eqb (c .code) 1) && refusals cs
 
