@@ -23,7 +23,7 @@ use Rattle.tuning.specs.Bands.{inBands}
 use Rattle.tuning.specs.Word.{isClock}
 use Rattle.items.specs.declared.Settings.{Settings}
 use Rattle.items.specs.Settings.{isMode, isSize, isGain, allSerial, inRange}
-use Rattle.items.specs.Items.{Item, items, noItem, rowIn, state, stateAfter, runByte, idle}
+use Rattle.items.specs.Items.{Item, items, noItem, rowIn, rowOf, state, stateAfter, runByte, idle}
 use Rattle.items.specs.Answer.{Message, replyOf, codeOf, checks, refusedRunning, settingsAfter, row, parameters, itemIn}
 use Rattle.station.specs.declared.Station.{Station}
 use Rattle.station.specs.Station.{valid}
@@ -143,7 +143,8 @@ state-starts s p r a = go (eqb (runByte p) idle) refl
     go false q = rw (q, r)
 
 -- name, serial, interface, versions and status; state; frequency, gain and clock; rate and packet size, which are locked
-rows-leave : (code : ℕ) → Leaves (rowIn items code)
+rows-leave : (code : ℕ) → Leaves (rowOf code)
+unfolding rowOf
 rows-leave =
     each-row Leaves items (λ s p r l a. refl) (
       λ s p r l a. refl,
@@ -181,7 +182,8 @@ rows-leave =
     )
 
 -- all but the state keep an idle box idle
-rows-start : (code : ℕ) → Starts (rowIn items code)
+rows-start : (code : ℕ) → Starts (rowOf code)
+unfolding rowOf
 rows-start =
     each-row Starts items (λ s p r a. never (sym r ∙ a)) (
       λ s p r a. never (sym r ∙ a),
