@@ -1,1 +1,3 @@
 pub mod Serving
+pub mod Kept
+pub mod Short

@@ -20,6 +20,8 @@ use Rattle.framing.specs.declared.Store.{Store}
 use Rattle.items.specs.declared.Settings.{Settings}
 use Rattle.items.specs.Settings.{inRange}
 use Rattle.items.specs.Answer.{Message, replyOf, settingsAfter}
+use Rattle.station.proofs.Kept.{message-keeps, serial-kept}
+use Rattle.station.proofs.Short.{reply-short}
 use Rattle.station.specs.declared.Station.{Station}
 use Rattle.station.specs.Station.{valid}
 use Rattle.station.specs.Feeding.{messageIn, feedingOf, answered, waiting}
@@ -210,87 +212,83 @@ taking-left n t (b ∷ bs) h f =
         absurd (true-not-false (sym q ∙ ap (λ (j : Taking). finished (j .store)) (sym (e ∙ stops (n + 1) (pushed t b) bs q)) ∙ r))
     go ih k e r false q = rw e (ih (pushed-left t b h q) (rw e at r))
 
-module _
-    (keeps : (s : Settings) (m : Message) → inRange s ≡ true → inRange (settingsAfter s m) ≡ true)
-    (serial-kept : (s : Settings) (m : Message) → settingsAfter s m .serial ≡ s .serial)
-    (short : (s : Settings) (m : Message) → length (s .serial) ≡ 8 → length (replyOf s m) ≤ 64) where
-  calling-eaten : (room calls : ℕ) (s : Settings) (t : Store) (host : List ℕ) → 64 ≤ room → valid (box s t) ≡ true
-      → length (s .serial) ≡ 8 → length host ≤ calls → calling room calls (box s t) host ≡ eaten s t host
-  unfolding calling eaten
-  calling-eaten room zero s t [] r v l h = refl
-  calling-eaten room zero s t (b ∷ bs) r v l h = absurd (not-suc-le-zero h)
-  calling-eaten room (suc calls) s t [] r v l h = refl
-  calling-eaten room (suc calls) s t (b ∷ bs) r v l h =
-      go (λ m rest w e k. calling-eaten room calls (settingsAfter s m) between rest r w e k) (finished (taken t (b ∷ bs) .store)) refl
-    where
-      go : ((m : Message) (rest : List ℕ) → valid (box (settingsAfter s m) between) ≡ true → length (settingsAfter s m .serial) ≡ 8
-          → length rest ≤ calls → calling room calls (box (settingsAfter s m) between) rest ≡ eaten (settingsAfter s m) between rest)
-          → (d : Bool) → finished (taken t (b ∷ bs) .store) ≡ d
-          → noted (feedingOf (box s t) (b ∷ bs) room .bytes)
-          (calling room calls (feedingOf (box s t) (b ∷ bs) room .fed .station)
-          (drop (feedingOf (box s t) (b ∷ bs) room .fed .consumed) (b ∷ bs)))
-          ≡ eaten s t (b ∷ bs)
-      go ih true f =
-          rw (feeding-answered s t (b ∷ bs) room v f (le-trans (short s (messageIn (taken t (b ∷ bs) .store)) l) r))
-          (ap (noted (replyOf s (messageIn (taken t (b ∷ bs) .store))))
-          (ih (messageIn (taken t (b ∷ bs) .store)) (drop (taken t (b ∷ bs) .count) (b ∷ bs))
-          (valid-both _ between (keeps s (messageIn (taken t (b ∷ bs) .store)) (valid-settings s t v)) between-left)
-          (ap length (serial-kept s (messageIn (taken t (b ∷ bs) .store))) ∙ l)
-          (simp length-drop (omega (arith, taking-one 0 t b bs (open-store t (valid-store s t v))))))
-          ∙ sym (after-finished s (taken t (b ∷ bs)) (b ∷ bs) f)
-          ∙ sym (eaten-taking 0 s t (b ∷ bs) (open-store t (valid-store s t v))))
-      go ih false f =
-          rw (feeding-waiting s t (b ∷ bs) room v f)
-          (rest-nil (taken t (b ∷ bs) .count) (taking-all 0 t (b ∷ bs) f)
-          ∙ sym (after-open s (taken t (b ∷ bs)) (b ∷ bs) f)
-          ∙ sym (eaten-taking 0 s t (b ∷ bs) (open-store t (valid-store s t v))))
-        where
-          rest-nil : (k : ℕ) → k ≡ 0 + length (b ∷ bs) → calling room calls (box s (taken t (b ∷ bs) .store)) (drop k (b ∷ bs)) ≡ unserved (box s (taken t (b ∷ bs) .store))
-          rest-nil k e = rw (drop-of-length-le (b ∷ bs) {i = k} (omega arith)) (calling-nil room calls _)
+calling-eaten : (room calls : ℕ) (s : Settings) (t : Store) (host : List ℕ) → 64 ≤ room → valid (box s t) ≡ true
+    → length (s .serial) ≡ 8 → length host ≤ calls → calling room calls (box s t) host ≡ eaten s t host
+unfolding calling eaten
+calling-eaten room zero s t [] r v l h = refl
+calling-eaten room zero s t (b ∷ bs) r v l h = absurd (not-suc-le-zero h)
+calling-eaten room (suc calls) s t [] r v l h = refl
+calling-eaten room (suc calls) s t (b ∷ bs) r v l h =
+    go (λ m rest w e k. calling-eaten room calls (settingsAfter s m) between rest r w e k) (finished (taken t (b ∷ bs) .store)) refl
+  where
+    go : ((m : Message) (rest : List ℕ) → valid (box (settingsAfter s m) between) ≡ true → length (settingsAfter s m .serial) ≡ 8
+        → length rest ≤ calls → calling room calls (box (settingsAfter s m) between) rest ≡ eaten (settingsAfter s m) between rest)
+        → (d : Bool) → finished (taken t (b ∷ bs) .store) ≡ d
+        → noted (feedingOf (box s t) (b ∷ bs) room .bytes)
+        (calling room calls (feedingOf (box s t) (b ∷ bs) room .fed .station)
+        (drop (feedingOf (box s t) (b ∷ bs) room .fed .consumed) (b ∷ bs)))
+        ≡ eaten s t (b ∷ bs)
+    go ih true f =
+        rw (feeding-answered s t (b ∷ bs) room v f (le-trans (reply-short s (messageIn (taken t (b ∷ bs) .store)) l) r))
+        (ap (noted (replyOf s (messageIn (taken t (b ∷ bs) .store))))
+        (ih (messageIn (taken t (b ∷ bs) .store)) (drop (taken t (b ∷ bs) .count) (b ∷ bs))
+        (valid-both _ between (message-keeps s (messageIn (taken t (b ∷ bs) .store)) (valid-settings s t v)) between-left)
+        (ap length (serial-kept s (messageIn (taken t (b ∷ bs) .store))) ∙ l)
+        (simp length-drop (omega (arith, taking-one 0 t b bs (open-store t (valid-store s t v))))))
+        ∙ sym (after-finished s (taken t (b ∷ bs)) (b ∷ bs) f)
+        ∙ sym (eaten-taking 0 s t (b ∷ bs) (open-store t (valid-store s t v))))
+    go ih false f =
+        rw (feeding-waiting s t (b ∷ bs) room v f)
+        (rest-nil (taken t (b ∷ bs) .count) (taking-all 0 t (b ∷ bs) f)
+        ∙ sym (after-open s (taken t (b ∷ bs)) (b ∷ bs) f)
+        ∙ sym (eaten-taking 0 s t (b ∷ bs) (open-store t (valid-store s t v))))
+      where
+        rest-nil : (k : ℕ) → k ≡ 0 + length (b ∷ bs) → calling room calls (box s (taken t (b ∷ bs) .store)) (drop k (b ∷ bs)) ≡ unserved (box s (taken t (b ∷ bs) .store))
+        rest-nil k e = rw (drop-of-length-le (b ∷ bs) {i = k} (omega arith)) (calling-nil room calls _)
 
-  -- what is eaten leaves a valid box, with the serial it had
-  eaten-valid : (s : Settings) (t : Store) (host : List ℕ) → valid (box s t) ≡ true → valid (eaten s t host .station) ≡ true
-  unfolding eaten
-  eaten-valid s t [] v = v
-  eaten-valid s t (b ∷ bs) v =
-      go (λ m w. eaten-valid (settingsAfter s m) between bs w) (λ w. eaten-valid s (pushed t b) bs w) (finished (pushed t b)) refl
-    where
-      go : ((m : Message) → valid (box (settingsAfter s m) between) ≡ true → valid (eaten (settingsAfter s m) between bs .station) ≡ true)
-          → (valid (box s (pushed t b)) ≡ true → valid (eaten s (pushed t b) bs .station) ≡ true)
-          → (d : Bool) → finished (pushed t b) ≡ d
-          → valid (pick d (noted (replyOf s (messageIn (pushed t b))) (eaten (settingsAfter s (messageIn (pushed t b))) between bs))
-          (eaten s (pushed t b) bs) .station) ≡ true
-      go done still true q = done _ (valid-both _ between (keeps s _ (valid-settings s t v)) between-left)
-      go done still false q = still (valid-both s _ (valid-settings s t v) (pushed-left t b (valid-store s t v) q))
+-- what is eaten leaves a valid box, with the serial it had
+eaten-valid : (s : Settings) (t : Store) (host : List ℕ) → valid (box s t) ≡ true → valid (eaten s t host .station) ≡ true
+unfolding eaten
+eaten-valid s t [] v = v
+eaten-valid s t (b ∷ bs) v =
+    go (λ m w. eaten-valid (settingsAfter s m) between bs w) (λ w. eaten-valid s (pushed t b) bs w) (finished (pushed t b)) refl
+  where
+    go : ((m : Message) → valid (box (settingsAfter s m) between) ≡ true → valid (eaten (settingsAfter s m) between bs .station) ≡ true)
+        → (valid (box s (pushed t b)) ≡ true → valid (eaten s (pushed t b) bs .station) ≡ true)
+        → (d : Bool) → finished (pushed t b) ≡ d
+        → valid (pick d (noted (replyOf s (messageIn (pushed t b))) (eaten (settingsAfter s (messageIn (pushed t b))) between bs))
+        (eaten s (pushed t b) bs) .station) ≡ true
+    go done still true q = done _ (valid-both _ between (message-keeps s _ (valid-settings s t v)) between-left)
+    go done still false q = still (valid-both s _ (valid-settings s t v) (pushed-left t b (valid-store s t v) q))
 
-  eaten-serial : (s : Settings) (t : Store) (host : List ℕ) → eaten s t host .station .settings .serial ≡ s .serial
-  unfolding eaten
-  eaten-serial s t [] = refl
-  eaten-serial s t (b ∷ bs) = go (finished (pushed t b)) (eaten-serial _ between bs) (eaten-serial s (pushed t b) bs)
-    where
-      go : (d : Bool)
-          → eaten (settingsAfter s (messageIn (pushed t b))) between bs .station .settings .serial ≡ settingsAfter s (messageIn (pushed t b)) .serial
-          → eaten s (pushed t b) bs .station .settings .serial ≡ s .serial
-          → pick d (noted (replyOf s (messageIn (pushed t b))) (eaten (settingsAfter s (messageIn (pushed t b))) between bs))
-          (eaten s (pushed t b) bs) .station .settings .serial ≡ s .serial
-      go true done still = done ∙ serial-kept s _
-      go false done still = still
+eaten-serial : (s : Settings) (t : Store) (host : List ℕ) → eaten s t host .station .settings .serial ≡ s .serial
+unfolding eaten
+eaten-serial s t [] = refl
+eaten-serial s t (b ∷ bs) = go (finished (pushed t b)) (eaten-serial _ between bs) (eaten-serial s (pushed t b) bs)
+  where
+    go : (d : Bool)
+        → eaten (settingsAfter s (messageIn (pushed t b))) between bs .station .settings .serial ≡ settingsAfter s (messageIn (pushed t b)) .serial
+        → eaten s (pushed t b) bs .station .settings .serial ≡ s .serial
+        → pick d (noted (replyOf s (messageIn (pushed t b))) (eaten (settingsAfter s (messageIn (pushed t b))) between bs))
+        (eaten s (pushed t b) bs) .station .settings .serial ≡ s .serial
+    go true done still = done ∙ serial-kept s _
+    go false done still = still
 
-  serving-eaten : (s : Settings) (t : Store) (ps : List Piece) → roomy ps → valid (box s t) ≡ true → length (s .serial) ≡ 8
-      → serving (box s t) ps ≡ eaten s t (joined ps)
-  unfolding serving
-  serving-eaten s t [] r v l = eaten-nil s t
-  serving-eaten s t (p ∷ ps) r v l =
-      let e : handed (box s t) p ≡ eaten s t (p .host) = calling-eaten (p .room) (length (p .host)) s t (p .host) (r .0) v l (le-refl _) in
-      rw e
-      (ap (followed (eaten s t (p .host)))
-      (serving-eaten (eaten s t (p .host) .station .settings) (eaten s t (p .host) .station .store) ps (r .1) (eaten-valid s t (p .host) v)
-      (ap length (eaten-serial s t (p .host)) ∙ l))
-      ∙ sym (eaten-append s t (p .host) (joined ps)))
+serving-eaten : (s : Settings) (t : Store) (ps : List Piece) → roomy ps → valid (box s t) ≡ true → length (s .serial) ≡ 8
+    → serving (box s t) ps ≡ eaten s t (joined ps)
+unfolding serving
+serving-eaten s t [] r v l = eaten-nil s t
+serving-eaten s t (p ∷ ps) r v l =
+    let e : handed (box s t) p ≡ eaten s t (p .host) = calling-eaten (p .room) (length (p .host)) s t (p .host) (r .0) v l (le-refl _) in
+    rw e
+    (ap (followed (eaten s t (p .host)))
+    (serving-eaten (eaten s t (p .host) .station .settings) (eaten s t (p .host) .station .store) ps (r .1) (eaten-valid s t (p .host) v)
+    (ap length (eaten-serial s t (p .host)) ∙ l))
+    ∙ sym (eaten-append s t (p .host) (joined ps)))
 
-  pub cuts-do-not-matter : (s : Station) (ps qs : List Piece) → valid s ≡ true → Whole s → roomy ps → roomy qs → joined ps ≡ joined qs
-      → serving s ps ≡ serving s qs
-  cuts-do-not-matter s ps qs v w rp rq e =
-      serving-eaten (s .settings) (s .store) ps rp v (w .serial)
-      ∙ ap (eaten (s .settings) (s .store)) e
-      ∙ sym (serving-eaten (s .settings) (s .store) qs rq v (w .serial))
+pub cuts-do-not-matter : (s : Station) (ps qs : List Piece) → valid s ≡ true → Whole s → roomy ps → roomy qs → joined ps ≡ joined qs
+    → serving s ps ≡ serving s qs
+cuts-do-not-matter s ps qs v w rp rq e =
+    serving-eaten (s .settings) (s .store) ps rp v (w .serial)
+    ∙ ap (eaten (s .settings) (s .store)) e
+    ∙ sym (serving-eaten (s .settings) (s .store) qs rq v (w .serial))

@@ -1,0 +1,297 @@
+-- No message takes a setting out of its range, and a message that is not an accepted set leaves every setting.
+-- Assumes nothing.
+use Prim.Native.Nat.{ℕ, zero, suc, _+_, _*_, _≤_}
+use native.Mathlib.Nat.{le-refl, le-trans}
+use native.Mathlib.Omega.{arith}
+use mathlib.Core.Path.{_≡_, refl, sym, ap, _∙_}
+use mathlib.Core.Bool.{Bool, true, false, _&&_, _||_}
+use mathlib.Core.List.{List, [], _∷_}
+use lib.Dec.{eqb, leb, ltb}
+use lib.ListN.{getD, length}
+use borrow.Author.Tests.{le-leb, ne-eqb, eqb-true, not-false}
+use Rattle.wire.specs.Choice.{pick, Check, check, firstOf}
+use Rattle.wire.specs.Number.{field}
+use Rattle.wire.proofs.Laws.{and-left, and-right, and-not-left, is-within}
+use Rattle.rates.specs.Rate.{isD, miss, nearerOf, nearestUpTo, nearestOf}
+use Rattle.tuning.specs.Bands.{inBands}
+use Rattle.tuning.specs.Word.{isClock}
+use Rattle.packets.specs.Numbers.{most}
+use Rattle.items.specs.declared.Settings.{Settings}
+use Rattle.items.specs.Settings.{inRange, isMode, isGain, isSize, allSerial, withRunning, withCount, withMode}
+use Rattle.items.specs.Items.{Item, items, frequency, gain, clock, rate, packetSize, state, noItem, rowIn, rowOf, stateAfter, mayState, runByte, modeByte, idle, run}
+use Rattle.wire.specs.Header.{typeSet}
+use Rattle.items.specs.Answer.{Message, itemIn, checks, valueAllowed, codeOf, settingsAfter, row, parameters}
+
+-- every setting lies within its range, one by one
+record Ranges (s : Settings) : Type 0 where
+  frequency : inBands (s .frequency) ≡ true
+  count : leb (s .count) most ≡ true
+  clock : isClock (s .clock) ≡ true
+  divisor : isD (s .divisor) ≡ true
+  mode : isMode (s .mode) ≡ true
+  gain : isGain (s .gain) ≡ true
+  size : isSize (s .size) ≡ true
+  serial : allSerial (s .serial) ≡ true
+
+-- eight tests that all hold, one by one
+eight : (a b c d e f g h : Bool) → (a && b && c && d && e && f && g && h) ≡ true
+    → (a ≡ true) × (b ≡ true) × (c ≡ true) × (d ≡ true) × (e ≡ true) × (f ≡ true) × (g ≡ true) × (h ≡ true)
+eight a b c d e f g h t =
+    let t6 = and-left (a && b && c && d && e && f && g) h t in
+    let t5 = and-left (a && b && c && d && e && f) g t6 in
+    let t4 = and-left (a && b && c && d && e) f t5 in
+    let t3 = and-left (a && b && c && d) e t4 in
+    let t2 = and-left (a && b && c) d t3 in
+    let t1 = and-left (a && b) c t2 in (
+      and-left a b t1,
+      and-right a b t1,
+      and-right (a && b) c t2,
+      and-right (a && b && c) d t3,
+      and-right (a && b && c && d) e t4,
+      and-right (a && b && c && d && e) f t5,
+      and-right (a && b && c && d && e && f) g t6,
+      and-right (a && b && c && d && e && f && g) h t,
+    )
+
+ranges : (s : Settings) → inRange s ≡ true → Ranges s
+unfolding inRange
+ranges s h =
+    let t =
+    eight (inBands (s .frequency)) (leb (s .count) most) (isClock (s .clock)) (isD (s .divisor)) (isMode (s .mode)) (isGain (s .gain))
+    (isSize (s .size)) (allSerial (s .serial)) h in
+    record
+    { frequency = t .0; count = t .1; clock = t .2; divisor = t .3; mode = t .4; gain = t .5; size = t .6; serial = t .7 }
+
+in-range : (s : Settings) → Ranges s → inRange s ≡ true
+unfolding inRange
+in-range s r = rw (r .frequency, r .count, r .clock, r .divisor, r .mode, r .gain, r .size, r .serial)
+
+-- ---- the nearest D is a D
+
+nearer-between : (low high rate d e : ℕ) → low ≤ d → d ≤ high → low ≤ e → e ≤ high → (low ≤ nearerOf rate d e) × (nearerOf rate d e ≤ high)
+nearer-between low high rate d e p q r s = go (ltb (miss rate e * d) (miss rate d * e))
+  where
+    go : (t : Bool) → (low ≤ pick t e d) × (pick t e d ≤ high)
+    go true = (r, s)
+    go false = (p, q)
+
+nearest-between : (rate n : ℕ) → (10 ≤ nearestUpTo rate n) × (nearestUpTo rate n ≤ 10 + n)
+unfolding nearestUpTo
+nearest-between rate zero = (le-refl 10, le-refl 10)
+nearest-between rate (suc n) =
+    let h = nearest-between rate n in
+    nearer-between 10 (10 + suc n) rate (nearestUpTo rate n) (11 + n) (h .0) (omega (arith, h .1)) (omega arith) (omega arith)
+
+nearest-isD : (rate : ℕ) → isD (nearestOf rate) ≡ true
+nearest-isD rate = is-within 10 625 (nearestOf rate) (nearest-between rate 615 .0) (nearest-between rate 615 .1)
+
+-- ---- an item keeps every setting in its range
+
+abbrev Keeps : Item → Type 0
+Keeps i = (s : Settings) (p : List ℕ) → Ranges s → i .settable p ≡ true → Ranges (i .stored s p)
+
+state-keeps : (s : Settings) (p : List ℕ) → Ranges s → mayState p ≡ true → Ranges (stateAfter s p)
+state-keeps s p r h = go (eqb (runByte p) idle) (s .running) (eqb (runByte p) run) (eqb (getD p 0 0) 0x80) (isMode (modeByte p)) refl h
+  where
+    go : (i w n e m : Bool) → isMode (modeByte p) ≡ m → (i || (n && e && m)) ≡ true
+        → Ranges (pick i (withRunning false s) (pick w s (withCount 0 (withMode (modeByte p) (withRunning true s)))))
+    go true w n e m q t = record { frequency = r .frequency; count = r .count; clock = r .clock; divisor = r .divisor; mode = r .mode; gain = r .gain; size = r .size; serial = r .serial }
+    go false true n e m q t = r
+    go false false n e m q t = record { frequency = r .frequency; count = refl; clock = r .clock; divisor = r .divisor; mode = q ∙ and-right (n && e) m t; gain = r .gain; size = r .size; serial = r .serial }
+
+frequency-keeps : Keeps frequency
+frequency-keeps s p r h = record { frequency = h; count = r .count; clock = r .clock; divisor = r .divisor; mode = r .mode; gain = r .gain; size = r .size; serial = r .serial }
+
+gain-keeps : Keeps gain
+gain-keeps s p r h = record { frequency = r .frequency; count = r .count; clock = r .clock; divisor = r .divisor; mode = r .mode; gain = h; size = r .size; serial = r .serial }
+
+clock-keeps : Keeps clock
+clock-keeps s p r h = record { frequency = r .frequency; count = r .count; clock = h; divisor = r .divisor; mode = r .mode; gain = r .gain; size = r .size; serial = r .serial }
+
+size-keeps : Keeps packetSize
+size-keeps s p r h = record { frequency = r .frequency; count = r .count; clock = r .clock; divisor = r .divisor; mode = r .mode; gain = r .gain; size = h; serial = r .serial }
+
+rate-keeps : Keeps rate
+rate-keeps s p r h = record { frequency = r .frequency; count = r .count; clock = r .clock; divisor = nearest-isD (field 1 4 p); mode = r .mode; gain = r .gain; size = r .size; serial = r .serial }
+
+-- what holds of each line of a table, and of no item, holds of the line that is looked up
+abbrev pub allHave : (Item → Type 0) → List Item → Type 0
+allHave P [] = Unit {0}
+allHave P (i ∷ is) = P i × allHave P is
+
+pub row-has : (P : Item → Type 0) → P noItem → (is : List Item) (code : ℕ) → allHave P is → P (rowIn is code)
+row-has P none [] code h = none
+row-has P none (i ∷ is) code h = go (eqb code (i .code)) (row-has P none is code (h .1))
+  where
+    go : (b : Bool) → P (rowIn is code) → P (pick b i (rowIn is code))
+    go true rest = h .0
+    go false rest = rest
+
+pub found : (P : Item → Type 0) → P noItem → allHave P items → (code : ℕ) → P (rowOf code)
+unfolding rowOf
+found P none h code = row-has P none items code h
+
+stays : (s : Settings) (p : List ℕ) → Ranges s → true ≡ true → Ranges s
+stays s p r t = r
+
+items-keep : allHave Keeps items
+items-keep = (
+  stays,
+  (
+    stays,
+    (
+      stays,
+      (
+        stays,
+        (
+          stays,
+          (
+            state-keeps,
+            (
+              frequency-keeps,
+              (
+                gain-keeps,
+                (
+                  clock-keeps,
+                  (
+                    rate-keeps,
+                    (size-keeps, tt),
+                  ),
+                ),
+              ),
+            ),
+          ),
+        ),
+      ),
+    ),
+  ),
+)
+
+-- ---- an accepted message passed every check
+
+abbrev pub allFail : List Check → Type 0
+allFail [] = Unit {0}
+allFail (c ∷ cs) = (c .holds ≡ false) × allFail cs
+
+abbrev pub otherThan : ℕ → List Check → Type 0
+otherThan n [] = Unit {0}
+otherThan n (c ∷ cs) = (c .code ≡ n → ⊥) × otherThan n cs
+
+pub accepted : (cs : List Check) (n : ℕ) → otherThan n cs → firstOf cs n ≡ n → allFail cs
+accepted [] n o h = tt
+accepted (c ∷ cs) n o h = go (λ e. accepted cs n (o .1) e) (c .holds) refl h
+  where
+    go : (firstOf cs n ≡ n → allFail cs) → (b : Bool) → c .holds ≡ b → pick b (c .code) (firstOf cs n) ≡ n
+        → (c .holds ≡ false) × allFail cs
+    go rest true q e = absurd (o .0 e)
+    go rest false q e = (q, rest e)
+
+pub refusals : (s : Settings) (m : Message) → otherThan 1 (checks s m)
+refusals s m = (
+  (λ e. omega arith),
+  (
+    (λ e. omega arith),
+    (
+      (λ e. omega arith),
+      (
+        (λ e. omega arith),
+        (
+          (λ e. omega arith),
+          (
+            (λ e. omega arith),
+            ((λ e. omega arith), ((λ e. omega arith), ((λ e. omega arith), tt))),
+          ),
+        ),
+      ),
+    ),
+  ),
+)
+
+-- an accepted set has a value that is allowed
+settable-if : (s : Settings) (m : Message) → codeOf s m ≡ 1 → eqb (m .type) typeSet ≡ true → row m .settable (parameters m) ≡ true
+unfolding codeOf
+settable-if s m h t =
+    let passed = accepted (checks s m) 1 (refusals s m) h in
+    let value : valueAllowed (row m) (m .type) (parameters m) ≡ true = not-false _ (passed .1 .1 .1 .1 .1 .1 .1 .0) in
+    rw t at value
+
+-- ---- what a message does to the settings
+
+-- a message that is no accepted set leaves every setting
+pub left-alone : (s : Settings) (m : Message) → (eqb (codeOf s m) 1 && eqb (m .type) typeSet) ≡ false → settingsAfter s m ≡ s
+unfolding settingsAfter
+left-alone s m h = rw h
+
+accepted-set : (s : Settings) (m : Message) → (eqb (codeOf s m) 1 && eqb (m .type) typeSet) ≡ true
+    → settingsAfter s m ≡ row m .stored s (parameters m)
+unfolding settingsAfter
+accepted-set s m h = rw h
+
+-- "A message the box will not obey .. touches no setting."
+pub refused-leaves : (s : Settings) (m : Message) → (codeOf s m ≡ 1 → ⊥) → settingsAfter s m ≡ s
+refused-leaves s m h = left-alone s m (and-not-left (eqb (codeOf s m) 1) (eqb (m .type) typeSet) (ne-eqb (codeOf s m) 1 h))
+
+-- "No setting of a box started fresh ever leaves its range": no message takes one out of it
+pub message-keeps : (s : Settings) (m : Message) → inRange s ≡ true → inRange (settingsAfter s m) ≡ true
+message-keeps s m h = go (eqb (codeOf s m) 1 && eqb (m .type) typeSet) refl
+  where
+    go : (b : Bool) → (eqb (codeOf s m) 1 && eqb (m .type) typeSet) ≡ b → inRange (settingsAfter s m) ≡ true
+    go true q =
+        rw (accepted-set s m q)
+        (in-range _
+        (found Keeps stays items-keep (itemIn m) s (parameters m) (ranges s h)
+        (settable-if s m (eqb-true (codeOf s m) 1 (and-left (eqb (codeOf s m) 1) (eqb (m .type) typeSet) q))
+        (and-right (eqb (codeOf s m) 1) (eqb (m .type) typeSet) q))))
+    go false q = rw (left-alone s m q) h
+
+-- no message changes the serial
+abbrev SerialStays : Item → Type 0
+SerialStays i = (s : Settings) (p : List ℕ) → i .stored s p .serial ≡ s .serial
+
+state-serial : SerialStays state
+state-serial s p = go (eqb (runByte p) idle) (s .running)
+  where
+    go : (i w : Bool) → pick i (withRunning false s) (pick w s (withCount 0 (withMode (modeByte p) (withRunning true s)))) .serial ≡ s .serial
+    go true w = refl
+    go false true = refl
+    go false false = refl
+
+same-serial : (s : Settings) (p : List ℕ) → s .serial ≡ s .serial
+same-serial s p = refl
+
+pub serial-kept : (s : Settings) (m : Message) → settingsAfter s m .serial ≡ s .serial
+serial-kept s m = go (eqb (codeOf s m) 1 && eqb (m .type) typeSet) refl
+  where
+    rows : allHave SerialStays items
+    rows = (
+      same-serial,
+      (
+        same-serial,
+        (
+          same-serial,
+          (
+            same-serial,
+            (
+              same-serial,
+              (
+                state-serial,
+                (
+                  same-serial,
+                  (
+                    same-serial,
+                    (
+                      same-serial,
+                      (same-serial, (same-serial, tt)),
+                    ),
+                  ),
+                ),
+              ),
+            ),
+          ),
+        ),
+      ),
+    )
+
+    go : (b : Bool) → (eqb (codeOf s m) 1 && eqb (m .type) typeSet) ≡ b → settingsAfter s m .serial ≡ s .serial
+    go true q = rw (accepted-set s m q) (found SerialStays same-serial rows (itemIn m) s (parameters m))
+    go false q = rw (left-alone s m q)

@@ -1,0 +1,88 @@
+-- A reply has at most 64 bytes, whatever the message.
+-- Assumes nothing.
+use Prim.Native.Nat.{ℕ, zero, suc, _+_, _≤_, min}
+use native.Mathlib.Nat.{le-refl, le-trans}
+use native.Mathlib.Omega.{arith}
+use mathlib.Core.Path.{_≡_, refl, sym, ap, _∙_}
+use mathlib.Core.Bool.{Bool, true, false}
+use mathlib.Core.List.{List, [], _∷_, _++_}
+use lib.Dec.{eqb, lit≤}
+use lib.ListN.{length, getD, take, length-append, length-take}
+use Rattle.wire.specs.Choice.{pick}
+use Rattle.wire.specs.Number.{bytes}
+use Rattle.wire.specs.Header.{headerOf, nak, typeRange, typeReply, typeRangeReply}
+use Rattle.tuning.specs.Bands.{bands, rangeBytes}
+use Rattle.items.specs.declared.Settings.{Settings}
+use Rattle.items.specs.Items.{Item, items, rowOf, versionTable}
+use Rattle.items.specs.Answer.{Message, itemIn, codeOf, settingsAfter, row, parameters, replyBody, rangeBody, framed, replyTo, replyOf}
+use Rattle.station.proofs.Kept.{allHave, found, serial-kept}
+
+-- an item's value and what it echoes are short
+abbrev Small : Item → Type 0
+Small i = (i .echoed ≤ 1) × ((s : Settings) (p : List ℕ) → length (s .serial) ≡ 8 → length (i .value s p) ≤ 9)
+
+version-small : (k : ℕ) → length (getD versionTable k []) ≤ 9
+version-small zero = lit≤ tt
+version-small (suc zero) = lit≤ tt
+version-small (suc (suc zero)) = lit≤ tt
+version-small (suc (suc (suc zero))) = lit≤ tt
+version-small (suc (suc (suc (suc k)))) = lit≤ tt
+
+serial-small : (s : Settings) → length (s .serial) ≡ 8 → length (s .serial ++ 0x00 ∷ []) ≤ 9
+serial-small s h = simp length-append (omega arith)
+
+all-small : allHave Small items
+all-small = (
+  (lit≤ tt, λ s p l. lit≤ tt),
+  (
+    (lit≤ tt, λ s p l. serial-small s l),
+    (
+      (lit≤ tt, λ s p l. lit≤ tt),
+      (
+        (lit≤ tt, λ s p l. version-small (getD p 0 0)),
+        (
+          (lit≤ tt, λ s p l. lit≤ tt),
+          (
+            (lit≤ tt, λ s p l. lit≤ tt),
+            (
+              (lit≤ tt, λ s p l. lit≤ tt),
+              (
+                (lit≤ tt, λ s p l. lit≤ tt),
+                (
+                  (lit≤ tt, λ s p l. lit≤ tt),
+                  (
+                    (lit≤ tt, λ s p l. lit≤ tt),
+                    ((lit≤ tt, λ s p l. lit≤ tt), tt),
+                  ),
+                ),
+              ),
+            ),
+          ),
+        ),
+      ),
+    ),
+  ),
+)
+
+row-small : (code : ℕ) → Small (rowOf code)
+row-small code = found Small (lit≤ tt, λ s p l. lit≤ tt) all-small code
+
+echo-small : (n : ℕ) (p : List ℕ) → n ≤ 1 → length (take n p) ≤ 1
+echo-small n p h = rw length-take (omega arith)
+
+reply-small : (i : Item) (kind : ℕ) (s : Settings) (p : List ℕ) → Small i → length (s .serial) ≡ 8 → length (replyTo i kind s p) ≤ 64
+reply-small i kind s p h l = go (eqb kind typeRange)
+  where
+    go : (b : Bool) → length (pick b (framed typeRangeReply (rangeBody i p)) (framed typeReply (replyBody i s p))) ≤ 64
+    go true = simp length-append (omega (arith, echo-small 1 p (le-refl 1)))
+    go false = simp length-append (omega (arith, echo-small (i .echoed) p (h .0), h .1 s p l))
+
+pub reply-short : (s : Settings) (m : Message) → length (s .serial) ≡ 8 → length (replyOf s m) ≤ 64
+unfolding replyOf
+reply-short s m l = go (eqb (codeOf s m) 1) (eqb (codeOf s m) 2)
+  where
+    go : (a b : Bool) → length (pick a (replyTo (row m) (m .type) (settingsAfter s m) (parameters m)) (pick b [] nak)) ≤ 64
+    go true b =
+        reply-small (row m) (m .type) (settingsAfter s m) (parameters m) (row-small (itemIn m)) (ap length (serial-kept s m) ∙ l)
+    go false true = lit≤ tt
+    go false false = lit≤ tt
