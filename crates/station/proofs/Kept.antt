@@ -23,15 +23,15 @@ use Rattle.wire.specs.Header.{typeSet}
 use Rattle.items.specs.Answer.{Message, itemIn, checks, valueAllowed, codeOf, settingsAfter, row, parameters}
 
 -- every setting lies within its range, one by one
-record Ranges (s : Settings) : Type 0 where
-  frequency : inBands (s .frequency) ≡ true
-  count : leb (s .count) most ≡ true
-  clock : isClock (s .clock) ≡ true
-  divisor : isD (s .divisor) ≡ true
-  mode : isMode (s .mode) ≡ true
-  gain : isGain (s .gain) ≡ true
-  size : isSize (s .size) ≡ true
-  serial : allSerial (s .serial) ≡ true
+pub record Ranges (s : Settings) : Type 0 where
+  pub frequency : inBands (s .frequency) ≡ true
+  pub count : leb (s .count) most ≡ true
+  pub clock : isClock (s .clock) ≡ true
+  pub divisor : isD (s .divisor) ≡ true
+  pub mode : isMode (s .mode) ≡ true
+  pub gain : isGain (s .gain) ≡ true
+  pub size : isSize (s .size) ≡ true
+  pub serial : allSerial (s .serial) ≡ true
 
 -- eight tests that all hold, one by one
 eight : (a b c d e f g h : Bool) → (a && b && c && d && e && f && g && h) ≡ true
@@ -53,7 +53,7 @@ eight a b c d e f g h t =
       and-right (a && b && c && d && e && f && g) h t,
     )
 
-ranges : (s : Settings) → inRange s ≡ true → Ranges s
+pub ranges : (s : Settings) → inRange s ≡ true → Ranges s
 unfolding inRange
 ranges s h =
     let t =
@@ -62,7 +62,7 @@ ranges s h =
     record
     { frequency = t .0; count = t .1; clock = t .2; divisor = t .3; mode = t .4; gain = t .5; size = t .6; serial = t .7 }
 
-in-range : (s : Settings) → Ranges s → inRange s ≡ true
+pub in-range : (s : Settings) → Ranges s → inRange s ≡ true
 unfolding inRange
 in-range s r = rw (r .frequency, r .count, r .clock, r .divisor, r .mode, r .gain, r .size, r .serial)
 

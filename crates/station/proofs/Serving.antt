@@ -27,7 +27,7 @@ use Rattle.station.specs.Station.{valid}
 use Rattle.station.specs.Feeding.{messageIn, feedingOf, answered, waiting}
 use Rattle.station.specs.Serving.{Served, unserved, noting, noted, calling, Piece, handed, followed, serving, joined, roomy, Whole}
 
-abbrev box : Settings → Store → Station
+abbrev pub box : Settings → Store → Station
 box s t = record { settings = s; store = t }
 
 -- the box taken byte by byte
@@ -143,29 +143,29 @@ unfolding calling
 calling-nil room zero s = refl
 calling-nil room (suc calls) s = refl
 
-open-store : (t : Store) → couldBeLeft t ≡ true → finished t ≡ false
+pub open-store : (t : Store) → couldBeLeft t ≡ true → finished t ≡ false
 unfolding couldBeLeft
 open-store t h = not-true (finished t) (and-right (zeros (drop (t .taken) (t .held))) (not (finished t)) h)
 
-valid-settings : (s : Settings) (t : Store) → valid (box s t) ≡ true → inRange s ≡ true
+pub valid-settings : (s : Settings) (t : Store) → valid (box s t) ≡ true → inRange s ≡ true
 unfolding valid
 valid-settings s t h = and-left (inRange s) (couldBeLeft t) h
 
-valid-store : (s : Settings) (t : Store) → valid (box s t) ≡ true → couldBeLeft t ≡ true
+pub valid-store : (s : Settings) (t : Store) → valid (box s t) ≡ true → couldBeLeft t ≡ true
 unfolding valid
 valid-store s t h = and-right (inRange s) (couldBeLeft t) h
 
-valid-both : (s : Settings) (t : Store) → inRange s ≡ true → couldBeLeft t ≡ true → valid (box s t) ≡ true
+pub valid-both : (s : Settings) (t : Store) → inRange s ≡ true → couldBeLeft t ≡ true → valid (box s t) ≡ true
 unfolding valid
 valid-both s t p q = and-both (inRange s) (couldBeLeft t) p q
 
-feeding-answered : (s : Settings) (t : Store) (host : List ℕ) (room : ℕ) → valid (box s t) ≡ true
+pub feeding-answered : (s : Settings) (t : Store) (host : List ℕ) (room : ℕ) → valid (box s t) ≡ true
     → finished (taken t host .store) ≡ true → length (replyOf s (messageIn (taken t host .store))) ≤ room
     → feedingOf (box s t) host room ≡ answered s (taken t host)
 unfolding feedingOf
 feeding-answered s t host room v f r = rw (v, f, le-ltb room (length (replyOf s (messageIn (taken t host .store)))) r)
 
-feeding-waiting : (s : Settings) (t : Store) (host : List ℕ) (room : ℕ) → valid (box s t) ≡ true
+pub feeding-waiting : (s : Settings) (t : Store) (host : List ℕ) (room : ℕ) → valid (box s t) ≡ true
     → finished (taken t host .store) ≡ false → feedingOf (box s t) host room ≡ waiting s (taken t host)
 unfolding feedingOf
 feeding-waiting s t host room v f = rw (v, f)
@@ -179,7 +179,7 @@ after-open : (s : Settings) (t : Taking) (host : List ℕ) → finished (t .stor
     → after s t (drop (t .count - 0) host) ≡ unserved (box s (t .store))
 after-open s t host f = rw f
 
-between-left : couldBeLeft between ≡ true
+pub between-left : couldBeLeft between ≡ true
 unfolding couldBeLeft
 between-left = refl
 
@@ -191,14 +191,14 @@ zeros-further zero (b ∷ bs) h = and-right (eqb b 0) (zeros bs) h
 zeros-further (suc n) [] h = refl
 zeros-further (suc n) (b ∷ bs) h = zeros-further n bs h
 
-pushed-left : (t : Store) (b : ℕ) → couldBeLeft t ≡ true → finished (pushed t b) ≡ false → couldBeLeft (pushed t b) ≡ true
+pub pushed-left : (t : Store) (b : ℕ) → couldBeLeft t ≡ true → finished (pushed t b) ≡ false → couldBeLeft (pushed t b) ≡ true
 unfolding couldBeLeft
 pushed-left t b h f =
     let z : zeros (drop (suc (t .taken)) (t .held)) ≡ true =
     zeros-further (t .taken) (t .held) (and-left (zeros (drop (t .taken) (t .held))) (not (finished t)) h) in
     rw (f, add-one, drop-set-lt (suc (t .taken)) (t .held) (t .taken) b (le-refl (suc (t .taken))), z)
 
-taking-left : (n : ℕ) (t : Store) (host : List ℕ) → couldBeLeft t ≡ true → finished (taking n t host .store) ≡ false
+pub taking-left : (n : ℕ) (t : Store) (host : List ℕ) → couldBeLeft t ≡ true → finished (taking n t host .store) ≡ false
     → couldBeLeft (taking n t host .store) ≡ true
 taking-left n t [] h f = rw (taking-none n t) h
 taking-left n t (b ∷ bs) h f =

@@ -1,0 +1,93 @@
+-- Demand 1: no sequence of messages, cuts and refusals takes a fresh box out of its ranges.
+-- Assumes nothing.
+use Prim.Native.Nat.{ℕ, _+_, _*_, _<_, _≤_}
+use native.Mathlib.Omega.{arith}
+use borrow.Author.Tests.{le-leb, leb-false, lt-ltb, le-ltb, ltb-true, ltb-false, eqb-true}
+use mathlib.Core.Path.{_≡_, refl, sym, ap, _∙_}
+use mathlib.Core.Bool.{Bool, true, false, not}
+use mathlib.Core.List.{List, [], _∷_}
+use lib.Dec.{eqb, leb, ltb}
+use lib.IntN.{ℤ}
+use lib.ListN.{length}
+use Rattle.wire.specs.Choice.{pick, Check, firstOf}
+use Rattle.packets.specs.Numbers.{most}
+use Rattle.framing.specs.declared.Taking.{Taking}
+use Rattle.framing.specs.Framing.{taken, finished, between}
+use Rattle.items.specs.declared.Settings.{Settings}
+use Rattle.items.specs.Settings.{inRange, freshOf, allSerial, withCount}
+use Rattle.items.specs.Answer.{replyOf, settingsAfter}
+use Rattle.station.specs.declared.Station.{Station}
+use Rattle.station.specs.Station.{valid, freshStation}
+use Rattle.station.specs.Feeding.{feedingOf, messageIn, refused, waiting, answered, fedBy}
+use Rattle.station.proofs.Kept.{Ranges, ranges, in-range, message-keeps, accepted, otherThan}
+use Rattle.station.proofs.Serving.{box, valid-settings, valid-store, valid-both, between-left, taking-left}
+use Rattle.cutting.specs.Cutting.{cuttingOf, cutCode, cutChecks, cutFrom}
+use Rattle.demands.specs.Reached.{Reached, fresh, fed, cut}
+
+-- a fresh box is valid
+pub fresh-valid : (serial : List ℕ) → allSerial serial ≡ true → valid (freshStation serial) ≡ true
+fresh-valid serial h =
+    valid-both (freshOf serial) between
+    (in-range (freshOf serial)
+    (record { frequency = refl; count = refl; clock = refl; divisor = refl; mode = refl; gain = refl; size = refl; serial = h }))
+    between-left
+
+-- feeding a valid box leaves a valid box, whatever it is fed
+pub feeding-keeps : (s : Station) (host : List ℕ) (room : ℕ) → valid s ≡ true → valid (feedingOf s host room .fed .station) ≡ true
+unfolding feedingOf
+feeding-keeps s host room v = rw v (go (finished (taken (s .store) host .store)) refl (ltb room (length (replyOf (s .settings) (messageIn (taken (s .store) host .store))))))
+  where
+    go : (d : Bool) → finished (taken (s .store) host .store) ≡ d → (short : Bool)
+        → valid (pick (not d) (waiting (s .settings) (taken (s .store) host))
+        (pick short (refused 20 s) (answered (s .settings) (taken (s .store) host))) .fed .station) ≡ true
+    go true q true = v
+    go true q false =
+        valid-both (settingsAfter (s .settings) (messageIn (taken (s .store) host .store))) between
+        (message-keeps (s .settings) (messageIn (taken (s .store) host .store)) (valid-settings (s .settings) (s .store) v)) between-left
+    go false q short =
+        valid-both (s .settings) (taken (s .store) host .store) (valid-settings (s .settings) (s .store) v)
+        (taking-left 0 (s .store) host (valid-store (s .settings) (s .store) v) q)
+
+-- one packet more than a count below the most
+counted : (s : Settings) → inRange s ≡ true → leb most (s .count) ≡ false → inRange (withCount (s .count + 1) s) ≡ true
+counted s h less =
+    let r = ranges s h in
+    in-range (withCount (s .count + 1) s)
+    (record {
+      frequency = r .frequency;
+      count = le-leb (s .count + 1) most (omega (arith, leb-false most (s .count) less));
+      clock = r .clock;
+      divisor = r .divisor;
+      mode = r .mode;
+      gain = r .gain;
+      size = r .size;
+      serial = r .serial;
+    })
+
+cut-refusals : (s : Station) (samples : List ℤ) (room : ℕ) → otherThan 1 (cutChecks s samples room)
+cut-refusals s samples room =
+    ((λ e. omega arith), ((λ e. omega arith), ((λ e. omega arith), ((λ e. omega arith), ((λ e. omega arith), ((λ e. omega arith), tt))))))
+
+-- a cut that is done had room in the capture
+below-most : (s : Station) (samples : List ℤ) (room : ℕ) → cutCode s samples room ≡ 1 → leb most (s .settings .count) ≡ false
+unfolding cutCode
+below-most s samples room h = accepted (cutChecks s samples room) 1 (cut-refusals s samples room) h .1 .1 .0
+
+-- cutting from a valid box leaves a valid box
+pub cutting-keeps : (s : Station) (samples : List ℤ) (room : ℕ) → valid s ≡ true → valid (cuttingOf s samples room .cut .station) ≡ true
+unfolding cuttingOf
+cutting-keeps s samples room v = go (eqb (cutCode s samples room) 1) refl
+  where
+    go : (d : Bool) → eqb (cutCode s samples room) 1 ≡ d
+        → valid (pick d (cutFrom s samples) (Rattle.cutting.specs.Cutting.refused (cutCode s samples room) s) .cut .station) ≡ true
+    go true q =
+        valid-both (withCount (s .settings .count + 1) (s .settings)) (s .store)
+        (counted (s .settings) (valid-settings (s .settings) (s .store) v) (below-most s samples room (eqb-true (cutCode s samples room) 1 q)))
+        (valid-store (s .settings) (s .store) v)
+    go false q = v
+
+-- "No setting of a box started fresh ever leaves its range."
+pub never-out-of-range : (s : Station) → Reached s → valid s ≡ true
+never-out-of-range s (fresh serial eight letters) = fresh-valid serial letters
+never-out-of-range s (fed t host room r) = feeding-keeps t host room (never-out-of-range t r)
+never-out-of-range s (cut t samples room r) = cutting-keeps t samples room (never-out-of-range t r)
