@@ -1,2 +1,4 @@
 pub mod Classes
+pub mod Keys
 pub mod Lines
+pub mod Setting

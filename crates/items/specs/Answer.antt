@@ -9,6 +9,7 @@ use Rattle.wire.specs.Number.{bytes, field}
 use Rattle.wire.specs.Header.{headerOf, nak, typeSet, typeRequest, typeRange, typeAcknowledgement, typeData, typeReply, typeRangeReply}
 use Rattle.tuning.specs.Bands.{bands, rangeBytes}
 use Rattle.items.specs.declared.Settings.{Settings}
+use Rattle.items.specs.declared.Judged.{Judged}
 use Rattle.items.specs.Items.{Channels, noChannel, anyChannel, zeroAndAll, Item, rowOf}
 use Rattle.items.specs.Header.{headerChecks}
 use Rattle.items.specs.Table.{tableChecks}
@@ -33,7 +34,7 @@ parameters m = drop 4 (m .held)
 abbrev pub channelAllowed : Channels → ℕ → ℕ → Bool
 channelAllowed noChannel kind byte = true
 channelAllowed anyChannel kind byte = true
-channelAllowed zeroAndAll kind byte = eqb byte 0x00 || (eqb kind typeSet && eqb byte 0xFF)
+channelAllowed zeroAndAll kind byte = oneOf byte (pick (eqb kind typeSet) (0x00 ∷ 0xFF ∷ []) (0x00 ∷ []))
 
 -- the value that a message of a kind has is allowed
 abbrev pub valueAllowed : Item → ℕ → List ℕ → Bool
@@ -51,6 +52,14 @@ itemChecks i kind s p =
     ∷ check 17 (refusedRunning i kind s p)
     ∷ []
 
+-- what the item makes of its parameters: 15, 16, 17, or 1
+abbrev pub itemCode : Item → ℕ → Settings → List ℕ → ℕ
+itemCode i kind s p = firstOf (itemChecks i kind s p) 1
+
+-- a set with these parameters: its code, and the settings after it
+abbrev pub setBy : Item → Settings → List ℕ → Judged
+setBy i s p = record { code = itemCode i typeSet s p; settings = pick (eqb (itemCode i typeSet s p) 1) (i .stored s p) s }
+
 -- "Codes 10 to 17 stand in order of checking (11 first)".
 abbrev pub checks : Settings → Message → List Check
 checks s m =
@@ -65,6 +74,10 @@ codeOf s m = firstOf (checks s m) 1
 -- the settings after it: an accepted set stores, everything else leaves every setting
 unfoldable pub settingsAfter : Settings → Message → Settings
 settingsAfter s m = pick (eqb (codeOf s m) 1 && eqb (m .type) typeSet) (row m .stored s (parameters m)) s
+
+-- both
+abbrev pub judgedOf : Settings → Message → Judged
+judgedOf s m = record { code = codeOf s m; settings = settingsAfter s m }
 
 -- "Replies have the item's set layout with the current value; the channel byte or id is echoed."
 abbrev pub replyBody : Item → Settings → List ℕ → List ℕ

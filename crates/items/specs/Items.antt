@@ -218,10 +218,10 @@ gain =
       range = dash;
       channels = zeroAndAll;
       echoed = 1;
-      settable = λ p. isGain (field 1 1 p);
+      settable = λ p. isGain (getD p 1 0);
       askable = always;
       locked = never;
-      stored = λ s p. withGain (field 1 1 p) s;
+      stored = λ s p. withGain (getD p 1 0) s;
       value = λ s p. bytes 1 (s .gain);
     }
 
@@ -269,10 +269,10 @@ packetSize =
       range = dash;
       channels = noChannel;
       echoed = 0;
-      settable = λ p. isSize (field 0 1 p);
+      settable = λ p. isSize (getD p 0 0);
       askable = always;
       locked = λ s p. true;
-      stored = λ s p. withSize (field 0 1 p) s;
+      stored = λ s p. withSize (getD p 0 0) s;
       value = λ s p. bytes 1 (s .size);
     }
 

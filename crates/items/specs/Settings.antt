@@ -2,15 +2,17 @@
 use Prim.Native.Nat.{ℕ}
 use mathlib.Core.Bool.{Bool, true, false, _&&_, _||_}
 use mathlib.Core.List.{List, [], _∷_, map}
-use lib.Dec.{leb}
+use lib.Dec.{leb, eqb}
+use lib.ListN.{length, replicate}
 use lib.IntN.{ℤ, pos, negsuc}
-use Rattle.wire.specs.Choice.{oneOf, within}
+use Rattle.wire.specs.Choice.{pick, oneOf, within}
 use Rattle.wire.specs.Signed.{coded}
 use Rattle.rates.specs.Rate.{isD}
 use Rattle.tuning.specs.Bands.{inBands}
 use Rattle.tuning.specs.Word.{isClock}
 use Rattle.packets.specs.Numbers.{most}
 use Rattle.items.specs.declared.Settings.{Settings}
+use Rattle.items.specs.declared.Judged.{Judged}
 
 -- RF gain: "signed byte 0, -10, -20 or -30"
 abbrev pub gains : List ℤ
@@ -61,6 +63,15 @@ freshOf serial =
       size = 0;
       serial = serial;
     }
+
+-- a serial: eight characters
+abbrev pub isSerial : List ℕ → Bool
+isSerial serial = eqb (length serial) 8 && allSerial serial
+
+-- "serial not eight of A-Z, 0-9": 26, and "the fresh box has serial 00000000"
+abbrev pub freshAnswer : List ℕ → Judged
+freshAnswer serial =
+    pick (isSerial serial) (record { code = 1; settings = freshOf serial }) (record { code = 26; settings = freshOf (replicate 8 0x30) })
 
 -- the settings with one of them changed
 abbrev pub withFrequency : ℕ → Settings → Settings

@@ -1,6 +1,8 @@
 // Items of document 01: the settings of a box, the table of items, and what one finished message does.
 
 pub mod header; // header.rt: what the header of a message decides
+pub mod ranges; // ranges.rt: a fresh box, and which settings are within their ranges
+pub mod sets; // sets.rt: what a set of each item does
 pub mod table; // table.rt: the table's lengths
 
 // The settings of a box. A box started fresh keeps each within its range; specs/Settings.antt has the ranges.
