@@ -1,11 +1,26 @@
--- Which stores a message's first bytes can leave.
-use mathlib.Core.Path.{_≡_, refl}
-use mathlib.Core.Bool.{true, false, and-true, and-false}
-use lib.ListN.{drop}
+-- "Its unfinished message must also be one that some bytes could have left": the test is that sentence.
+-- Assumes nothing.
+use Prim.Native.Nat.{ℕ, zero, suc, _+_, _-_, _≤_, _<_}
+use mathlib.Core.Path.{_≡_, refl, sym, ap, _∙_}
+use mathlib.Core.Bool.{true, false, not, and-true, and-false}
+use mathlib.Core.List.{List, [], _∷_, _++_}
+use native.Mathlib.Decide.{decLt}
+use native.Mathlib.Nat.{le-refl, zero-add}
+use native.Mathlib.Numerals.{add-one}
+use native.Mathlib.Omega.{arith}
+use borrow.Author.Tests.{eqb-true, not-true}
+use lib.Dec.{eqb}
+use lib.ListN.{length, take, drop, replicate, length-append, length-take, length-replicate}
+use lib.Seq.{sets, sets-eq, drop-set-lt, length-take-le}
+use Rattle.wire.proofs.Laws.{and-left, and-right}
+use Rattle.wire.proofs.Stores.{sets-append, sets-out}
 use Rattle.framing.specs.declared.Store.{Store}
-use Rattle.framing.specs.Framing.{finished, zeros, couldBeLeft}
+use Rattle.framing.specs.Framing.{announcedBy, announced, between, pushed, pushedAll, finished, unfinishedAll, allBytes, Left, zeros, couldBeLeft}
+use Rattle.framing.proofs.Headers.{headless, short-of, open-total, header-settled}
+use Rattle.framing.proofs.Runs.{after, pushed-all}
 
--- the test, with the message finished or not
+-- ---- the test, by whether the message is finished
+
 pub left-finished : (s : Store) → finished s ≡ true → couldBeLeft s ≡ false
 unfolding couldBeLeft
 left-finished s f = rw (f, and-false) refl
@@ -13,3 +28,119 @@ left-finished s f = rw (f, and-false) refl
 pub left-unfinished : (s : Store) → finished s ≡ false → couldBeLeft s ≡ zeros (drop (s .taken) (s .held))
 unfolding couldBeLeft
 left-unfinished s f = rw (f, and-true) refl
+
+pub left-open : (s : Store) → couldBeLeft s ≡ true → finished s ≡ false
+unfolding couldBeLeft
+left-open s h = not-true (finished s) (and-right (zeros (drop (s .taken) (s .held))) (not (finished s)) h)
+
+pub left-zeros : (s : Store) → couldBeLeft s ≡ true → zeros (drop (s .taken) (s .held)) ≡ true
+unfolding couldBeLeft
+left-zeros s h = and-left (zeros (drop (s .taken) (s .held))) (not (finished s)) h
+
+-- ---- some bytes leave it, so the test holds
+
+pub between-left : couldBeLeft between ≡ true
+unfolding couldBeLeft
+between-left = refl
+
+zeros-further : (n : ℕ) (l : List ℕ) → zeros (drop n l) ≡ true → zeros (drop (suc n) l) ≡ true
+zeros-further zero [] h = refl
+zeros-further zero (b ∷ bs) h = and-right (eqb b 0) (zeros bs) h
+zeros-further (suc n) [] h = refl
+zeros-further (suc n) (b ∷ bs) h = zeros-further n bs h
+
+pub pushed-left : (s : Store) (b : ℕ) → couldBeLeft s ≡ true → finished (pushed s b) ≡ false → couldBeLeft (pushed s b) ≡ true
+pushed-left s b h f =
+    left-unfinished (pushed s b) f
+    ∙ rw (add-one, drop-set-lt (suc (s .taken)) (s .held) (s .taken) b (le-refl (suc (s .taken))))
+    (zeros-further (s .taken) (s .held) (left-zeros s h))
+
+all-left : (s : Store) (bs : List ℕ) → couldBeLeft s ≡ true → unfinishedAll s bs → couldBeLeft (pushedAll s bs) ≡ true
+all-left s [] h u = h
+all-left s (b ∷ bs) h u = all-left (pushed s b) bs (pushed-left s b h (u .0)) (u .1)
+
+pub left-tested : (s : Store) → Left s → couldBeLeft s ≡ true
+left-tested s l = rw (← l .leaves) (all-left between (l .message) between-left (l .unfinished))
+
+-- ---- the test holds, so some bytes leave it: those held, and zeros for those past the 64th
+
+bytes-append : (a b : List ℕ) → allBytes a → allBytes b → allBytes (a ++ b)
+bytes-append [] b p q = q
+bytes-append (x ∷ a) b p q = (p .0, bytes-append a b (p .1) q)
+
+bytes-take : (n : ℕ) (l : List ℕ) → allBytes l → allBytes (take n l)
+bytes-take zero l p = tt
+bytes-take (suc n) [] p = tt
+bytes-take (suc n) (x ∷ l) p = (p .0, bytes-take n l (p .1))
+
+bytes-zero : (n : ℕ) → allBytes (replicate n 0)
+bytes-zero zero = tt
+bytes-zero (suc n) = (omega arith, bytes-zero n)
+
+-- a list of zeros is as many zeros
+zeros-replicate : (l : List ℕ) → zeros l ≡ true → replicate (length l) 0 ≡ l
+zeros-replicate [] h = refl
+zeros-replicate (b ∷ l) h =
+    rw (eqb-true b 0 (and-left (eqb b 0) (zeros l) h)) (ap (λ (r : List ℕ). 0 ∷ r) (zeros-replicate l (and-right (eqb b 0) (zeros l) h)))
+
+-- what is taken, and then the unused places
+refilled : (n : ℕ) (l : List ℕ) → zeros (drop n l) ≡ true → take n l ++ drop (length (take n l)) (replicate (length l) 0) ≡ l
+refilled zero l h = zeros-replicate l h
+refilled (suc n) [] h = refl
+refilled (suc n) (b ∷ l) h = ap (λ (r : List ℕ). b ∷ r) (refilled n l h)
+
+module _ (l z : List ℕ) (n : ℕ) (empty : z ≡ replicate (length l) 0) (unused : zeros (drop n l) ≡ true) where
+  first-stored : sets z 0 (take n l) ≡ l
+  first-stored =
+      let most : 0 + length (take n l) ≤ length z = rw empty (simp (length-take, length-replicate) (omega arith)) in
+      sets-eq (take n l) z 0 most ∙ rw (zero-add, empty) (refilled n l unused)
+
+  -- the zeros past the end are not stored
+  all-stored : sets z 0 (take n l ++ replicate (n - length l) 0) ≡ l
+  all-stored =
+      sym (sets-append z 0 (take n l) (replicate (n - length l) 0))
+      ∙ rw (first-stored, zero-add)
+      (elim (decLt (length l) n) [
+        | yes w ↦ sets-out l (length (take n l)) (replicate (n - length l) 0) (simp length-take (omega arith))
+        | no w ↦ let none : n - length l ≡ 0 = omega arith in rw none refl
+      ])
+
+unfinished-all : (s : Store) (bs : List ℕ) → ((j : ℕ) → j < length bs → finished (pushedAll s (take (suc j) bs)) ≡ false) → unfinishedAll s bs
+unfinished-all s [] u = tt
+unfinished-all s (b ∷ bs) u = (u 0 (omega arith), unfinished-all (pushed s b) bs (λ j h. u (suc j) (omega arith)))
+
+-- the bytes that left a store
+abbrev leftBy : Store → List ℕ
+leftBy s = take (s .taken) (s .held) ++ replicate (s .taken - length (s .held)) 0
+
+left-length : (s : Store) → length (leftBy s) ≡ s .taken
+left-length s = simp (length-append, length-take, length-replicate) (omega arith)
+
+module _ (s : Store) (test : couldBeLeft s ≡ true) (long : length (s .held) ≡ 64) where
+  left-held : after between (leftBy s) ≡ s
+  left-held =
+      rw (all-stored (s .held) (between .held) (s .taken) (rw long refl) (left-zeros s test), left-length s, zero-add) refl
+
+  left-prefix : (j : ℕ) → j < length (leftBy s) → finished (after between (take (suc j) (leftBy s))) ≡ false
+  left-prefix j l =
+      elim (decLt j 1) [
+        | yes w ↦ headless (after between (take (suc j) (leftBy s))) (omega (arith, part))
+        | no w ↦ short-of (after between (take (suc j) (leftBy s))) (omega (arith, part, left-length s, settled (omega arith), open-total s (omega (arith, left-length s)) (left-open s test)))
+      ]
+    where
+      part : length (take (suc j) (leftBy s)) ≡ suc j
+      part = length-take-le (suc j) (leftBy s) (omega arith)
+
+      settled : 1 ≤ j → announced (after between (take (suc j) (leftBy s)) .held) ≡ announced (s .held)
+      settled h =
+          ap announcedBy (header-settled between (leftBy s) (suc j) (omega (arith, part)))
+          ∙ ap (λ (t : Store). announced (t .held)) left-held
+
+pub tested-left : (s : Store) → couldBeLeft s ≡ true → length (s .held) ≡ 64 → allBytes (s .held) → Left s
+tested-left s test long bytes =
+    record {
+      message = leftBy s;
+      areBytes = bytes-append (take (s .taken) (s .held)) _ (bytes-take (s .taken) (s .held) bytes) (bytes-zero (s .taken - length (s .held)));
+      unfinished = unfinished-all between (leftBy s) (λ j l. rw pushed-all (left-prefix s test long j l));
+      leaves = pushed-all between (leftBy s) ∙ left-held s test long;
+    }

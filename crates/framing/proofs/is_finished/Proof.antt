@@ -2,7 +2,7 @@
 use mathlib.Core.Path.{sym, ap, _∙_}
 use native.Mathlib.Omega.{arith}
 use Rattle.framing.specs.Framing.{announcedBy}
-use Rattle.framing.proofs.Runs.{headless, by-total, header-held}
+use Rattle.framing.proofs.Headers.{headless, by-total, header-held}
 use borrow.Author.Needs.{needs}
 use Rattle.framing.proofs.is_finished.Statement.{statement}
 use Rattle.framing.proofs.is_finished.Tie as tie

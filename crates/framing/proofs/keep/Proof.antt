@@ -1,7 +1,7 @@
 -- `framing::keep` meets its contract: at each turn what is still to be stored gives the whole; at the end nothing is left, or
 -- no place is.
 use Prim.Native.Nat.{_+_, _-_, _≤_, _<_}
-use mathlib.Core.Path.{_≡_, refl, sym, _∙_}
+use mathlib.Core.Path.{_≡_, refl, sym}
 use native.Mathlib.Nat.{add-zero}
 use native.Mathlib.Omega.{arith}
 use borrow.Author.Needs.{needs}

@@ -1,7 +1,7 @@
 -- `framing::total_ahead` meets its contract: which two bytes make the header goes by how many are held already.
 use mathlib.Core.Path.{sym, _∙_}
 use native.Mathlib.Omega.{arith}
-use Rattle.framing.proofs.Runs.{ahead-bare, ahead-sent, ahead-half, ahead-held}
+use Rattle.framing.proofs.Headers.{ahead-bare, ahead-sent, ahead-half, ahead-held}
 use borrow.Author.Needs.{needs}
 use Rattle.framing.proofs.total_ahead.Statement.{statement}
 use Rattle.framing.proofs.total_ahead.Tie as tie

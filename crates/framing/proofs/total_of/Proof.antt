@@ -1,8 +1,6 @@
 -- `framing::total_of` meets its contract: each arm is one length class of `totalOf`.
-use Prim.Native.Nat.{ℕ}
-use mathlib.Core.Path.{sym, ap, _∙_}
+use mathlib.Core.Path.{sym}
 use native.Mathlib.Omega.{arith}
-use Rattle.framing.specs.Framing.{totalOf}
 use Rattle.framing.proofs.Totals.{total-data, total-bare, total-length}
 use Rattle.framing.proofs.total_of.Statement.{statement}
 use Rattle.framing.proofs.total_of.Tie as tie
