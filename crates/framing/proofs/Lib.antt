@@ -5,3 +5,4 @@ pub mod Keeping
 pub mod Zeros
 pub mod Leaving
 pub mod Cutting
+pub mod Stream
