@@ -1,4 +1,4 @@
--- One reading of a packet that the box cut: it is accepted, at its position.
+-- One reading of a packet that the box cut: it is taken, at its position.
 use Prim.Native.Nat.{ℕ, _+_, _≤_, _<_}
 use mathlib.Core.Path.{_≡_, refl, sym, ap, _∙_}
 use mathlib.Core.Bool.{true, false, _&&_, not}
@@ -12,7 +12,7 @@ use Rattle.packets.specs.Numbers.{numberAt, numberIn, stepOf, most}
 use Rattle.packets.proofs.Numbers.{number-zero}
 use Rattle.reader.specs.declared.Reader.{Reader}
 use Rattle.reader.specs.Reading.{last, sound, positionAfter, readChecks, readCode, readingOf, heardAt}
-use Rattle.positions.proofs.Tests.{clear}
+use Rattle.reader.proofs.Reading.{taken}
 use Rattle.positions.proofs.Steps.{position-is-exact, repeated-is-a-turn}
 
 -- the packet at position n of a capture of form f
@@ -26,19 +26,6 @@ pub record At (f : Form) (n : ℕ) (packet : List ℕ) : Type 0 where
 abbrev pub hasHeard : Form → ℕ → Reader
 hasHeard f n = record { heard = true; position = n; form = f }
 
--- none of the five refusals
-accepted : (r : Reader) (packet : List ℕ)
-    → sound r ≡ true
-    → isPacket packet ≡ true
-    → not (eqb (numberIn packet) 0) && not (r .heard) ≡ false
-    → not (eqb (numberIn packet) 0) && not (sameForm (wholeOf packet) (r .form)) ≡ false
-    → ltb last (positionAfter r (numberIn packet)) ≡ false
-    → readingOf r packet ≡ heardAt (positionAfter r (numberIn packet)) (wholeOf packet)
-unfolding readCode readingOf
-accepted r packet a b c d e =
-    let one : readCode r packet ≡ 1 = clear (readChecks r packet) (ap not a, (ap not b, (c, (d, (e, tt))))) in
-    rw (eq-eqb (readCode r packet) 1 one)
-
 sameForm-refl : (f : Form) → sameForm f f ≡ true
 sameForm-refl f = rw (eq-eqb (f .bits) (f .bits) refl, eq-eqb (f .pairs) (f .pairs) refl)
 
@@ -47,7 +34,7 @@ pub reads-first : (f : Form) (packet : List ℕ) (r : Reader) → At f 0 packet 
 reads-first f packet r a s =
     let zeroth : eqb (numberIn packet) 0 ≡ true = eq-eqb (numberIn packet) 0 (a .number) in
     let there : positionAfter r (numberIn packet) ≡ 0 = rw zeroth in
-    accepted r packet s (rw (a .form) (a .fine)) (rw zeroth) (rw zeroth) (rw there)
+    taken r packet s (rw (a .form) (a .fine)) (rw zeroth) (rw zeroth) (rw there)
     ∙ rw (there, a .form)
 
 -- A later packet of the same form is taken where its step leads, if that is not past the last position.
@@ -57,7 +44,7 @@ reads-at f packet m p n a above before within there =
     let later : eqb (numberIn packet) 0 ≡ false = ne-eqb (numberIn packet) 0 (λ z. omega (arith, number-zero p (sym (a .number) ∙ z))) in
     let leads : positionAfter (hasHeard f m) (numberIn packet) ≡ n = rw (later, a .number) there in
     let same : sameForm (wholeOf packet) f ≡ true = rw (a .form) (sameForm-refl f) in
-    accepted (hasHeard f m) packet (rw (le-leb m last before) (a .fine)) (rw (a .form) (a .fine)) (rw later) (rw (later, same)) (rw leads (le-ltb last n within))
+    taken (hasHeard f m) packet (rw (le-leb m last before) (a .fine)) (rw (a .form) (a .fine)) (rw later) (rw (later, same)) (rw leads (le-ltb last n within))
     ∙ rw (leads, a .form)
 
 pub reads-next : (f : Form) (packet : List ℕ) (m n : ℕ) → At f n packet → m < n → n ≤ m + 65_535 → readingOf (hasHeard f m) packet ≡ heardAt n f

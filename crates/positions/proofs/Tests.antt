@@ -5,6 +5,7 @@ use mathlib.Core.List.{List, [], _∷_}
 use borrow.Author.Tests.{eqb-false, not-true}
 use lib.Dec.{eqb}
 use Rattle.wire.specs.Choice.{Check, firstOf}
+use Rattle.reader.proofs.Checks.{Absent}
 use Rattle.wire.proofs.Laws.{true-not-false, and-left, and-right}
 
 -- no test both holds and fails
@@ -16,11 +17,6 @@ abbrev pub refusals : List Check → Bool
 refusals [] = true
 refusals (c ∷ cs) = not (eqb (c .code) 1) && refusals cs
 
--- no check of the list holds
-abbrev pub Absent : List Check → Type 0
-Absent [] = Unit {0}
-Absent (c ∷ cs) = (c .holds ≡ false) × Absent cs
-
 -- where the answer is 1, none of the checks holds
 pub absent : (cs : List Check) → refusals cs ≡ true → firstOf cs 1 ≡ 1 → Absent cs
 absent [] r e = tt
@@ -31,8 +27,3 @@ absent (c ∷ cs) r e = go (c .holds) refl (absent cs (and-right (not (eqb (c .c
         let other : eqb (c .code) 1 ≡ false = not-true _ (and-left (not (eqb (c .code) 1)) (refusals cs) r) in
         absurd (eqb-false (c .code) 1 other (rw q at e))
     go false q later = (q, later (rw q at e))
-
--- and the other way round
-pub clear : (cs : List Check) → Absent cs → firstOf cs 1 ≡ 1
-clear [] a = refl
-clear (c ∷ cs) a = rw (a .0) (clear cs (a .1))

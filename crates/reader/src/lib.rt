@@ -1,5 +1,8 @@
 // The harvester's packet reader: a packet's position, its sample bytes, its samples.
 use packets::Form;
+ghost use mathlib.Core.Path.{_≡_};
+ghost use Prim.Native.Nat.{_<_};
+ghost use Rattle.reader.specs.Reading.{silent, sound, unheard, heardAt, readingOf, sampleBytesOf};
 
 // What a reader has heard of the capture so far: the position and form of the last packet; before the first packet
 // nothing, and then all is zero.
@@ -22,4 +25,106 @@ pub struct Heard {
 pub struct Unpacked {
     pub code: u8,
     pub count: usize,
+}
+
+// The last position that a capture can have.
+const LAST: u64 = 3_999_999_999;
+
+// A reader that has heard nothing.
+pub fn silent() -> Reader
+    ensures { λ r. ⌜ r ≡ silent ⌝ }
+{
+    Reader {
+        heard: false,
+        position: 0,
+        form: packets::no_form(),
+    }
+}
+
+// Whether the reader is one that reading leaves, or a silent one: "other states are broken".
+pub fn is_sound(r: Reader) -> bool
+    ensures { λ ok. ⌜ ok ≡ sound r ⌝ }
+{
+    let form = r.form;
+    if r.heard {
+        if LAST < r.position {
+            return false;
+        }
+        return packets::is_listed(form);
+    }
+    if r.position == 0 {
+        return packets::same_form(form, packets::no_form());
+    }
+    false
+}
+
+// A refusal: the reader is the one given.
+fn refused(code: u8, r: Reader) -> Heard
+    ensures { λ h. ⌜ h ≡ unheard code r ⌝ }
+{
+    Heard {
+        code,
+        position: 0,
+        sample: 0,
+        reader: r,
+    }
+}
+
+// A packet taken at a position: its first sample stands at that position times the I/Q pairs.
+fn heard_at(position: u64, form: Form) -> Heard
+    requires { ⌜ (position < 4000000000) × (form .pairs < 257) ⌝ }
+    ensures { λ h. ⌜ h ≡ heardAt position form ⌝ }
+{
+    let sample = position * form.pairs;
+    Heard {
+        code: 1,
+        position,
+        sample,
+        reader: Reader {
+            heard: true,
+            position,
+            form,
+        },
+    }
+}
+
+// Reads one packet: "Packet reading 21, 30, 31, 32, 33." Of the packet only its length and its first four bytes are looked at.
+pub fn read(r: Reader, packet: &[u8]) -> Heard
+    ensures { λ h. ⌜ h ≡ readingOf r (now (packet .entry)) ⌝ }
+{
+    if !is_sound(r) {
+        return refused(21, r);
+    }
+    let form = packets::whole(packet);
+    if form.pairs == 0 {
+        return refused(30, r);
+    }
+    let number = packets::number_in(packet);
+    if number == 0 {
+        return heard_at(0, form);
+    }
+    if !r.heard {
+        return refused(31, r);
+    }
+    let last_form = r.form;
+    if !packets::same_form(form, last_form) {
+        return refused(32, r);
+    }
+    let position = r.position + packets::step(packets::number_at_position(r.position), number);
+    if LAST < position {
+        return refused(33, r);
+    }
+    heard_at(position, form)
+}
+
+// "A call of its own answers with the sample bytes handed back as that part of the caller's packet, or with an empty part
+// where the slice is 30."
+pub fn sample_bytes(packet: &[u8]) -> &[u8]
+    ensures { λ r. ⌜ now r ≡ sampleBytesOf (now (packet .entry)) ⌝ }
+{
+    let form = packets::whole(packet);
+    if form.pairs == 0 {
+        return &packet[..0];
+    }
+    &packet[4..]
 }

@@ -1,0 +1,130 @@
+-- Reading by its checks: what each refusal and each acceptance says, in the order of checking, and what a packet's form bounds.
+use Prim.Native.Nat.{ℕ, _+_, _*_, _-_, _≤_, _<_}
+use mathlib.Core.Path.{_≡_, refl, sym, ap, _∙_}
+use mathlib.Core.Bool.{Bool, true, false, _&&_, not}
+use mathlib.Core.Logic.{_⊎_, inl, inr, ⊎-elim}
+use mathlib.Core.List.{List, [], _∷_}
+use native.Mathlib.Omega.{arith}
+use borrow.Author.Tests.{leb-true, le-leb, lt-leb, eq-eqb, ne-eqb, lt-ltb, le-ltb}
+use lib.Dec.{eqb, leb, ltb}
+use lib.ListN.{length, take, drop, length-drop}
+use lib.Seq.{take-all}
+use Rattle.wire.proofs.Laws.{pick-true, pick-false, and-left, and-not-left}
+use Rattle.packets.specs.declared.Form.{Form}
+use Rattle.packets.specs.Forms.{noForm, sameForm, listed, wholeOf, isPacket, totalOf}
+use Rattle.packets.specs.Numbers.{numberAt, stepOf, numberIn}
+use Rattle.packets.proofs.Forms.{Listed, is-listed-form, Whole, whole-is, packet-is}
+use Rattle.reader.specs.declared.Reader.{Reader}
+use Rattle.reader.specs.declared.Heard.{Heard}
+use Rattle.reader.specs.Reading.{last, sound, positionAfter, readChecks, readCode, readingOf, heardAt, unheard, sampleBytesOf}
+use Rattle.reader.proofs.Checks.{clear}
+
+-- a slice is a packet where the form found has pairs
+pub no-packet : (p : List ℕ) → wholeOf p .pairs ≡ 0 → isPacket p ≡ false
+no-packet p z = ⊎-elim (λ (e : wholeOf p ≡ noForm). rw e) (λ (w : Whole p (wholeOf p)). absurd (omega (arith, is-listed-form (wholeOf p) (w .form) .some))) (whole-is p)
+
+pub a-packet : (p : List ℕ) → (wholeOf p .pairs ≡ 0 → ⊥) → isPacket p ≡ true
+a-packet p z = ⊎-elim (λ (e : wholeOf p ≡ noForm). absurd (z (ap (λ (f : Form). f .pairs) e))) (λ (w : Whole p (wholeOf p)). w .form) (whole-is p)
+
+-- a packet's form has at most 256 pairs
+pub pairs-few : (p : List ℕ) → wholeOf p .pairs < 257
+pairs-few p = ⊎-elim (λ (e : wholeOf p ≡ noForm). rw e (omega arith)) (λ (w : Whole p (wholeOf p)). omega (arith, is-listed-form (wholeOf p) (w .form) .few)) (whole-is p)
+
+-- the sample bytes are what stands after the first four, of which a packet has at least as many
+pub four-there : (p : List ℕ) → (wholeOf p .pairs ≡ 0 → ⊥) → 4 ≤ length p
+four-there p some = let long : length p ≡ totalOf (wholeOf p) = packet-is p (a-packet p some) .long in omega arith
+
+pub no-samples : (p : List ℕ) → wholeOf p .pairs ≡ 0 → [] ≡ sampleBytesOf p
+no-samples p z = rw (no-packet p z)
+
+pub samples-there : (p : List ℕ) → (wholeOf p .pairs ≡ 0 → ⊥) → take (length p - 4) (drop 4 p) ≡ sampleBytesOf p
+samples-there p some = rw (a-packet p some) (take-all (length p - 4) (drop 4 p) (simp length-drop (omega arith)))
+
+-- soundness, of a reader that has heard a packet and of one that has not
+module _ (r : Reader) (h : r .heard ≡ true) where
+  heard-sound : sound r ≡ (leb (r .position) last && listed (r .form))
+  heard-sound = pick-true (r .heard) _ _ h
+
+  pub sound-past : last < r .position → false ≡ sound r
+  sound-past l = sym (heard-sound ∙ and-not-left _ _ (lt-leb (r .position) last l))
+
+  pub sound-within : r .position ≤ last → listed (r .form) ≡ sound r
+  sound-within l = sym (heard-sound ∙ ap (λ (t : Bool). t && listed (r .form)) (le-leb (r .position) last l))
+
+module _ (r : Reader) (h : r .heard ≡ false) where
+  silent-sound : sound r ≡ (eqb (r .position) 0 && sameForm (r .form) noForm)
+  silent-sound = pick-false (r .heard) _ _ h
+
+  pub sound-nowhere : r .position ≡ 0 → sameForm (r .form) noForm ≡ sound r
+  sound-nowhere z = sym (silent-sound ∙ ap (λ (t : Bool). t && sameForm (r .form) noForm) (eq-eqb (r .position) 0 z))
+
+  pub sound-somewhere : (r .position ≡ 0 → ⊥) → false ≡ sound r
+  sound-somewhere z = sym (silent-sound ∙ and-not-left _ _ (ne-eqb (r .position) 0 z))
+
+-- "A reader that has heard a packet holds its position (at most 3,999,999,999) and a listed form"
+pub heard-within : (r : Reader) → sound r ≡ true → r .heard ≡ true → r .position ≤ last
+heard-within r fine begun =
+    let held : leb (r .position) last && listed (r .form) ≡ true = sym (heard-sound r begun) ∙ fine in
+    leb-true (r .position) last (and-left (leb (r .position) last) (listed (r .form)) held)
+
+-- a step is less than two turns and one
+pub step-small : (s t : ℕ) → t ≤ 65_535 → stepOf s t ≤ 131_070
+step-small s t h = ⊎-elim (λ (e : stepOf s t ≡ t - s). omega arith) (λ (e : stepOf s t ≡ t + 65_535 - s). omega arith) (either (ltb s t) refl)
+  where
+    either : (b : Bool) → ltb s t ≡ b → (stepOf s t ≡ t - s) ⊎ (stepOf s t ≡ t + 65_535 - s)
+    either true q = inl (rw q)
+    either false q = inr (rw q)
+
+module _ (r : Reader) (p : List ℕ) where
+  refusal : (c : ℕ) → (c ≡ 1 → ⊥) → readCode r p ≡ c → unheard c r ≡ readingOf r p
+  unfolding readingOf
+  refusal c other e = rw (e, ne-eqb c 1 other)
+
+  -- none of the five refusals
+  pub taken : sound r ≡ true → isPacket p ≡ true → not (eqb (numberIn p) 0) && not (r .heard) ≡ false
+      → not (eqb (numberIn p) 0) && not (sameForm (wholeOf p) (r .form)) ≡ false
+      → ltb last (positionAfter r (numberIn p)) ≡ false
+      → readingOf r p ≡ heardAt (positionAfter r (numberIn p)) (wholeOf p)
+  unfolding readCode readingOf
+  taken a b c d e =
+      let one : readCode r p ≡ 1 = clear (readChecks r p) 1 (ap not a, (ap not b, (c, (d, (e, tt))))) in
+      rw (eq-eqb (readCode r p) 1 one)
+
+  pub broken : sound r ≡ false → unheard 21 r ≡ readingOf r p
+  unfolding readCode
+  broken e = refusal 21 (omega arith) (rw e)
+
+  module _ (fine : sound r ≡ true) where
+    pub no-slice : wholeOf p .pairs ≡ 0 → unheard 30 r ≡ readingOf r p
+    unfolding readCode
+    no-slice z = refusal 30 (omega arith) (rw (fine, no-packet p z))
+
+    module _ (some : wholeOf p .pairs ≡ 0 → ⊥) where
+      pub first : numberIn p ≡ 0 → heardAt 0 (wholeOf p) ≡ readingOf r p
+      first z =
+          let zeroth : eqb (numberIn p) 0 ≡ true = eq-eqb _ _ z in
+          let there : positionAfter r (numberIn p) ≡ 0 = rw zeroth in
+          sym (taken fine (a-packet p some) (rw zeroth) (rw zeroth) (rw there) ∙ rw there)
+
+      module _ (later : numberIn p ≡ 0 → ⊥) where
+        pub unbegun : r .heard ≡ false → unheard 31 r ≡ readingOf r p
+        unfolding readCode
+        unbegun e = refusal 31 (omega arith) (rw (fine, a-packet p some, ne-eqb _ _ later, e))
+
+        module _ (begun : r .heard ≡ true) where
+          pub changed : sameForm (wholeOf p) (r .form) ≡ false → unheard 32 r ≡ readingOf r p
+          unfolding readCode
+          changed e = refusal 32 (omega arith) (rw (fine, a-packet p some, ne-eqb _ _ later, begun, e))
+
+          module _ (same : sameForm (wholeOf p) (r .form) ≡ true) (d : ℕ) (step : d ≡ stepOf (numberAt (r .position)) (numberIn p)) where
+            pub past : last < r .position + d → unheard 33 r ≡ readingOf r p
+            unfolding readCode
+            past l =
+                refusal 33 (omega arith)
+                (rw (fine, a-packet p some, ne-eqb _ _ later, begun, same, ← step, lt-ltb last (r .position + d) l))
+
+            pub next : r .position + d ≤ last → heardAt (r .position + d) (wholeOf p) ≡ readingOf r p
+            next l =
+                let nonzero : eqb (numberIn p) 0 ≡ false = ne-eqb _ _ later in
+                let there : positionAfter r (numberIn p) ≡ r .position + d = rw (nonzero, step) in
+                sym (taken fine (a-packet p some) (rw (nonzero, begun)) (rw (nonzero, same)) (rw there (le-ltb last (r .position + d) l)) ∙ rw there)

@@ -1,0 +1,42 @@
+-- The tests are those of `sound`, for a reader that has heard a packet and for one that has not.
+use mathlib.Core.Path.{_≡_, sym, ap, _∙_}
+use Rattle.packets.specs.Forms.{sameForm}
+use Rattle.reader.proofs.Reading.{sound-past, sound-within, sound-nowhere, sound-somewhere}
+use borrow.Author.Needs.{needs}
+use Rattle.reader.proofs.is_sound.Statement.{statement}
+use Rattle.reader.proofs.is_sound.Tie as tie
+
+returns : tie.Need-returns
+returns c = sound-past (c .before .before .before .before .args .r) (c .before .before .if1 .taken) (c .if2 .taken)
+
+is-listed-requires : tie.Need-is-listed-requires
+is-listed-requires c κs = search needs
+
+returns-2 : tie.Need-returns-2
+returns-2 c = c .is-listed .ensures ∙ sound-within (c .before .before .before .before .before .args .r) (c .before .before .before .if1 .taken) (c .before .if2 .left)
+
+no-form-requires : tie.Need-no-form-requires
+no-form-requires c κs = search needs
+
+same-form-requires : tie.Need-same-form-requires
+same-form-requires c κs = search needs
+
+returns-3 : tie.Need-returns-3
+returns-3 c =
+    let r = c .before .before .before .before .before .before .args .r in
+    c .same-form .ensures ∙ ap (sameForm (r .form)) (c .before .no-form .ensures) ∙ sound-nowhere r (c .before .before .before .before .if1 .left) (c .before .before .if3 .taken)
+
+returns-4 : tie.Need-returns-4
+returns-4 c = sound-somewhere (c .before .before .before .before .args .r) (c .before .before .if1 .left) (c .if3 .left)
+
+pub is-sound-spec : {M : Type 1} → statement M
+is-sound-spec =
+    tie.close
+    (tie.spec
+    returns
+    is-listed-requires
+    returns-2
+    no-form-requires
+    same-form-requires
+    returns-3
+    returns-4)
