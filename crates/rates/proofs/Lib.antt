@@ -1,0 +1,4 @@
+pub mod Entries
+pub mod Fractions
+pub mod Choosing
+pub mod Rates

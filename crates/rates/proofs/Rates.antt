@@ -1,0 +1,129 @@
+-- The table of achieved rates: each entry by the rounding rule, all distinct, and each the rate of one D.
+use Prim.Native.Nat.{ℕ, zero, suc, _+_, _*_, _-_, _/_, _<_, _≤_, suc-le-suc}
+use mathlib.Core.Path.{_≡_, refl, sym, ap, _∙_}
+use mathlib.Core.Bool.{Bool, true, false}
+use mathlib.Core.List.{List, [], _∷_}
+use native.Mathlib.Nat.{le-of-suc-le-suc, not-suc-le-zero, add-zero}
+use native.Mathlib.Omega.{arith}
+use lib.Dec.{T, eqb, eqb→eq}
+use lib.ListN.{length, getD}
+use borrow.Author.Tests.{eq-eqb, ne-eqb}
+use Rattle.wire.specs.Choice.{pick}
+use Rattle.wire.proofs.Laws.{true-not-false, test-true, within-low, within-high, is-within}
+use Rattle.rates.specs.Rate.{isD, rateOf, mayAsk, nearestOf}
+use Rattle.rates.specs.Table.{rates, dIn, dOf}
+use Rattle.rates.proofs.Entries.{entry, everywhere, falling}
+use Rattle.rates.proofs.Choosing.{chosen, nearest-chosen, nearest-is}
+
+-- the rounding rule, at each place
+pub table-rule : (k : ℕ) → k < 616 → getD rates k 0 ≡ rateOf (k + 10)
+unfolding rates rateOf
+table-rule = entry (λ k. rateOf (k + 10)) 616 rates tt refl
+
+-- each entry is below those before it, so that all are distinct
+pub table-falls : (j k : ℕ) → j < k → k < 616 → getD rates k 0 < getD rates j 0
+unfolding rates
+table-falls = falling 2000001 rates tt
+
+-- a fact that holds at each place of the table holds of each D
+at-d : (P : ℕ → Type 0) → ((k : ℕ) → k < 616 → P (k + 10)) → (d : ℕ) → isD d ≡ true → P d
+at-d P h d is =
+    let low : 10 ≤ d = within-low 10 625 d is in
+    let high : d ≤ 625 = within-high 10 625 d is in
+    let place : d - 10 + 10 ≡ d = omega arith in
+    rw place at (h (d - 10) (omega arith))
+
+asked : (k : ℕ) → k < 616 → mayAsk (rateOf (k + 10)) ≡ true
+unfolding rates
+asked k h = rw (table-rule k h) at (test-true (mayAsk (getD rates k 0)) (everywhere (λ j x. mayAsk x) 616 rates tt refl k h))
+
+-- an achieved rate lies in 32,000 to 2,000,000
+pub rate-asked : (d : ℕ) → isD d ≡ true → mayAsk (rateOf d) ≡ true
+rate-asked = at-d (λ d. mayAsk (rateOf d) ≡ true) asked
+
+back : (k : ℕ) → k < 616 → chosen (rateOf (k + 10)) ≡ k + 10
+unfolding rates chosen
+back k h = rw (table-rule k h) at (eqb→eq (chosen (getD rates k 0)) (k + 10) (everywhere (λ j x. eqb (chosen x) (j + 10)) 616 rates tt refl k h))
+
+-- and names its D alone: asked for, it gives this D
+pub rate-names : (d : ℕ) → isD d ≡ true → nearestOf (rateOf d) ≡ d
+rate-names d is = nearest-chosen (rateOf d) (rate-asked d is) ∙ at-d (λ e. chosen (rateOf e) ≡ e) back d is
+
+pub rate-one : (d e : ℕ) → isD d ≡ true → isD e ≡ true → rateOf d ≡ rateOf e → d ≡ e
+rate-one d e p q same = sym (rate-names d p) ∙ ap nearestOf same ∙ rate-names e q
+
+-- ---- the D of an achieved rate
+
+table-length : length rates ≡ 616
+unfolding rates
+table-length = refl
+
+in-at : (xs : List ℕ) (d rate k : ℕ) → k < length xs → ((j : ℕ) → j < k → getD xs j 0 ≡ rate → ⊥) → getD xs k 0 ≡ rate → dIn xs d rate ≡ d + k
+in-at [] d rate k h others is = absurd (not-suc-le-zero h)
+in-at (x ∷ xs) d rate zero h others is = rw (eq-eqb x rate is) (sym (add-zero d))
+in-at (x ∷ xs) d rate (suc k) h others is =
+    let first : eqb x rate ≡ false = ne-eqb x rate (λ e. others 0 (omega arith) e) in
+    rw first
+    (in-at xs (d + 1) rate k (le-of-suc-le-suc h) (λ j l e. others (suc j) (suc-le-suc l) e) is ∙ omega arith)
+
+in-none : (xs : List ℕ) (d rate : ℕ) → ((k : ℕ) → k < length xs → getD xs k 0 ≡ rate → ⊥) → dIn xs d rate ≡ 0
+in-none [] d rate none = refl
+in-none (x ∷ xs) d rate none =
+    let first : eqb x rate ≡ false = ne-eqb x rate (λ e. none 0 (omega arith) e) in
+    rw first (in-none xs (d + 1) rate (λ k l e. none (suc k) (suc-le-suc l) e))
+
+of-place : (k : ℕ) → k < 616 → dOf (rateOf (k + 10)) ≡ k + 10
+unfolding dOf
+of-place k h =
+    in-at rates 10 (rateOf (k + 10)) k (rw table-length h)
+    (λ j l e. omega (arith, table-falls j k l h, table-rule k h, e)) (table-rule k h)
+    ∙ omega arith
+
+-- the achieved rate of a D has this D
+pub d-of-rate : (d : ℕ) → isD d ≡ true → dOf (rateOf d) ≡ d
+d-of-rate = at-d (λ d. dOf (rateOf d) ≡ d) of-place
+
+-- a rate that is no D's achieved rate has none
+pub d-of-none : (rate : ℕ) → ((d : ℕ) → isD d ≡ true → rateOf d ≡ rate → ⊥) → dOf rate ≡ 0
+unfolding dOf
+d-of-none rate none = in-none rates 10 rate nowhere
+  where
+    nowhere : (k : ℕ) → k < length rates → getD rates k 0 ≡ rate → ⊥
+    nowhere k h e =
+        let inside : k < 616 = omega (arith, table-length) in
+        none (k + 10) (is-within 10 625 (k + 10) (omega arith) (omega arith)) (sym (table-rule k inside) ∙ e)
+
+-- so has a rate that may not be asked for
+pub d-of-unasked : (rate : ℕ) → mayAsk rate ≡ false → dOf rate ≡ 0
+d-of-unasked rate unasked = d-of-none rate (λ e is same. true-not-false (sym (rate-asked e is) ∙ ap mayAsk same ∙ unasked))
+
+-- the nearest D is a D
+pub nearest-d : (rate : ℕ) → mayAsk rate ≡ true → isD (nearestOf rate) ≡ true
+nearest-d rate asked =
+    let n = nearest-is rate asked in
+    is-within 10 625 (nearestOf rate) (n .least) (n .most)
+
+-- ---- what `nearest` and `achieved` find of a rate
+
+module _ (rate d a : ℕ) (near : d ≡ pick (mayAsk rate) (nearestOf rate) 0) (got : a ≡ pick (isD d) (rateOf d) 0) where
+  pub d-of-hit : a ≡ rate → d ≡ dOf rate
+  d-of-hit same = go (mayAsk rate) refl
+    where
+      go : (t : Bool) → mayAsk rate ≡ t → d ≡ dOf rate
+      go true asked =
+          let found : d ≡ nearestOf rate = rw asked at near in
+          let is : isD d ≡ true = rw found (nearest-d rate asked) in
+          sym (d-of-rate d is) ∙ ap dOf (sym (rw is at got) ∙ same)
+      go false unasked =
+          let none : d ≡ 0 = rw unasked at near in
+          none ∙ sym (d-of-unasked rate unasked)
+
+  pub d-of-miss : (a ≡ rate → ⊥) → 0 ≡ dOf rate
+  d-of-miss other = sym (d-of-none rate none)
+    where
+      none : (e : ℕ) → isD e ≡ true → rateOf e ≡ rate → ⊥
+      none e is same =
+          let asked : mayAsk rate ≡ true = sym (ap mayAsk same) ∙ rate-asked e is in
+          let found : d ≡ e = (rw asked at near) ∙ sym (ap nearestOf same) ∙ rate-names e is in
+          let its : isD d ≡ true = rw found is in
+          other ((rw its at got) ∙ ap rateOf found ∙ same)
