@@ -11,7 +11,7 @@ use Rattle.wire.specs.Choice.{pick}
 use Rattle.wire.proofs.Laws.{within-low, within-high, pick-keeps}
 use Rattle.rates.specs.Rate.{isD, mayAsk, miss, Nearer, Nearest, nearestUpTo, nearestOf}
 use Rattle.rates.specs.Table.{rates}
-use Rattle.rates.proofs.Entries.{everywhere}
+use Rattle.rates.proofs.Rules.{everywhere}
 use Rattle.rates.proofs.Fractions.{between, here-before, here-after, next-before, next-after, tie}
 
 -- ---- at most one D is the nearest

@@ -1,4 +1,4 @@
-pub mod Entries
+pub mod Rules
 pub mod Fractions
 pub mod Choosing
 pub mod Rates

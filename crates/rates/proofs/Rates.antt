@@ -12,7 +12,7 @@ use Rattle.wire.specs.Choice.{pick}
 use Rattle.wire.proofs.Laws.{true-not-false, test-true, within-low, within-high, is-within}
 use Rattle.rates.specs.Rate.{isD, rateOf, mayAsk, nearestOf}
 use Rattle.rates.specs.Table.{rates, dIn, dOf}
-use Rattle.rates.proofs.Entries.{entry, everywhere, falling}
+use Rattle.rates.proofs.Rules.{entry, everywhere, falling}
 use Rattle.rates.proofs.Choosing.{chosen, nearest-chosen, nearest-is}
 
 -- the rounding rule, at each place
