@@ -4,11 +4,15 @@
 //! says that one of them misread it. It is also the peer that the benchmarks time: iterators over exact chunks, state
 //! behind `&mut self`, nothing copied that can be borrowed.
 
+pub mod boundary;
 pub mod code;
 pub mod head;
 pub mod item;
 pub mod message;
 pub mod packet;
+#[cfg(proved)]
+pub mod proved;
+pub mod random;
 pub mod rate;
 pub mod reader;
 pub mod reply;

@@ -81,3 +81,17 @@ pub fn unpack(packet: &[u8], numbers: &mut [i32]) -> Result<usize, Code> {
     }
     Ok(numbers.len())
 }
+
+/// Reads packets of one length one after another by a new reader, to the first that is refused: the position of the last
+/// packet's first sample.
+pub fn read_run(packets: &[u8], total: usize) -> u64 {
+    let mut reader = Reader::default();
+    let mut sample = 0;
+    for packet in packets.chunks_exact(total) {
+        match reader.read(packet) {
+            Ok(place) => sample = place.sample,
+            Err(_) => break,
+        }
+    }
+    sample
+}

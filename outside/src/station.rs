@@ -421,3 +421,20 @@ pub fn serve(host: &[u8], replies: &mut [u8]) -> usize {
     }
     wrote
 }
+
+/// Cuts packets from a run of samples, one after another, by a box that has just been started; answers how many.
+pub fn cut_run(mode: u8, size: u8, samples: &[i32], packets: &mut [u8]) -> usize {
+    let (mut station, _) = Station::fresh(b"MT123456");
+    station.settings.running = true;
+    station.settings.mode = mode;
+    station.settings.size = size;
+    let form = station.settings.form();
+    let mut count = 0;
+    for (samples, packet) in samples.chunks_exact(form.samples()).zip(packets.chunks_exact_mut(form.total())) {
+        if station.cut(samples, packet).code != Code::Done {
+            break;
+        }
+        count += 1;
+    }
+    count
+}

@@ -1,0 +1,22 @@
+//! Links what the scripts have built: the proved library for the comparison and the benchmarks, the C peer for the
+//! benchmarks. Without them the crate builds all the same, and compares the plain implementation with itself.
+
+use std::env;
+
+fn main() {
+    for name in ["DOOR_FOLDER", "PEER_OBJECT"] {
+        println!("cargo:rerun-if-env-changed={name}");
+        println!("cargo:rustc-check-cfg=cfg(proved)\ncargo:rustc-check-cfg=cfg(peer)");
+    }
+    if let Ok(folder) = env::var("DOOR_FOLDER") {
+        println!("cargo:rerun-if-changed={folder}/libdoor.a");
+        println!("cargo:rustc-link-search=native={folder}");
+        println!("cargo:rustc-link-lib=static=door");
+        println!("cargo:rustc-cfg=proved");
+    }
+    if let Ok(object) = env::var("PEER_OBJECT") {
+        println!("cargo:rerun-if-changed={object}");
+        println!("cargo:rustc-link-arg-bin=bench={object}");
+        println!("cargo:rustc-cfg=peer");
+    }
+}

@@ -1,0 +1,725 @@
+//! Holds two implementations of document 01 against each other, call by call, byte by byte.
+//!
+//!     compare [TIMES]       random inputs times TIMES (1 by default), and every edge
+//!
+//! Built with the proved library (see check.sh), the second implementation is that; without it the implementation of this
+//! folder is held against itself, which tries the inputs and the boundary only.
+
+mod inputs;
+
+use std::collections::BTreeMap;
+use std::fmt::Debug;
+use std::process::ExitCode;
+
+use outside::boundary::{station_in, wish, Library, Plain, READER_BYTES, STATION_BYTES};
+use outside::boundary::{ASK_RATE, ASK_VERSION, SET_CLOCK, SET_FREQUENCY, SET_GAIN, SET_RATE, SET_SIZE, SET_STATE};
+use outside::random::Random;
+use outside::{rate, Form, Reader};
+
+struct Comparison<'a> {
+    plain: &'a dyn Library,
+    other: &'a dyn Library,
+    /// calls made, by name and code
+    seen: BTreeMap<&'static str, BTreeMap<u8, u64>>,
+    differences: u64,
+}
+
+impl Comparison<'_> {
+    /// Notes one call and what both made of it; `input` tells how to have the call again.
+    fn note<T: PartialEq + Debug>(
+        &mut self,
+        call: &'static str,
+        code: u8,
+        ours: T,
+        other: T,
+        input: impl Fn() -> String,
+    ) {
+        *self.seen.entry(call).or_default().entry(code).or_default() += 1;
+        if ours != other {
+            self.differences += 1;
+            if self.differences <= 10 {
+                println!("DIFFERENCE in {call}\n  input  {}\n  plain  {ours:02X?}\n  other  {other:02X?}", input());
+            }
+        }
+    }
+
+    fn fresh(&mut self, serial: &[u8], room: usize) {
+        let (mut ours, mut theirs) = (vec![0xEE; room], vec![0xEE; room]);
+        let code = self.plain.fresh(serial, &mut ours);
+        let other = self.other.fresh(serial, &mut theirs);
+        self.note("fresh", code, (code, ours), (other, theirs), || format!("{serial:02X?} {room}"));
+    }
+
+    /// One call of feeding; both states go on from what each made of it.
+    fn feed(&mut self, states: &mut (Vec<u8>, Vec<u8>), host: &[u8], room: usize) -> (u8, usize) {
+        let before = states.0.clone();
+        let (mut ours, mut theirs) = (vec![0xEE; room], vec![0xEE; room]);
+        let done = self.plain.feed(&mut states.0, host, &mut ours);
+        let other = self.other.feed(&mut states.1, host, &mut theirs);
+        self.note("feed", done.0, (done, ours, &states.0), (other, theirs, &states.1), || {
+            format!("state {before:02X?} host {host:02X?} room {room}")
+        });
+        (done.0, done.1)
+    }
+
+    fn word(&mut self, state: &[u8]) {
+        let done = self.plain.word(state);
+        let other = self.other.word(state);
+        self.note("word", done.0, done, other, || format!("state {state:02X?}"));
+    }
+
+    fn cut(&mut self, state: &[u8], samples: &[i32], room: usize) -> Vec<u8> {
+        let (mut ours, mut theirs) = (vec![0xEE; room], vec![0xEE; room]);
+        let (mut state_ours, mut state_theirs) = (state.to_vec(), state.to_vec());
+        let done = self.plain.cut(&mut state_ours, samples, &mut ours);
+        let other = self.other.cut(&mut state_theirs, samples, &mut theirs);
+        self.note("cut", done.0, (done, &ours, &state_ours), (other, &theirs, &state_theirs), || {
+            format!("state {state:02X?} samples {samples:?} room {room}")
+        });
+        ours.truncate(done.1);
+        ours
+    }
+
+    fn read(&mut self, reader: &[u8], packet: &[u8]) -> Vec<u8> {
+        let (mut ours, mut theirs) = (reader.to_vec(), reader.to_vec());
+        let done = self.plain.read(&mut ours, packet);
+        let other = self.other.read(&mut theirs, packet);
+        self.note("read", done.0, (done, &ours), (other, &theirs), || {
+            format!("reader {reader:02X?} packet of {} {:02X?}", packet.len(), &packet[..packet.len().min(4)])
+        });
+        ours
+    }
+
+    fn sample_byte(&mut self, packet: &[u8], place: usize) {
+        let done = self.plain.sample_byte(packet, place);
+        let other = self.other.sample_byte(packet, place);
+        let code = if done.0 > 0 { 1 } else { 30 };
+        self.note("sample bytes", code, done, other, || format!("packet {packet:02X?} place {place}"));
+    }
+
+    fn unpack(&mut self, packet: &[u8], room: usize) {
+        let (mut ours, mut theirs) = (vec![-77; room], vec![-77; room]);
+        let done = self.plain.unpack(packet, &mut ours);
+        let other = self.other.unpack(packet, &mut theirs);
+        self.note("unpack", done.0, (done, ours), (other, theirs), || format!("packet {packet:02X?} room {room}"));
+    }
+
+    fn write_wish(&mut self, which: u64, value: u64, room: usize) {
+        let (mut ours, mut theirs) = (vec![0xEE; room], vec![0xEE; room]);
+        let done = self.plain.write_wish(which, value, &mut ours);
+        let other = self.other.write_wish(which, value, &mut theirs);
+        self.note("wish", done.0, (done, ours), (other, theirs), || format!("wish {which} value {value} room {room}"));
+    }
+
+    fn read_reply(&mut self, which: u64, value: u64, bytes: &[u8]) {
+        let done = self.plain.read_reply(which, value, bytes);
+        let other = self.other.read_reply(which, value, bytes);
+        self.note("reply", done.0, done, other, || format!("wish {which} value {value} bytes {bytes:02X?}"));
+    }
+
+    fn write_head(&mut self, head: (u64, u64, u8, u8), room: usize) {
+        let (divisor, frequency, mode, size) = head;
+        let (mut ours, mut theirs) = (vec![0xEE; room], vec![0xEE; room]);
+        let code = self.plain.write_head(divisor, frequency, mode, size, &mut ours);
+        let other = self.other.write_head(divisor, frequency, mode, size, &mut theirs);
+        self.note("head written", code, (code, ours), (other, theirs), || format!("head {head:?} room {room}"));
+    }
+
+    fn read_head(&mut self, bytes: &[u8]) {
+        let done = self.plain.read_head(bytes);
+        let other = self.other.read_head(bytes);
+        self.note("head read", done.0, done, other, || format!("bytes {bytes:02X?}"));
+    }
+
+    fn serve(&mut self, host: &[u8], room: usize) {
+        let (mut ours, mut theirs) = (vec![0xEE; room], vec![0xEE; room]);
+        let done = self.plain.serve(host, &mut ours);
+        let other = self.other.serve(host, &mut theirs);
+        self.note("serve", 1, (done, ours), (other, theirs), || format!("host {host:02X?} room {room}"));
+    }
+
+    fn span(&mut self, input: &[u8]) {
+        let (Some(ours), Some(theirs)) = (self.plain.span(input), self.other.span(input)) else { return };
+        let (ours, theirs) = (String::from_utf8_lossy(&ours), String::from_utf8_lossy(&theirs));
+        // the code after R, or 1 where the input was read to its end
+        let last = ours.lines().last().unwrap_or_default();
+        let code = last.strip_prefix("R ").and_then(|rest| rest.split(' ').next()?.parse().ok()).unwrap_or(1);
+        self.note("span", code, &ours, &theirs, || {
+            format!("{:02X?} .. of {}", &input[..input.len().min(2000)], input.len())
+        });
+    }
+}
+
+// ---- random inputs
+
+/// A box, broken or not, and bytes in random pieces with short and long reply buffers.
+fn random_feeding(c: &mut Comparison, r: &mut Random, times: u64) {
+    for _ in 0..times {
+        let state = inputs::station_state(r);
+        let mut states = (state.clone(), state);
+        let mut host = Vec::new();
+        if r.once_in(3) {
+            // what the unfinished message still lacks, or bytes that run on into it
+            let count = r.within(1, 70);
+            host.extend(r.bytes(count as usize));
+        }
+        for _ in 0..r.within(1, 3) {
+            host.extend(inputs::damaged(r));
+        }
+        let mut at = 0;
+        let mut stuck = 0;
+        while at < host.len() && stuck < 3 {
+            let piece = match r.below(4) {
+                0 => 1,
+                1 => r.size(12),
+                2 => host.len() - at,
+                _ => r.size(host.len() - at + 1),
+            }
+            .min(host.len() - at);
+            let room = match r.below(8) {
+                0 => r.size(12),
+                1 => r.size(40),
+                2 => r.of(&[0, 1, 2, 4, 5, 6, 7, 8, 9, 10, 11, 12, 13, 35, 36]),
+                _ => 64,
+            };
+            let (code, consumed) = c.feed(&mut states, &host[at..at + piece], room);
+            at += consumed;
+            stuck = if code >= 20 || consumed == 0 { stuck + 1 } else { 0 };
+            if r.once_in(8) {
+                c.word(&states.0);
+            }
+        }
+    }
+}
+
+fn random_serving(c: &mut Comparison, r: &mut Random, times: u64) {
+    for _ in 0..times {
+        let mut host = Vec::new();
+        for _ in 0..r.size(12) {
+            host.extend(if r.once_in(6) { inputs::damaged(r) } else { inputs::message(r) });
+        }
+        let room = r.of(&[0, 63, 64, 65, 100, 128, 200, 1000]);
+        c.serve(&host, room);
+    }
+}
+
+fn random_words(c: &mut Comparison, r: &mut Random, times: u64) {
+    for _ in 0..times {
+        let state = inputs::station_state(r);
+        c.word(&state);
+    }
+}
+
+/// Cutting, and what was cut is read and unpacked again.
+fn random_cutting(c: &mut Comparison, r: &mut Random, times: u64) {
+    for _ in 0..times {
+        let state = inputs::cutting_state(r);
+        let form = match state.len() {
+            STATION_BYTES => station_in(&state).settings.form(),
+            _ => inputs::form(r),
+        };
+        let samples = inputs::samples(r, form);
+        let room = inputs::room(r, form.total());
+        let packet = c.cut(&state, &samples, room);
+        if !packet.is_empty() {
+            c.unpack(&packet, form.samples());
+        }
+    }
+}
+
+fn random_reading(c: &mut Comparison, r: &mut Random, times: u64) {
+    for _ in 0..times {
+        let (mut reader, packet) = inputs::reading(r);
+        reader = c.read(&reader, &packet);
+        // and on from where it came to
+        for _ in 0..r.size(4) {
+            let form = if r.once_in(16) { inputs::form(r) } else { Form::LISTED[packet.len() % 4] };
+            let number = if r.once_in(6) { 0 } else { r.any() as u16 };
+            let packet = inputs::packet(r, form, number);
+            reader = c.read(&reader, &packet);
+        }
+    }
+}
+
+fn random_unpacking(c: &mut Comparison, r: &mut Random, times: u64) {
+    for _ in 0..times {
+        let form = inputs::form(r);
+        let number = r.any() as u16;
+        let packet = inputs::packet(r, form, number);
+        let room = inputs::room(r, form.samples());
+        c.unpack(&packet, room);
+        let place = match r.below(3) {
+            0 => r.of(&[0, 1, form.total() - 5, form.total() - 4, form.total(), usize::MAX]),
+            _ => r.size(form.total()),
+        };
+        c.sample_byte(&packet, place);
+    }
+}
+
+fn random_wishes(c: &mut Comparison, r: &mut Random, times: u64) {
+    for _ in 0..times {
+        let (which, value) = inputs::wish_numbers(r);
+        let room = if r.once_in(3) { r.size(16) } else { 16 + r.size(4) };
+        c.write_wish(which, value, room);
+        let bytes = inputs::answer(r, which, value);
+        c.read_reply(which, value, &bytes);
+    }
+}
+
+fn random_heads(c: &mut Comparison, r: &mut Random, times: u64) {
+    for _ in 0..times {
+        let mut head = inputs::head(r);
+        if r.once_in(4) {
+            match r.below(4) {
+                0 => head.divisor = r.of(&[0, 9, 626, 65_535, 65_536 + 100, u32::MAX]),
+                1 => head.frequency = inputs::frequency(r),
+                2 => head.mode = inputs::mode(r),
+                _ => head.size = r.byte(),
+            }
+        }
+        let divisor = u64::from(head.divisor) + if r.once_in(100) { 1 << 32 } else { 0 };
+        let room = inputs::room(r, 14);
+        c.write_head((divisor, head.frequency, head.mode, head.size), room);
+
+        let mut bytes = inputs::capture(r);
+        bytes.truncate(r.size(20));
+        c.read_head(&bytes);
+    }
+}
+
+fn random_spans(c: &mut Comparison, r: &mut Random, times: u64) {
+    for _ in 0..times {
+        let capture = inputs::capture(r);
+        c.span(&capture);
+    }
+}
+
+// ---- every edge
+
+/// Every header, with a message of its own length, in one slice and cut after its first and second byte.
+fn every_header(c: &mut Comparison, r: &mut Random) {
+    for header in 0..=u16::MAX {
+        let message = inputs::whole(r, header);
+        let state = Plain.fresh_state();
+        let mut states = (state.clone(), state);
+        for cut in [0, 1, 2, message.len() - 1] {
+            let mut at = 0;
+            for end in [cut.min(message.len()), message.len()] {
+                let (_, consumed) = c.feed(&mut states, &message[at..end], 64);
+                at += consumed;
+            }
+        }
+    }
+}
+
+/// Every item code, set, requested and asked for its range, with the lengths that some item has.
+fn every_item(c: &mut Comparison) {
+    for item in 0..=u16::MAX {
+        for kind in 0..3u16 {
+            let lengths: &[u16] =
+                if inputs::ITEMS.contains(&item) { &[4, 5, 6, 7, 8, 9, 10, 11, 63, 64] } else { &[4, 5] };
+            for length in lengths {
+                let mut message = vec![0; usize::from(*length)];
+                message[..2].copy_from_slice(&(length | kind << 13).to_le_bytes());
+                message[2..4].copy_from_slice(&item.to_le_bytes());
+                let state = Plain.fresh_state();
+                c.feed(&mut (state.clone(), state), &message, 64);
+            }
+        }
+    }
+}
+
+/// Every rate that is allowed and those beside them, idle and, for some, running.
+fn every_rate(c: &mut Comparison) {
+    let state = Plain.fresh_state();
+    for rate in 31_990..=2_000_010u32 {
+        let mut message = [0x09, 0x00, 0xB8, 0x00, 0x5A, 0, 0, 0, 0];
+        message[5..].copy_from_slice(&rate.to_le_bytes());
+        c.feed(&mut (state.clone(), state.clone()), &message, 64);
+    }
+}
+
+/// The settings of one byte: every gain with every channel, every state's run byte and mode, every size, every version.
+fn every_byte(c: &mut Comparison) {
+    let idle = Plain.fresh_state();
+    let mut running = idle.clone();
+    Plain.feed(&mut running, &[0x08, 0x00, 0x18, 0x00, 0x80, 0x02, 0x00, 0x00], &mut [0; 64]);
+    for state in [idle, running] {
+        let mut tell = |message: &[u8]| {
+            c.feed(&mut (state.clone(), state.clone()), message, 64);
+        };
+        for a in 0..=255 {
+            tell(&[0x05, 0x00, 0xC4, 0x00, a]);
+            for item in [0x04, 0x20, 0x38, 0xB0, 0xB8] {
+                tell(&[0x05, 0x20, item, 0x00, a]);
+            }
+            tell(&[0x05, 0x40, 0x20, 0x00, a]);
+            tell(&[0x0A, 0x00, 0x20, 0x00, a, 0x90, 0xC6, 0xD5, 0x00, 0x00]);
+            tell(&[0x09, 0x00, 0xB0, 0x00, a, 0x00, 0xB4, 0xC4, 0x04]);
+            tell(&[0x09, 0x00, 0xB8, 0x00, a, 0x20, 0xA1, 0x07, 0x00]);
+            for b in 0..=255 {
+                tell(&[0x06, 0x00, 0x38, 0x00, a, b]);
+                for first in [0x80, 0x00, 0x81, 0x7F] {
+                    tell(&[0x08, 0x00, 0x18, 0x00, first, a, b, a ^ b]);
+                }
+            }
+        }
+    }
+}
+
+/// Frequencies and clocks around each edge, with the word of each pair.
+fn every_edge_of_bands(c: &mut Comparison) {
+    let state = Plain.fresh_state();
+    for centre in inputs::FREQUENCIES {
+        for frequency in centre.saturating_sub(50)..=(centre + 50).min(0xFF_FFFF_FFFF) {
+            for clock in inputs::CLOCKS {
+                let mut states = (state.clone(), state.clone());
+                let mut message = [0x09, 0x00, 0xB0, 0x00, 0x00, 0, 0, 0, 0];
+                message[5..].copy_from_slice(&clock.to_le_bytes()[..4]);
+                c.feed(&mut states, &message, 64);
+                let mut message = [0x0A, 0x00, 0x20, 0x00, 0xFF, 0, 0, 0, 0, 0];
+                message[5..].copy_from_slice(&frequency.to_le_bytes()[..5]);
+                c.feed(&mut states, &message, 64);
+                c.word(&states.0);
+            }
+        }
+    }
+}
+
+/// Each reply with a buffer of each length up to its own, and states of each length.
+fn every_room(c: &mut Comparison) {
+    let state = Plain.fresh_state();
+    let mut messages: Vec<Vec<u8>> = inputs::ITEMS.iter().map(|&i| vec![0x04, 0x20, i as u8, 0x00]).collect();
+    for item in [0x04, 0x20, 0x38, 0xB0, 0xB8] {
+        messages.push(vec![0x05, 0x20, item, 0x00, 0x00]);
+    }
+    messages.push(vec![0x05, 0x40, 0x20, 0x00, 0x00]);
+    messages.push(vec![0x02, 0x00]);
+    messages.push(vec![0x00, 0x00]);
+    for message in &messages {
+        for room in 0..=66 {
+            c.feed(&mut (state.clone(), state.clone()), message, room);
+        }
+    }
+    for length in 0..=2 * STATION_BYTES {
+        let mut odd = state.clone();
+        odd.resize(length, 0);
+        c.feed(&mut (odd.clone(), odd.clone()), &messages[0], 64);
+        c.word(&odd);
+        c.cut(&odd, &[], 0);
+        c.fresh(b"MT123456", length);
+    }
+    for length in 0..=2 * READER_BYTES {
+        c.read(&vec![0; length], &[]);
+    }
+}
+
+fn every_serial(c: &mut Comparison, r: &mut Random) {
+    for byte in 0..=255 {
+        for place in 0..8 {
+            let mut serial = *b"MT123456";
+            serial[place] = byte;
+            c.fresh(&serial, STATION_BYTES);
+        }
+    }
+    for length in 0..=16 {
+        c.fresh(&vec![b'A'; length], STATION_BYTES);
+        let serial = r.bytes(length);
+        c.fresh(&serial, STATION_BYTES);
+    }
+}
+
+/// Each number after each of some positions, in each form; around the last position too.
+fn every_number(c: &mut Comparison, r: &mut Random) {
+    for form in Form::LISTED {
+        let mut packet = inputs::plain_packet(r, form, 0);
+        for position in [0, 1, 65_535, 65_536, 131_071, 3_999_934_000, 3_999_999_999] {
+            let reader = outside::boundary::reader_bytes(&Reader { heard: true, position, form });
+            for number in 0..=u16::MAX {
+                packet[2..4].copy_from_slice(&number.to_le_bytes());
+                c.read(&reader, &packet);
+            }
+        }
+    }
+}
+
+/// Each packet header with each listed length.
+fn every_packet_header(c: &mut Comparison) {
+    let silent = vec![0; READER_BYTES];
+    for header in 0..=u16::MAX {
+        for total in [0, 1, 2, 3, 4, 388, 516, 1028, 1444, 1445] {
+            let mut packet = vec![0; total];
+            for (place, byte) in packet.iter_mut().zip(header.to_le_bytes()) {
+                *place = byte;
+            }
+            c.read(&silent, &packet);
+        }
+    }
+}
+
+/// A sample of each 24-bit value, cut in every form and unpacked.
+fn every_sample(c: &mut Comparison) {
+    for form in [Form::LARGE_24, Form::LARGE_16] {
+        let mut station = outside::Station::fresh(b"MT123456").0;
+        station.settings.running = true;
+        station.settings.mode = if form.bits == 24 { 0x80 } else { 0x00 };
+        let state = outside::boundary::station_bytes(&station).to_vec();
+        let mut next = -8_388_608;
+        while next <= 8_388_607 {
+            let samples: Vec<i32> = (0..form.samples() as i32).map(|i| (next + i).min(8_388_607)).collect();
+            next += form.samples() as i32;
+            let packet = c.cut(&state, &samples, form.total());
+            c.unpack(&packet, form.samples());
+        }
+    }
+}
+
+fn every_wish(c: &mut Comparison) {
+    for which in 0..20 {
+        for value in 0..0x300 {
+            c.write_wish(which, value, 16);
+            c.read_reply(which, value, &[0x02, 0x00]);
+        }
+        for room in 0..20 {
+            c.write_wish(which, 1, room);
+            c.write_wish(which, 5, room);
+        }
+    }
+    for state in 0..=u64::from(u16::MAX) {
+        c.write_wish(SET_STATE, state, 16);
+        for run in [1, 2, 3] {
+            for mode in [0x00, 0x80, 0x01] {
+                c.read_reply(SET_STATE, state, &[0x08, 0x00, 0x18, 0x00, 0x80, run, mode, 0x00]);
+            }
+        }
+    }
+    for frequency in inputs::FREQUENCIES {
+        for value in frequency.saturating_sub(20)..frequency + 20 {
+            c.write_wish(SET_FREQUENCY, value, 16);
+        }
+    }
+    for clock in inputs::CLOCKS {
+        for value in clock.saturating_sub(20)..clock + 20 {
+            c.write_wish(SET_CLOCK, value, 16);
+        }
+    }
+}
+
+/// Each rate wished for, answered with the achieved rate and its neighbours; and every answer to a request for the rate.
+fn every_rate_reply(c: &mut Comparison) {
+    let answer = |rate: u32| {
+        let [a, b, d, e] = rate.to_le_bytes();
+        [0x09, 0x00, 0xB8, 0x00, 0x00, a, b, d, e]
+    };
+    for wished in 31_998..=2_000_002u32 {
+        c.write_wish(SET_RATE, wished.into(), 16);
+        let right = if rate::rate_allowed(wished) { rate::achieved(rate::nearest(wished)) } else { wished };
+        c.read_reply(SET_RATE, wished.into(), &answer(right));
+        c.read_reply(SET_RATE, wished.into(), &answer(right + 1));
+        c.read_reply(SET_RATE, wished.into(), &answer(wished));
+        c.read_reply(ASK_RATE, 0, &answer(wished));
+    }
+}
+
+/// Each wish answered by each reply of a box, each bit of it turned over, and each length.
+fn every_reply(c: &mut Comparison, r: &mut Random) {
+    let wishes: Vec<(u64, u64)> = (0..18)
+        .flat_map(|which| {
+            let values: &[u64] = match which {
+                ASK_VERSION => &[0, 1, 2, 3],
+                SET_STATE => &[0x0001, 0x8002, 0x0002],
+                SET_FREQUENCY => &[14_010_000, 145_000_000],
+                SET_GAIN => &[0xEC],
+                SET_CLOCK => &[80_000_123],
+                SET_RATE => &[1_907_000],
+                SET_SIZE => &[1],
+                _ => &[0],
+            };
+            values.iter().map(move |&value| (which, value))
+        })
+        .collect();
+    for _ in 0..20 {
+        let station = inputs::sound(r);
+        for &(which, value) in &wishes {
+            let mut message = [0; 16];
+            let length = wish(which, value).unwrap().write(&mut message).unwrap();
+            let mut reply = [0; 64];
+            let wrote = station.clone().feed(&message[..length], &mut reply).wrote;
+            for &(other, with) in &wishes {
+                c.read_reply(other, with, &reply[..wrote]);
+            }
+            for length in 0..=wrote + 3 {
+                c.read_reply(which, value, &reply[..length]);
+            }
+            for bit in 0..8 * wrote {
+                let mut turned = reply;
+                turned[bit / 8] ^= 1 << (bit % 8);
+                c.read_reply(which, value, &turned[..wrote]);
+            }
+        }
+    }
+}
+
+fn every_head(c: &mut Comparison) {
+    let mut head = [0; 14];
+    Plain.write_head(100, 10_000_000, 0x80, 1, &mut head);
+    for place in 0..14 {
+        for byte in 0..=255 {
+            let mut bytes = head;
+            bytes[place] = byte;
+            c.read_head(&bytes);
+        }
+    }
+    for divisor in 0..=u16::MAX {
+        let mut bytes = head;
+        bytes[5..7].copy_from_slice(&divisor.to_le_bytes());
+        c.read_head(&bytes);
+        c.write_head((divisor.into(), 10_000_000, 0, 0), 14);
+    }
+    for length in 0..14 {
+        c.read_head(&head[..length]);
+        c.write_head((100, 10_000_000, 0x80, 1), length);
+        c.write_head((9, 10_000_000, 0x80, 1), length);
+    }
+    for frequency in inputs::FREQUENCIES {
+        for value in frequency.saturating_sub(20)..frequency + 20 {
+            c.write_head((625, value, 0x80, 0), 14);
+        }
+    }
+    for mode in 0..=255 {
+        for size in 0..=255 {
+            c.write_head((10, 150_000_000, mode, size), 15);
+        }
+    }
+}
+
+/// Captures that end well or are broken off at each byte, and more than a turn of the number.
+fn every_span(c: &mut Comparison, r: &mut Random) {
+    let mut bytes = vec![0; 14];
+    Plain.write_head(100, 10_000_000, 0x80, 1, &mut bytes);
+    for number in [0, 1, 4] {
+        bytes.extend(inputs::plain_packet(r, Form::SMALL_24, number));
+    }
+    for length in 0..=bytes.len() {
+        c.span(&bytes[..length]);
+    }
+    for numbers in [&[0, 65_535, 65_535, 1, 1, 65_534][..], &[0, 0, 0], &[7], &[65_535], &[0, 7, 7, 7], &[0, 1, 0, 9]] {
+        let mut bytes = bytes[..14].to_vec();
+        for &number in numbers {
+            bytes.extend(inputs::plain_packet(r, Form::SMALL_24, number));
+        }
+        c.span(&bytes);
+        for foreign in Form::LISTED {
+            for number in [0, 1] {
+                let mut mixed = bytes.clone();
+                mixed.extend(inputs::plain_packet(r, foreign, number));
+                c.span(&mixed);
+                mixed.pop();
+                c.span(&mixed);
+            }
+        }
+    }
+    let noise = r.bytes(1 << 20);
+    c.span(&noise);
+    c.span(b"This is a text file and no capture.\n");
+    // to the last position and past it
+    let mut long = bytes[..14].to_vec();
+    long.extend(inputs::plain_packet(r, Form::SMALL_24, 0));
+    for _ in 0..61_100 {
+        long.extend(inputs::plain_packet(r, Form::SMALL_24, 5));
+    }
+    c.span(&long);
+}
+
+trait FreshState {
+    fn fresh_state(&self) -> Vec<u8>;
+}
+
+impl FreshState for Plain {
+    fn fresh_state(&self) -> Vec<u8> {
+        let mut state = vec![0; STATION_BYTES];
+        self.fresh(b"MT123456", &mut state);
+        state
+    }
+}
+
+/// The codes that a call can give at all; each has to have been seen.
+const POSSIBLE: [(&str, &[u8]); 13] = [
+    ("fresh", &[1, 21, 26]),
+    ("feed", &[0, 1, 2, 10, 11, 12, 13, 14, 15, 16, 17, 20, 21]),
+    ("word", &[1, 21]),
+    ("cut", &[1, 20, 21, 22, 23, 24, 25]),
+    ("read", &[1, 21, 30, 31, 32, 33]),
+    ("sample bytes", &[1, 30]),
+    ("unpack", &[1, 20, 30]),
+    ("wish", &[1, 16, 20]),
+    ("reply", &[1, 16, 28]),
+    ("head written", &[1, 16, 20]),
+    ("head read", &[1, 40, 41]),
+    ("serve", &[1]),
+    ("span", &[1, 30, 31, 32, 33, 40, 41]),
+];
+
+fn main() -> ExitCode {
+    let times: u64 = std::env::args().nth(1).map_or(1, |word| word.parse().expect("TIMES is a whole number"));
+    #[cfg(proved)]
+    let (other, name): (&dyn Library, _) = (&outside::proved::Proved, "the proved library");
+    #[cfg(not(proved))]
+    let (other, name): (&dyn Library, _) = (&Plain, "itself (built without the proved library)");
+    println!("document 01 in plain Rust against {name}");
+
+    let mut c = Comparison { plain: &Plain, other, seen: BTreeMap::new(), differences: 0 };
+    let r = &mut Random::new(0x5EED_0001);
+    every_header(&mut c, r);
+    every_item(&mut c);
+    every_rate(&mut c);
+    every_byte(&mut c);
+    every_edge_of_bands(&mut c);
+    every_room(&mut c);
+    every_serial(&mut c, r);
+    every_number(&mut c, r);
+    every_packet_header(&mut c);
+    every_sample(&mut c);
+    every_wish(&mut c);
+    every_rate_reply(&mut c);
+    every_reply(&mut c, r);
+    every_head(&mut c);
+    every_span(&mut c, r);
+    for seed in 0..times {
+        let r = &mut Random::new(0x5EED_1000 + seed);
+        random_feeding(&mut c, r, 400_000);
+        random_serving(&mut c, r, 50_000);
+        random_words(&mut c, r, 100_000);
+        random_cutting(&mut c, r, 100_000);
+        random_reading(&mut c, r, 200_000);
+        random_unpacking(&mut c, r, 100_000);
+        random_wishes(&mut c, r, 500_000);
+        random_heads(&mut c, r, 200_000);
+        random_spans(&mut c, r, 20_000);
+    }
+
+    let mut calls = 0;
+    for (call, codes) in &c.seen {
+        let count: u64 = codes.values().sum();
+        calls += count;
+        let list: Vec<String> = codes.iter().map(|(code, count)| format!("{code}: {count}")).collect();
+        println!("{call:13} {count:9}   {}", list.join(", "));
+    }
+    let mut unseen = 0;
+    for (call, codes) in POSSIBLE {
+        if call == "span" && !c.seen.contains_key("span") {
+            println!("span was not compared: SPAN_PROGRAM names no program");
+            continue;
+        }
+        for code in codes.iter().filter(|code| !c.seen.get(call).is_some_and(|seen| seen.contains_key(code))) {
+            println!("{call} never gave code {code}: the inputs are too few");
+            unseen += 1;
+        }
+    }
+    println!("{calls} calls compared, {} differences", c.differences);
+    if c.differences == 0 && unseen == 0 {
+        ExitCode::SUCCESS
+    } else {
+        ExitCode::FAILURE
+    }
+}

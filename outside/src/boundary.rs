@@ -1,0 +1,287 @@
+//! The boundary over which two implementations of document 01 are compared: numbers and lent slices.
+//!
+//! A box, a reader and a wish cross it as plain bytes or numbers, so that every state can be handed over, sound or broken.
+
+use crate::wish::StateWish;
+use crate::{reader, reply, span, station, Form, Head, Reader, Reply, Station, Wish};
+
+/// A box in bytes: frequency 8, count 8, clock 4, D 4, running 1, mode 1, gain 1, size 1, serial 8, held 64, taken 8.
+pub const STATION_BYTES: usize = 108;
+
+/// A reader in bytes: position 8, bits 8, pairs 8, heard 1.
+pub const READER_BYTES: usize = 25;
+
+/// Wishes are numbered from 0 to 17, in the order of 01's table of items; these are the ones whose value counts.
+pub const ASK_VERSION: u64 = 3;
+pub const SET_STATE: u64 = 5;
+pub const SET_FREQUENCY: u64 = 7;
+pub const SET_GAIN: u64 = 10;
+pub const SET_CLOCK: u64 = 12;
+pub const SET_RATE: u64 = 14;
+pub const ASK_RATE: u64 = 15;
+pub const SET_SIZE: u64 = 16;
+
+/// The calls of document 01. Each first result is the code.
+pub trait Library {
+    /// Code; the fresh box in `state`.
+    fn fresh(&self, serial: &[u8], state: &mut [u8]) -> u8;
+    /// Code, bytes consumed, bytes written.
+    fn feed(&self, state: &mut [u8], host: &[u8], reply: &mut [u8]) -> (u8, usize, usize);
+    /// Code, tuning word.
+    fn word(&self, state: &[u8]) -> (u8, u64);
+    /// Code, bytes written.
+    fn cut(&self, state: &mut [u8], samples: &[i32], packet: &mut [u8]) -> (u8, usize);
+    /// Code, the packet's position, its first sample's position.
+    fn read(&self, reader: &mut [u8], packet: &[u8]) -> (u8, u64, u64);
+    /// How many sample bytes a packet has, and the one at a place (0 past the end).
+    fn sample_byte(&self, packet: &[u8], place: usize) -> (usize, u8);
+    /// Code, numbers written.
+    fn unpack(&self, packet: &[u8], numbers: &mut [i32]) -> (u8, usize);
+    /// Code, bytes written.
+    fn write_wish(&self, which: u64, value: u64, buffer: &mut [u8]) -> (u8, usize);
+    /// Code, which reply, its value. See [`reply_numbers`].
+    fn read_reply(&self, which: u64, value: u64, bytes: &[u8]) -> (u8, u64, u64);
+    /// Code.
+    fn write_head(&self, divisor: u64, frequency: u64, mode: u8, size: u8, buffer: &mut [u8]) -> u8;
+    /// Code, D, frequency, mode, size.
+    fn read_head(&self, bytes: &[u8]) -> (u8, u64, u64, u8, u8);
+    /// Bytes of reply written.
+    fn serve(&self, host: &[u8], replies: &mut [u8]) -> usize;
+    /// What the span program prints, where it is there to be asked.
+    fn span(&self, input: &[u8]) -> Option<Vec<u8>>;
+}
+
+/// The wish of a number and a value. A state is its run byte and 256 times its mode. `None` where there is no such wish, or
+/// no such value of it: a value that does not fit its field is one that the box would refuse.
+pub fn wish(which: u64, value: u64) -> Option<Wish> {
+    let byte = || u8::try_from(value).ok();
+    let word = || u32::try_from(value).ok();
+    Some(match which {
+        0 => Wish::Name,
+        1 => Wish::Serial,
+        2 => Wish::Interface,
+        ASK_VERSION => Wish::Version(byte()?),
+        4 => Wish::Status,
+        SET_STATE => {
+            let [run, mode] = u16::try_from(value).ok()?.to_le_bytes();
+            Wish::SetState(StateWish { run, mode })
+        }
+        6 => Wish::State,
+        SET_FREQUENCY => Wish::SetFrequency(value),
+        8 => Wish::Frequency,
+        9 => Wish::FrequencyRange,
+        SET_GAIN => Wish::SetGain(byte()? as i8),
+        11 => Wish::Gain,
+        SET_CLOCK => Wish::SetClock(word()?),
+        13 => Wish::Clock,
+        SET_RATE => Wish::SetRate(word()?),
+        ASK_RATE => Wish::Rate,
+        SET_SIZE => Wish::SetPacketSize(byte()?),
+        17 => Wish::PacketSize,
+        _ => return None,
+    })
+}
+
+/// A reply as two numbers: 0 NAK, then in the items' order from 1, and 12 the range; with the value as it was sent.
+pub fn reply_numbers(reply: Reply) -> (u64, u64) {
+    match reply {
+        Reply::Nak => (0, 0),
+        Reply::Name => (1, 0),
+        Reply::Serial(serial) => (2, u64::from_le_bytes(serial)),
+        Reply::Interface(version) => (3, version.into()),
+        Reply::Version(bytes) => (4, u16::from_le_bytes(bytes).into()),
+        Reply::Status { running } => (5, running.into()),
+        Reply::State { running, mode } => (6, u64::from(running) + 256 * u64::from(mode)),
+        Reply::Frequency(frequency) => (7, frequency),
+        Reply::Gain(gain) => (8, (gain as u8).into()),
+        Reply::Clock(clock) => (9, clock.into()),
+        Reply::Rate(rate) => (10, rate.into()),
+        Reply::PacketSize(size) => (11, size.into()),
+        Reply::FrequencyRange => (12, 0),
+    }
+}
+
+/// Takes fields off the front of a state's bytes.
+struct Fields<'a>(&'a [u8]);
+
+impl Fields<'_> {
+    fn array<const N: usize>(&mut self) -> [u8; N] {
+        let (field, rest) = self.0.split_first_chunk().expect("a state of the right length");
+        self.0 = rest;
+        *field
+    }
+}
+
+pub fn station_in(bytes: &[u8]) -> Station {
+    let mut fields = Fields(bytes);
+    let settings = station::Settings {
+        frequency: u64::from_le_bytes(fields.array()),
+        count: u64::from_le_bytes(fields.array()),
+        clock: u32::from_le_bytes(fields.array()),
+        divisor: u32::from_le_bytes(fields.array()),
+        running: fields.array() != [0],
+        mode: u8::from_le_bytes(fields.array()),
+        gain: i8::from_le_bytes(fields.array()),
+        size: u8::from_le_bytes(fields.array()),
+        serial: fields.array(),
+    };
+    let held = fields.array();
+    Station { settings, held, taken: usize::from_le_bytes(fields.array()) }
+}
+
+pub fn station_bytes(station: &Station) -> [u8; STATION_BYTES] {
+    let settings = &station.settings;
+    let mut bytes = [0; STATION_BYTES];
+    let mut at = 0;
+    let mut put = |field: &[u8]| {
+        bytes[at..at + field.len()].copy_from_slice(field);
+        at += field.len();
+    };
+    put(&settings.frequency.to_le_bytes());
+    put(&settings.count.to_le_bytes());
+    put(&settings.clock.to_le_bytes());
+    put(&settings.divisor.to_le_bytes());
+    put(&[settings.running.into(), settings.mode, settings.gain as u8, settings.size]);
+    put(&settings.serial);
+    put(&station.held);
+    put(&station.taken.to_le_bytes());
+    bytes
+}
+
+pub fn reader_in(bytes: &[u8]) -> Reader {
+    let mut fields = Fields(bytes);
+    Reader {
+        position: u64::from_le_bytes(fields.array()),
+        form: Form { bits: u64::from_le_bytes(fields.array()), pairs: u64::from_le_bytes(fields.array()) },
+        heard: fields.array() != [0],
+    }
+}
+
+pub fn reader_bytes(reader: &Reader) -> [u8; READER_BYTES] {
+    let mut bytes = [0; READER_BYTES];
+    bytes[..8].copy_from_slice(&reader.position.to_le_bytes());
+    bytes[8..16].copy_from_slice(&reader.form.bits.to_le_bytes());
+    bytes[16..24].copy_from_slice(&reader.form.pairs.to_le_bytes());
+    bytes[24] = reader.heard.into();
+    bytes
+}
+
+/// The implementation of this folder. As over the other side of the boundary, a state of another length is 21 with nothing
+/// written, and a state is written back only where the call was not refused.
+pub struct Plain;
+
+const BROKEN: u8 = 21;
+const BAD_VALUE: u8 = 16;
+
+impl Library for Plain {
+    fn fresh(&self, serial: &[u8], state: &mut [u8]) -> u8 {
+        if state.len() != STATION_BYTES {
+            return BROKEN;
+        }
+        let (station, code) = Station::fresh(serial);
+        state.copy_from_slice(&station_bytes(&station));
+        code as u8
+    }
+
+    fn feed(&self, state: &mut [u8], host: &[u8], reply: &mut [u8]) -> (u8, usize, usize) {
+        if state.len() != STATION_BYTES {
+            return (BROKEN, 0, 0);
+        }
+        let mut station = station_in(state);
+        let fed = station.feed(host, reply);
+        if (fed.code as u8) < 20 {
+            state.copy_from_slice(&station_bytes(&station));
+        }
+        (fed.code as u8, fed.consumed, fed.wrote)
+    }
+
+    fn word(&self, state: &[u8]) -> (u8, u64) {
+        if state.len() != STATION_BYTES {
+            return (BROKEN, 0);
+        }
+        match station_in(state).word() {
+            Ok(word) => (1, word.into()),
+            Err(code) => (code as u8, 0),
+        }
+    }
+
+    fn cut(&self, state: &mut [u8], samples: &[i32], packet: &mut [u8]) -> (u8, usize) {
+        if state.len() != STATION_BYTES {
+            return (BROKEN, 0);
+        }
+        let mut station = station_in(state);
+        let cut = station.cut(samples, packet);
+        if (cut.code as u8) < 20 {
+            state.copy_from_slice(&station_bytes(&station));
+        }
+        (cut.code as u8, cut.wrote)
+    }
+
+    fn read(&self, reader: &mut [u8], packet: &[u8]) -> (u8, u64, u64) {
+        if reader.len() != READER_BYTES {
+            return (BROKEN, 0, 0);
+        }
+        let mut state = reader_in(reader);
+        match state.read(packet) {
+            Ok(place) => {
+                reader.copy_from_slice(&reader_bytes(&state));
+                (1, place.position, place.sample)
+            }
+            Err(code) => (code as u8, 0, 0),
+        }
+    }
+
+    fn sample_byte(&self, packet: &[u8], place: usize) -> (usize, u8) {
+        let part = crate::packet::sample_bytes(packet);
+        (part.len(), part.get(place).copied().unwrap_or(0))
+    }
+
+    fn unpack(&self, packet: &[u8], numbers: &mut [i32]) -> (u8, usize) {
+        match reader::unpack(packet, numbers) {
+            Ok(count) => (1, count),
+            Err(code) => (code as u8, 0),
+        }
+    }
+
+    fn write_wish(&self, which: u64, value: u64, buffer: &mut [u8]) -> (u8, usize) {
+        let Some(wish) = wish(which, value) else { return (BAD_VALUE, 0) };
+        match wish.write(buffer) {
+            Ok(length) => (1, length),
+            Err(code) => (code as u8, 0),
+        }
+    }
+
+    fn read_reply(&self, which: u64, value: u64, bytes: &[u8]) -> (u8, u64, u64) {
+        let Some(wish) = wish(which, value) else { return (BAD_VALUE, 0, 0) };
+        match reply::read(wish, bytes) {
+            Ok(reply) => {
+                let (case, value) = reply_numbers(reply);
+                (1, case, value)
+            }
+            Err(code) => (code as u8, 0, 0),
+        }
+    }
+
+    fn write_head(&self, divisor: u64, frequency: u64, mode: u8, size: u8, buffer: &mut [u8]) -> u8 {
+        let Ok(divisor) = u32::try_from(divisor) else { return BAD_VALUE };
+        match (Head { divisor, frequency, mode, size }).write(buffer) {
+            Ok(_) => 1,
+            Err(code) => code as u8,
+        }
+    }
+
+    fn read_head(&self, bytes: &[u8]) -> (u8, u64, u64, u8, u8) {
+        match Head::read(bytes) {
+            Ok(head) => (1, head.divisor.into(), head.frequency, head.mode, head.size),
+            Err(code) => (code as u8, 0, 0, 0, 0),
+        }
+    }
+
+    fn serve(&self, host: &[u8], replies: &mut [u8]) -> usize {
+        station::serve(host, replies)
+    }
+
+    fn span(&self, input: &[u8]) -> Option<Vec<u8>> {
+        Some(span::text(input).into_bytes())
+    }
+}
