@@ -1,15 +1,15 @@
 -- The D with the nearest exact rate: the search of the definition finds it, it is found without a search, and no tie can be.
 use Prim.Native.Nat.{ℕ, zero, suc, _+_, _*_, _-_, _/_, _%_, _≤_, _<_}
-use mathlib.Core.Path.{_≡_, refl, sym, ap, _∙_, subst}
-use mathlib.Core.Bool.{Bool, true, false}
+use mathlib.Core.Path.{_≡_, refl, sym, ap, _∙_}
+use mathlib.Core.Bool.{true, false}
 use native.Mathlib.Nat.{le-refl, le-of-lt, div-add-mod, mod-lt, mul-le-mul, mul-le-mul-right, le-div-iff-mul-le}
 use native.Mathlib.Decide.{decLt, ℕ-discrete}
 use native.Mathlib.Omega.{arith}
-use lib.Dec.{T, ltb, ltb→lt}
+use lib.Dec.{ltb, ltb→lt}
 use borrow.Author.Tests.{lt-ltb, le-ltb, ltb-true, ltb-false}
 use Rattle.wire.specs.Choice.{pick}
 use Rattle.wire.proofs.Laws.{within-low, within-high, pick-keeps}
-use Rattle.rates.specs.Rate.{isD, mayAsk, miss, Nearer, Nearest, nearestUpTo, nearestOf}
+use Rattle.rates.specs.Rate.{mayAsk, miss, Nearer, Nearest, nearestUpTo, nearestOf}
 use Rattle.rates.specs.Table.{rates}
 use Rattle.rates.proofs.Rules.{everywhere}
 use Rattle.rates.proofs.Fractions.{between, here-before, here-after, next-before, next-after, tie}

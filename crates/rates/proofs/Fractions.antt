@@ -1,7 +1,7 @@
 -- How far the rates of d, e, .. lie from a rate f: the mathematics of "nearest", over plain numbers. With f * d + above =
 -- 20,000,000 and f = above + below, the exact rate of d lies above / d over f, and that of d + 1 lies below / (d + 1) under it.
-use Prim.Native.Nat.{ℕ, zero, suc, _+_, _*_, _-_, _%_, _≤_, _<_}
-use mathlib.Core.Path.{_≡_, refl, sym, ap, _∙_}
+use Prim.Native.Nat.{ℕ, suc, _+_, _*_, _-_, _%_, _≤_, _<_}
+use mathlib.Core.Path.{_≡_, sym, ap, _∙_}
 use native.Mathlib.Nat.{mul-add, add-mul, mul-suc, mul-comm, mul-assoc, mul-one, mul-right-comm, mul-le-mul-left, mul-le-mul-right, mul-pos, le-of-mul-le-mul-right, mul-mod-right, le-of-lt}
 use native.Mathlib.Decide.{decLt}
 use native.Mathlib.Omega.{arith}

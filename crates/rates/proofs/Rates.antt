@@ -1,15 +1,16 @@
 -- The table of achieved rates: each entry by the rounding rule, all distinct, and each the rate of one D.
-use Prim.Native.Nat.{ℕ, zero, suc, _+_, _*_, _-_, _/_, _<_, _≤_, suc-le-suc}
+use Prim.Native.Nat.{ℕ, zero, suc, _+_, _-_, _<_, _≤_, suc-le-suc}
 use mathlib.Core.Path.{_≡_, refl, sym, ap, _∙_}
 use mathlib.Core.Bool.{Bool, true, false}
 use mathlib.Core.List.{List, [], _∷_}
 use native.Mathlib.Nat.{le-of-suc-le-suc, not-suc-le-zero, add-zero}
+use native.Mathlib.Decide.{ℕ-discrete}
 use native.Mathlib.Omega.{arith}
-use lib.Dec.{T, eqb, eqb→eq}
+use lib.Dec.{eqb, eqb→eq}
 use lib.ListN.{length, getD}
 use borrow.Author.Tests.{eq-eqb, ne-eqb}
 use Rattle.wire.specs.Choice.{pick}
-use Rattle.wire.proofs.Laws.{true-not-false, test-true, within-low, within-high, is-within}
+use Rattle.wire.proofs.Laws.{true-not-false, test-true, within-low, within-high, is-within, pick-true}
 use Rattle.rates.specs.Rate.{isD, rateOf, mayAsk, nearestOf}
 use Rattle.rates.specs.Table.{rates, dIn, dOf}
 use Rattle.rates.proofs.Rules.{entry, everywhere, falling}
@@ -53,6 +54,9 @@ pub rate-one : (d e : ℕ) → isD d ≡ true → isD e ≡ true → rateOf d �
 rate-one d e p q same = sym (rate-names d p) ∙ ap nearestOf same ∙ rate-names e q
 
 -- ---- the D of an achieved rate
+
+lt-ne : (n : ℕ) → 0 < n → n ≡ 0 → ⊥
+lt-ne n some none = omega arith
 
 table-length : length rates ≡ 616
 unfolding rates
@@ -127,3 +131,16 @@ module _ (rate d a : ℕ) (near : d ≡ pick (mayAsk rate) (nearestOf rate) 0) (
           let found : d ≡ e = (rw asked at near) ∙ sym (ap nearestOf same) ∙ rate-names e is in
           let its : isD d ≡ true = rw found is in
           other ((rw its at got) ∙ ap rateOf found ∙ same)
+
+-- a D that is found is a D, and has this achieved rate
+pub d-of-found : (rate : ℕ) → 0 < dOf rate → (isD (dOf rate) ≡ true) × (rateOf (dOf rate) ≡ rate)
+d-of-found rate some = go (mayAsk rate) refl
+  where
+    go : (t : Bool) → mayAsk rate ≡ t → (isD (dOf rate) ≡ true) × (rateOf (dOf rate) ≡ rate)
+    go false unasked = absurd (lt-ne (dOf rate) some (d-of-unasked rate unasked))
+    go true asked =
+        let is : isD (nearestOf rate) ≡ true = nearest-d rate asked in
+        elim (ℕ-discrete (rateOf (nearestOf rate)) rate) [
+          | yes same ↦ (let its : dOf rate ≡ nearestOf rate = ap dOf (sym same) ∙ d-of-rate (nearestOf rate) is in (rw its is, rw its same))
+          | no other ↦ absurd (lt-ne (dOf rate) some (sym (d-of-miss rate (nearestOf rate) (rateOf (nearestOf rate)) (sym (pick-true _ _ _ asked)) (sym (pick-true _ _ _ is)) other)))
+        ]

@@ -2,15 +2,14 @@
 use Prim.Native.Nat.{ℕ, suc, _+_, _*_, _-_, _/_, _^_, _≤_, _<_}
 use mathlib.Core.Path.{_≡_, refl, sym, ap, _∙_}
 use mathlib.Core.Bool.{Bool, true, false, _&&_, not}
-use mathlib.Core.List.{List, [], _∷_}
+use mathlib.Core.List.{[], _∷_}
 use native.Mathlib.Nat.{div-lt-iff-lt-mul, div-mul-le-self, lt-mul-div-succ, mul-comm, mul-assoc, mul-add, mul-suc, mul-le-mul-left}
 use native.Mathlib.Omega.{arith}
 use native.Mathlib.Decide.{decLt}
 use Rattle.wire.specs.Choice.{pick, check, firstOf, within}
 use Rattle.wire.proofs.Laws.{and-not-right, pick-false, within-low}
-use Rattle.tuning.specs.Bands.{bands, inBands}
+use Rattle.tuning.specs.Bands.{inBands}
 use Rattle.tuning.specs.Word.{offsetOf, wordOf, isClock, codeIn, telling, wordCode, wordAnswer}
-use Rattle.tuning.specs.declared.word.Word.{Word}
 use Rattle.tuning.specs.declared.word.Word.the-variants.{Is, NotAllowed}
 
 abbrev pub inFirst : ℕ → Bool

@@ -1,6 +1,6 @@
 -- Bands: "100,000 to 34,000,000 Hz, oscillator 0; 140,000,000 to 150,000,000 Hz, oscillator 160,000,000."
 use Prim.Native.Nat.{ℕ}
-use mathlib.Core.Bool.{Bool, true, false, _||_, _&&_}
+use mathlib.Core.Bool.{Bool, false, _||_}
 use mathlib.Core.List.{List, [], _∷_, _++_}
 use Rattle.wire.specs.Choice.{within}
 use Rattle.wire.specs.Number.{bytes}
