@@ -1,0 +1,68 @@
+-- Two's complement without a branch: a number lifted by half a turn, which makes it whole, and by half a turn more.
+-- Assumes nothing.
+use Prim.Native.Nat.{ℕ, suc, _+_, _-_, _/_, _%_, _^_, _≤_, _<_}
+use mathlib.Core.Path.{_≡_, refl, sym, ap, _∙_}
+use mathlib.Core.Bool.{true}
+use native.Mathlib.Nat.{div-one, add-mod-right, mod-eq-of-lt}
+use native.Mathlib.Omega.{arith}
+use lib.Dec.{ltb}
+use lib.IntN.{ℤ, pos, negsuc, _+ℤ_}
+use lib.Signed.{mag, shrZ}
+use mir.Syntax.{w32}
+use mir.Val.{SFits, toZ, ofZ}
+use mir.Facts.{toZ-ofZ}
+use borrow.Author.Tests.{ltb-true, le-ltb}
+use Rattle.wire.specs.Signed.{coded}
+use Rattle.packets.specs.Samples.{isSample, narrowed}
+use Rattle.samples.specs.Packing.{lowOf}
+
+-- z lifted by h, which is more than -z
+abbrev pub lifted : ℕ → ℤ → ℕ
+lifted h (pos n) = n + h
+lifted h (negsuc n) = h - suc n
+
+lift : (h : ℕ) (z : ℤ) → mag z < h → z +ℤ pos h ≡ pos (lifted h z)
+lift h (pos n) l = refl
+lift h (negsuc n) l = simp (le-ltb h (suc n) l)
+
+pub lifted-below : (h : ℕ) (z : ℤ) → mag z < h → lifted h z < h + h
+lifted-below h (pos n) l = omega arith
+lifted-below h (negsuc n) l = omega arith
+
+-- The machine's sum of a number and the half turn is the lifted number.
+module _ (h : ℕ) (z : ℤ) (fits : SFits w32 z) (l : mag z < h) (small : h ≤ 8_388_608) where
+  pub lift-fits : SFits w32 (toZ w32 (ofZ w32 z) +ℤ pos h)
+  lift-fits = rw (toZ-ofZ fits, lift h z l) (record { sfits = omega (arith, lifted-below h z l) })
+
+  pub lift-is : toZ w32 (ofZ w32 (toZ w32 (ofZ w32 z) +ℤ pos h)) ≡ pos (lifted h z)
+  lift-is = toZ-ofZ lift-fits ∙ rw (toZ-ofZ fits) (lift h z l)
+
+-- half a turn more, and the whole turns off: the k bits that stand for z
+pub turned : (k h : ℕ) → 2 ^ k ≡ h + h → (z : ℤ) → mag z < h → (lifted h z + h) % (h + h) ≡ coded k z
+turned k h e (pos n) l =
+    let turn : n + h + h ≡ n + (h + h) = omega arith in
+    let low : n < h + h = omega arith in
+    rw turn (add-mod-right n (h + h) ∙ mod-eq-of-lt low)
+turned k h e (negsuc n) l =
+    let low : h - suc n + h < h + h = omega arith in
+    mod-eq-of-lt low ∙ rw e (omega arith)
+
+-- at 24 bits a sample is sent as it is
+pub narrowed-24 : (z : ℤ) → narrowed 24 z ≡ z
+narrowed-24 (pos n) = ap pos (div-one n)
+narrowed-24 (negsuc n) = ap negsuc (div-one n)
+
+-- 32 bits divided by 256 are 24
+pub shifted-small : (z : ℤ) → mag z < 2_147_483_648 → mag (shrZ z 256) < 8_388_608
+shifted-small (pos n) l = omega arith
+shifted-small (negsuc n) l = omega arith
+
+-- the low 16 bits of a number that was lifted by a multiple of 65,536
+pub lowered : (z : ℤ) → mag z < 8_388_608 → lifted 8_388_608 z % 65_536 ≡ coded 32 z % 65_536
+lowered (pos n) l = omega arith
+lowered (negsuc n) l = omega arith
+
+-- of a sample they are the 16 bits that are sent
+pub low-sample : (z : ℤ) → isSample z ≡ true → lowOf z ≡ coded 16 (narrowed 16 z)
+low-sample (pos n) s = omega (arith, ltb-true n 8_388_608 s)
+low-sample (negsuc n) s = omega (arith, ltb-true n 8_388_608 s)

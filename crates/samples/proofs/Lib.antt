@@ -1,0 +1,5 @@
+pub mod Codes
+pub mod Extent
+pub mod Fields
+pub mod Refusals
+pub mod Written

@@ -1,0 +1,52 @@
+-- When packing and unpacking refuse, and that a listed form leaves room for what its loop writes. Assumes nothing.
+use Prim.Native.Nat.{ℕ, _+_, _*_, _/_, _≤_, _<_}
+use mathlib.Core.Path.{_≡_, refl, sym, ap, _∙_}
+use mathlib.Core.Logic.{⊎-elim}
+use mathlib.Core.Bool.{Bool, true, false, _&&_}
+use mathlib.Core.List.{List, [], _∷_}
+use native.Mathlib.Nat.{mul-comm}
+use native.Mathlib.Omega.{arith}
+use lib.Dec.{eqb, leb}
+use lib.IntN.{ℤ}
+use lib.ListN.{length, drop}
+use lib.Seq.{sets}
+use borrow.Author.Tests.{eq-eqb, ne-eqb, le-leb, lt-leb}
+use Rattle.wire.specs.Choice.{pick}
+use Rattle.packets.specs.declared.Form.{Form}
+use Rattle.packets.specs.Forms.{listed, totalOf}
+use Rattle.packets.specs.Samples.{allSamples, samplesFrom}
+use Rattle.packets.proofs.Forms.{Listed, is-listed-form}
+use Rattle.samples.specs.Packing.{mayPack, packedOf, filledOf, mayUnpack, unpackedOf}
+
+-- a listed form that is not of 24 bits is of 16
+pub other-width : (f : Form) → listed f ≡ true → (f .bits ≡ 24 → ⊥) → f .bits ≡ 16
+other-width f l h = ⊎-elim (λ w. absurd (h w)) (λ w. w) (is-listed-form f l .width)
+
+-- all I and Q of a form lie within its total
+pub room-for : (f : Form) (w n size : ℕ) → f .bits / 8 ≡ w → n ≡ 2 * f .pairs → totalOf f ≤ size → 4 + w * n ≤ size
+room-for f w n size is count room =
+    rw (← is, count, mul-comm (f .bits / 8) (2 * f .pairs), mul-comm 2 (f .pairs)) room
+
+-- ---- packing
+
+module _ (f : Form) (zs : List ℤ) (l : List ℕ) where
+  pack-refused : mayPack f zs (length l) ≡ false → (false ≡ mayPack f zs (length l)) × (l ≡ sets l 4 (packedOf f zs (length l)))
+  pack-refused e = (sym e, rw e)
+
+  pub pack-unlisted : listed f ≡ false → (false ≡ mayPack f zs (length l)) × (l ≡ sets l 4 (packedOf f zs (length l)))
+  pack-unlisted e = pack-refused (rw e)
+
+  pub pack-count : listed f ≡ true → (length zs ≡ 2 * f .pairs → ⊥) → (false ≡ mayPack f zs (length l)) × (l ≡ sets l 4 (packedOf f zs (length l)))
+  pack-count e h = pack-refused (rw (e, ne-eqb (length zs) (2 * f .pairs) h))
+
+  pub pack-room : listed f ≡ true → length zs ≡ 2 * f .pairs → length l < totalOf f → (false ≡ mayPack f zs (length l)) × (l ≡ sets l 4 (packedOf f zs (length l)))
+  pack-room e n h = pack-refused (rw (e, eq-eqb (length zs) (2 * f .pairs) n, lt-leb (totalOf f) (length l) h))
+
+  -- nothing but a sample outside 24 bits is left to refuse for
+  pub pack-done : (bits : ℕ) (r : Bool) (l′ : List ℕ) → listed f ≡ true → length zs ≡ 2 * f .pairs → totalOf f ≤ length l → f .bits ≡ bits
+      → r ≡ allSamples zs → l′ ≡ sets l 4 (filledOf bits zs)
+      → (r ≡ mayPack f zs (length l)) × (l′ ≡ sets l 4 (packedOf f zs (length l)))
+  pack-done bits r l′ e n room w fit done =
+      let may : mayPack f zs (length l) ≡ allSamples zs
+      = rw (e, eq-eqb (length zs) (2 * f .pairs) n, le-leb (totalOf f) (length l) room) in
+      (fit ∙ sym may, done ∙ rw (may, w))

@@ -1,0 +1,112 @@
+-- `samples::packing::pack` meets its contract: each test is one of `mayPack`, and the form's width picks the loop.
+use Prim.Native.Nat.{ℕ, _/_, _≤_}
+use mathlib.Core.Path.{_≡_, sym, ap, _∙_}
+use mathlib.Core.Bool.{true}
+use native.Mathlib.Omega.{arith}
+use borrow.Author.Needs.{needs}
+use borrow.Author.Tests.{not-true, not-false}
+use denote.Ref.{now}
+use lib.ListN.{length}
+use Rattle.packets.specs.Forms.{listed, totalOf}
+use Rattle.packets.proofs.Forms.{is-listed-form}
+use Rattle.samples.proofs.Refusals.{other-width, room-for, pack-unlisted, pack-count, pack-room, pack-done}
+use Rattle.samples.proofs.packing.pack.Statement.{statement}
+use Rattle.samples.proofs.packing.pack.Tie as tie
+
+is-listed-requires : tie.Need-is-listed-requires
+is-listed-requires c κs = search needs
+
+returns : tie.Need-returns
+returns c =
+    let a = c .before .before .before .args in
+    pack-unlisted (a .f) (now (a .samples)) (now (a .packet)) (sym (c .before .is-listed .ensures) ∙ not-true _ (c .if1 .taken))
+
+-- past the first test the form is listed
+form : (c : tie.Else1) → listed (c .before .before .before .args .f) ≡ true
+form c = sym (c .before .is-listed .ensures) ∙ not-false _ (c .if1 .left)
+
+mul-if2 : tie.Need-mul-if2
+mul-if2 c = omega (arith, is-listed-form (c .before .before .before .before .args .f) (form (c .before)) .few)
+
+returns-2 : tie.Need-returns-2
+returns-2 c =
+    let e = c .before .before in
+    let a = e .before .before .before .args in
+    pack-count (a .f) (now (a .samples)) (now (a .packet)) (form e) (c .if2 .taken)
+
+total-of-requires : tie.Need-total-of-requires
+total-of-requires c κs = search needs
+
+-- what is compared with the room is the form's total
+total : (c : tie.After-total-of) → c .total-of .result ≡ totalOf (c .before .before .before .before .before .before .args .f)
+total c = c .total-of .ensures ∙ rw (form (c .before .before .before))
+
+returns-3 : tie.Need-returns-3
+returns-3 c =
+    let t = c .before in
+    let e = t .before .before .before in
+    let a = e .before .before .before .args in
+    pack-room (a .f) (now (a .samples)) (now (a .packet)) (form e) (t .before .if2 .left) (rw (total t) at (c .if3 .taken))
+
+-- past the third test there is room for the form's total
+room : (c : tie.Else3) → totalOf (c .before .before .before .before .before .before .before .args .f) ≤ length (now (c .before .before .before .before .before .before .before .args .packet))
+room c = rw (total (c .before)) at (c .if3 .left)
+
+pack24-requires : tie.Need-pack24-requires
+pack24-requires c κs =
+    let r = c .before .before .before in
+    let u = r .before .before in
+    room-for (u .before .before .before .before .before .args .f) 3 _ _ (ap (λ (b : ℕ). b / 8) (c .before .if4 .taken)) (u .if2 .left) (room r)
+
+same-length : tie.Need-same-length
+same-length c = search needs
+
+returns-4 : tie.Need-returns-4
+returns-4 c =
+    let p = c .before .before in
+    let t = p .before .before in
+    let r = t .before .before in
+    let u = r .before .before in
+    let e = u .before .before in
+    let a = e .before .before .before .args in
+    pack-done (a .f) (now (a .samples)) (now (a .packet)) 24 _ _ (form e) (u .if2 .left) (room r) (t .if4 .taken) (p .pack24 .ensures .0) (p .pack24 .ensures .1)
+
+pack16-requires : tie.Need-pack16-requires
+pack16-requires c κs =
+    let r = c .before .before .before in
+    let u = r .before .before in
+    let e = u .before .before in
+    let f = e .before .before .before .args .f in (
+      omega (arith, u .if2 .left, is-listed-form f (form e) .few),
+      room-for f 2 _ _ (ap (λ (b : ℕ). b / 8) (other-width f (form e) (c .before .if4 .left))) (u .if2 .left) (room r),
+    )
+
+same-length-2 : tie.Need-same-length-2
+same-length-2 c = search needs
+
+returns-5 : tie.Need-returns-5
+returns-5 c =
+    let p = c .before .before in
+    let t = p .before .before in
+    let r = t .before .before in
+    let u = r .before .before in
+    let e = u .before .before in
+    let a = e .before .before .before .args in
+    pack-done (a .f) (now (a .samples)) (now (a .packet)) 16 _ _ (form e) (u .if2 .left) (room r) (other-width (a .f) (form e) (t .if4 .left)) (p .pack16 .ensures .0) (p .pack16 .ensures .1)
+
+pub pack-spec : {M : Type 1} → statement M
+pack-spec =
+    tie.close
+    (tie.spec
+    is-listed-requires
+    returns
+    mul-if2
+    returns-2
+    total-of-requires
+    returns-3
+    pack24-requires
+    same-length
+    returns-4
+    pack16-requires
+    same-length-2
+    returns-5)

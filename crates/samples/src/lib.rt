@@ -1,0 +1,7 @@
+// Samples of document 01: the loops that pack them into a packet and unpack them, kept to shapes that compile fast.
+mod bytes;
+mod fitting;
+mod packing;
+
+pub use fitting::all_fit;
+pub use packing::pack;

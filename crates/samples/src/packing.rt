@@ -1,0 +1,105 @@
+// Packing: samples into the bytes of a packet, after its four leading bytes.
+use crate::bytes;
+use crate::fitting::all_fit;
+use crate::fitting::greater;
+use crate::fitting::inside;
+use crate::fitting::lesser;
+use packets::Form;
+ghost use mathlib.Core.Path.{_≡_};
+ghost use mathlib.Core.Bool.{true};
+ghost use mathlib.Core.List.{map};
+ghost use Prim.Native.Nat.{_+_, _*_, _≤_};
+ghost use lib.ListN.{length};
+ghost use lib.Seq.{sets};
+ghost use Rattle.wire.specs.Signed.{coded};
+ghost use Rattle.packets.specs.Samples.{isSample, allSamples, narrowed};
+ghost use Rattle.samples.specs.Packing.{mayPack, packedOf, filledOf, lowOf};
+
+// "24-bit form: two's complement."
+fn code24(x: i32) -> u32
+    requires { ⌜ isSample x ≡ true ⌝ }
+    ensures { λ r. ⌜ r ≡ coded 24 (narrowed 24 x) ⌝ }
+{
+    let above = (x + 8388608) as u32;
+    (above + 8388608) % 16777216
+}
+
+// "16-bit form (house): the value divided by 256, rounded towards minus infinity", as a shift rounds.
+fn code16(x: i32) -> u16
+    ensures { λ r. ⌜ r ≡ lowOf x ⌝ }
+{
+    let above = ((x >> 8) + 8388608) as u32;
+    (above % 65536) as u16
+}
+
+// Writes all samples in three bytes each, unless one is outside 24 bits.
+fn pack24(samples: &[i32], packet: &mut [u8]) -> bool
+    requires { ⌜ 4 + 3 * length (now samples) ≤ length (now packet) ⌝ }
+    ensures { λ r. ⌜ (r ≡ allSamples (now (samples .entry))) × (now (packet .exit) ≡ sets (now (packet .entry)) 4 (filledOf 24 (now (samples .entry)))) ⌝ }
+{
+    if !all_fit(samples) {
+        return false;
+    }
+    let mut i = 0;
+    while i < samples.len() {
+        bytes::put3(packet, 4 + 3 * i, code24(samples[i]));
+        i += 1;
+    }
+    true
+}
+
+// Keeps of each number the 16 bits that would be sent, and tells whether all are samples. One loop does both, since it is
+// the reading of the samples that takes the time.
+fn narrow(samples: &[i32], held: &mut [u16; 512]) -> bool
+    requires { ⌜ length (now samples) ≤ 512 ⌝ }
+    ensures { λ r. ⌜ (r ≡ allSamples (now (samples .entry))) × (now (held .exit) ≡ sets (now (held .entry)) 0 (map lowOf (now (samples .entry)))) ⌝ }
+{
+    let mut least = 0;
+    let mut greatest = 0;
+    let mut i = 0;
+    while i < samples.len() {
+        let x = samples[i];
+        least = lesser(least, x);
+        greatest = greater(greatest, x);
+        held[i] = code16(x);
+        i += 1;
+    }
+    inside(least, greatest)
+}
+
+// Writes all samples in two bytes each, unless one is outside 24 bits.
+fn pack16(samples: &[i32], packet: &mut [u8]) -> bool
+    requires { ⌜ (length (now samples) ≤ 512) × (4 + 2 * length (now samples) ≤ length (now packet)) ⌝ }
+    ensures { λ r. ⌜ (r ≡ allSamples (now (samples .entry))) × (now (packet .exit) ≡ sets (now (packet .entry)) 4 (filledOf 16 (now (samples .entry)))) ⌝ }
+{
+    let mut held = [0u16; 512];
+    if !narrow(samples, &mut held) {
+        return false;
+    }
+    let mut i = 0;
+    while i < samples.len() {
+        bytes::put2(packet, 4 + 2 * i, held[i]);
+        i += 1;
+    }
+    true
+}
+
+// Writes the sample bytes of a packet of a form after its four leading bytes. It refuses, and writes nothing, where the
+// form is not listed, the samples are not its I/Q pairs, the slice has no room for the packet, or a sample is outside 24 bits.
+pub fn pack(f: Form, samples: &[i32], packet: &mut [u8]) -> bool
+    ensures { λ r. ⌜ (r ≡ mayPack f (now (samples .entry)) (length (now (packet .entry)))) × (now (packet .exit) ≡ sets (now (packet .entry)) 4 (packedOf f (now (samples .entry)) (length (now (packet .entry))))) ⌝ }
+{
+    if !packets::is_listed(f) {
+        return false;
+    }
+    if samples.len() as u64 != 2 * f.pairs {
+        return false;
+    }
+    if (packet.len() as u64) < packets::total_of(f) {
+        return false;
+    }
+    if f.bits == 24 {
+        return pack24(samples, packet);
+    }
+    pack16(samples, packet)
+}
