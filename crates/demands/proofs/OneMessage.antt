@@ -16,6 +16,7 @@ use lib.Seq.{set-at, take-append-le, append-snoc}
 use Rattle.wire.specs.Choice.{pick}
 use Rattle.wire.specs.Number.{number, field}
 use Rattle.wire.specs.Header.{lengthIn, typeIn}
+use Rattle.framing.proofs.Cutting.{taking-on}
 use Rattle.framing.specs.declared.Store.{Store}
 use Rattle.framing.specs.declared.Taking.{Taking}
 use Rattle.framing.specs.Framing.{taking, taken, pushed, finished, announced, totalOf, between}
@@ -55,10 +56,6 @@ not-yet p q e more =
 now-done : (p : List ℕ) → announced p ≡ length p → 2 ≤ length p → finished (holding p) ≡ true
 now-done p e two =
     rw (announced-by p (replicate (64 - length p) 0) two, e, le-leb 2 (length p) two, le-leb (length p) (length p) (le-refl (length p)))
-
-taking-on : (n : ℕ) (t : Store) (b : ℕ) (bs : List ℕ) → finished t ≡ false → taking n t (b ∷ bs) ≡ taking (n + 1) (pushed t b) bs
-unfolding taking
-taking-on n t b bs f = rw f
 
 -- a call that has taken a whole message
 abbrev pub tookAll : List ℕ → Taking

@@ -20,7 +20,9 @@ use Rattle.station.specs.declared.Station.{Station}
 use Rattle.station.specs.Station.{valid, freshStation}
 use Rattle.station.specs.Feeding.{feedingOf, messageIn, refused, waiting, answered, fedBy}
 use Rattle.station.proofs.Kept.{Ranges, ranges, in-range, message-keeps, accepted, otherThan}
-use Rattle.station.proofs.Serving.{box, valid-settings, valid-store, valid-both, between-left, taking-left}
+use Rattle.framing.proofs.Cutting.{told, taken-left}
+use Rattle.framing.proofs.Leaving.{between-left}
+use Rattle.station.proofs.Valid.{valid-settings, valid-store, valid-both}
 use Rattle.cutting.specs.Cutting.{cuttingOf, cutCode, cutChecks, cutFrom}
 use Rattle.demands.specs.Reached.{Reached, fresh, fed, cut}
 
@@ -46,7 +48,7 @@ feeding-keeps s host room v = rw v (go (finished (taken (s .store) host .store))
         (message-keeps (s .settings) (messageIn (taken (s .store) host .store)) (valid-settings (s .settings) (s .store) v)) between-left
     go false q short =
         valid-both (s .settings) (taken (s .store) host .store) (valid-settings (s .settings) (s .store) v)
-        (taking-left 0 (s .store) host (valid-store (s .settings) (s .store) v) q)
+        (taken-left 0 (s .store) host (valid-store (s .settings) (s .store) v) (sym (told 0 (s .store) host) ∙ q))
 
 -- one packet more than a count below the most
 counted : (s : Settings) → inRange s ≡ true → leb most (s .count) ≡ false → inRange (withCount (s .count + 1) s) ≡ true

@@ -1,3 +1,4 @@
-pub mod Serving
 pub mod Kept
 pub mod Short
+pub mod Valid
+pub mod Serving

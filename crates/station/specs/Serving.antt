@@ -6,7 +6,7 @@ use mathlib.Core.Path.{_≡_}
 use mathlib.Core.List.{List, [], _∷_, _++_}
 use lib.ListN.{length, drop}
 use Rattle.station.specs.declared.Station.{Station}
-use Rattle.station.specs.Feeding.{Feeding, feedingOf}
+use Rattle.station.specs.Feeding.{feedingOf}
 
 -- the box after some calls, and the replies that they wrote
 pub record Served : Type 0 where
@@ -17,37 +17,35 @@ abbrev pub unserved : Station → Served
 unserved s = record { station = s; replies = [] }
 
 -- a call that wrote nothing adds no reply
-abbrev pub noting : List ℕ → List (List ℕ) → List (List ℕ)
-noting [] replies = replies
-noting (b ∷ bs) replies = (b ∷ bs) ∷ replies
+abbrev pub noting : List (List ℕ) → List ℕ → List (List ℕ)
+noting replies [] = replies
+noting replies (b ∷ bs) = replies ++ (b ∷ bs) ∷ []
 
-abbrev pub noted : List ℕ → Served → Served
-noted written r = record { station = r .station; replies = noting written (r .replies) }
+-- one call, with this much room for a reply
+abbrev pub called : ℕ → Served → List ℕ → Served
+called room r host =
+    record {
+      station = feedingOf (r .station) host room .fed .station;
+      replies = noting (r .replies) (feedingOf (r .station) host room .bytes);
+    }
 
--- "calling again until the bytes are used up", with this much room for each reply. Each call on a valid box consumes a
--- byte, so as many calls as there are bytes are enough.
-unfoldable pub calling : ℕ → ℕ → Station → List ℕ → Served
-calling room zero s host = unserved s
-calling room (suc calls) s [] = unserved s
-calling room (suc calls) s (b ∷ bs) =
-    noted (feedingOf s (b ∷ bs) room .bytes)
-    (calling room calls (feedingOf s (b ∷ bs) room .fed .station) (drop (feedingOf s (b ∷ bs) room .fed .consumed) (b ∷ bs)))
+-- "calling again until the bytes are used up". Each call on a valid box consumes a byte, so as many calls as there are
+-- bytes are enough.
+unfoldable pub calling : ℕ → ℕ → Served → List ℕ → Served
+calling room zero r host = r
+calling room (suc calls) r [] = r
+calling room (suc calls) r (b ∷ bs) =
+    calling room calls (called room r (b ∷ bs)) (drop (feedingOf (r .station) (b ∷ bs) room .fed .consumed) (b ∷ bs))
 
 -- a piece of the host's bytes, and the room for each reply while it is handed over
 pub record Piece : Type 0 where
   pub room : ℕ
   pub host : List ℕ
 
-abbrev pub handed : Station → Piece → Served
-handed s p = calling (p .room) (length (p .host)) s (p .host)
-
 -- one piece after the other
-abbrev pub followed : Served → Served → Served
-followed first then = record { station = then .station; replies = first .replies ++ then .replies }
-
-unfoldable pub serving : Station → List Piece → Served
-serving s [] = unserved s
-serving s (p ∷ ps) = followed (handed s p) (serving (handed s p .station) ps)
+unfoldable pub serving : Served → List Piece → Served
+serving r [] = r
+serving r (p ∷ ps) = serving (calling (p .room) (length (p .host)) r (p .host)) ps
 
 -- the host's bytes, however they were cut
 abbrev pub joined : List Piece → List ℕ

@@ -1,0 +1,43 @@
+-- A valid box is settings in their ranges and a store that could be left; and what feeding a valid box comes to.
+-- Assumes nothing.
+use Prim.Native.Nat.{ℕ, _≤_}
+use mathlib.Core.Path.{_≡_, refl, sym, ap, _∙_}
+use mathlib.Core.Bool.{Bool, true, false}
+use mathlib.Core.List.{List}
+use lib.ListN.{length}
+use borrow.Author.Tests.{le-ltb}
+use Rattle.wire.proofs.Laws.{and-left, and-right, and-both}
+use Rattle.framing.specs.declared.Store.{Store}
+use Rattle.framing.specs.Framing.{taken, finished, couldBeLeft}
+use Rattle.items.specs.declared.Settings.{Settings}
+use Rattle.items.specs.Settings.{inRange}
+use Rattle.items.specs.Answer.{replyOf}
+use Rattle.station.specs.declared.Station.{Station}
+use Rattle.station.specs.Station.{valid}
+use Rattle.station.specs.Feeding.{messageIn, feedingOf, answered, waiting}
+
+abbrev pub box : Settings → Store → Station
+box s t = record { settings = s; store = t }
+
+pub valid-settings : (s : Settings) (t : Store) → valid (box s t) ≡ true → inRange s ≡ true
+unfolding valid
+valid-settings s t h = and-left (inRange s) (couldBeLeft t) h
+
+pub valid-store : (s : Settings) (t : Store) → valid (box s t) ≡ true → couldBeLeft t ≡ true
+unfolding valid
+valid-store s t h = and-right (inRange s) (couldBeLeft t) h
+
+pub valid-both : (s : Settings) (t : Store) → inRange s ≡ true → couldBeLeft t ≡ true → valid (box s t) ≡ true
+unfolding valid
+valid-both s t p q = and-both (inRange s) (couldBeLeft t) p q
+
+pub feeding-answered : (s : Settings) (t : Store) (host : List ℕ) (room : ℕ) → valid (box s t) ≡ true
+    → finished (taken t host .store) ≡ true → length (replyOf s (messageIn (taken t host .store))) ≤ room
+    → feedingOf (box s t) host room ≡ answered s (taken t host)
+unfolding feedingOf
+feeding-answered s t host room v f r = rw (v, f, le-ltb room (length (replyOf s (messageIn (taken t host .store)))) r)
+
+pub feeding-waiting : (s : Settings) (t : Store) (host : List ℕ) (room : ℕ) → valid (box s t) ≡ true
+    → finished (taken t host .store) ≡ false → feedingOf (box s t) host room ≡ waiting s (taken t host)
+unfolding feedingOf
+feeding-waiting s t host room v f = rw (v, f)
