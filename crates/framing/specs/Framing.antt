@@ -10,7 +10,7 @@ use Rattle.wire.specs.Choice.{pick}
 use Rattle.wire.specs.Number.{field}
 use Rattle.wire.specs.Header.{lengthIn, typeIn, typeData}
 use Rattle.framing.specs.declared.Store.{Store}
-pub use Rattle.framing.specs.declared.Taking.{Taking}
+use Rattle.framing.specs.declared.Taking.{Taking}
 
 -- How many bytes a message has in all: its length; "lengths 0 and 1 finish after the two header bytes, except length 0 in
 -- types 4 to 7"; "a data item of length 0 means 8,194 bytes in all".
