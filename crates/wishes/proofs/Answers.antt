@@ -1,0 +1,39 @@
+-- What a call of the writer answers, by the first check that holds; and that its answer says all.
+use Prim.Native.Nat.{ℕ, _≤_, _<_}
+use mathlib.Core.Path.{_≡_, refl, sym, ap, _∙_}
+use mathlib.Core.Bool.{true, false}
+use lib.Dec.{eqb}
+use borrow.Author.Tests.{lt-ltb, le-ltb}
+use Rattle.wire.specs.Choice.{pick}
+use Rattle.wishes.specs.declared.Wish.{Wish}
+use Rattle.wishes.specs.declared.Written.{Written}
+use Rattle.wishes.specs.declared.Written.the-variants.{Message, NotAllowed, Short}
+use Rattle.wishes.specs.Wishes.{allowed}
+use Rattle.wishes.specs.Writing.{Told, told, writeCode}
+
+module _ (w : Wish) (room : ℕ) where
+  pub code-not-allowed : allowed w ≡ false → writeCode w room ≡ 16
+  unfolding writeCode
+  code-not-allowed e = rw e
+
+  pub code-short : allowed w ≡ true → room < 16 → writeCode w room ≡ 20
+  unfolding writeCode
+  code-short e h = rw (e, lt-ltb room 16 h)
+
+  pub code-written : allowed w ≡ true → 16 ≤ room → writeCode w room ≡ 1
+  unfolding writeCode
+  code-written e h = rw (e, le-ltb room 16 h)
+
+-- the case that tells so
+back : Told → Written
+back t = pick (eqb (t .code) 16) NotAllowed (pick (eqb (t .code) 20) Short (Message (t .wrote)))
+
+back-told : (a : Written) → back (told a) ≡ a
+unfolding back
+back-told (Message n) = refl
+back-told NotAllowed = refl
+back-told Short = refl
+
+-- two answers that tell the same are the same
+pub told-one : (a b : Written) → told a ≡ told b → a ≡ b
+told-one a b e = sym (back-told a) ∙ ap back e ∙ back-told b

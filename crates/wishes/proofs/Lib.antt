@@ -1,0 +1,5 @@
+pub mod Gains
+pub mod Laying
+pub mod Allowed
+pub mod Understood
+pub mod Answers

@@ -1,0 +1,111 @@
+-- Each arm tests its value; the wishes that are left hold none.
+use mathlib.Core.Path.{_≡_, refl, sym, ap, _∙_}
+use borrow.Author.Needs.{needs}
+use mir.Syntax.{w8}
+use mir.Val.{toZ, ofZ}
+use Rattle.wire.specs.Signed.{coded}
+use Rattle.items.proofs.Keys.{matched}
+use Rattle.wishes.proofs.Allowed.{valueless, valueless-allowed}
+use Rattle.wishes.proofs.allows.Statement.{statement}
+use Rattle.wishes.proofs.allows.Tie as tie
+
+enum-known-w : tie.Need-enum-known-w
+enum-known-w c = search needs
+
+enum-known-w-2 : tie.Need-enum-known-w-2
+enum-known-w-2 c = search needs
+
+may-state-requires : tie.Need-may-state-requires
+may-state-requires c κs = search needs
+
+enum-known-w-3 : tie.Need-enum-known-w-3
+enum-known-w-3 c = search needs
+
+in-bands-requires : tie.Need-in-bands-requires
+in-bands-requires c κs = search needs
+
+enum-known-w-4 : tie.Need-enum-known-w-4
+enum-known-w-4 c = search needs
+
+gain-byte-requires : tie.Need-gain-byte-requires
+gain-byte-requires c κs = search needs
+
+is-gain-requires : tie.Need-is-gain-requires
+is-gain-requires c κs = search needs
+
+enum-known-w-5 : tie.Need-enum-known-w-5
+enum-known-w-5 c = search needs
+
+is-clock-requires : tie.Need-is-clock-requires
+is-clock-requires c κs = search needs
+
+enum-known-w-6 : tie.Need-enum-known-w-6
+enum-known-w-6 c = search needs
+
+cast-within : tie.Need-cast-within
+cast-within c = search needs
+
+within-requires : tie.Need-within-requires
+within-requires c κs = search needs
+
+enum-known-w-7 : tie.Need-enum-known-w-7
+enum-known-w-7 c = search needs
+
+is-size-requires : tie.Need-is-size-requires
+is-size-requires c κs = search needs
+
+returns : tie.Need-returns
+returns c = rw (c .before .w .given .1)
+
+returns-2 : tie.Need-returns-2
+returns-2 c = rw (c .before .before .w2 .given .1) (c .may-state .ensures)
+
+returns-3 : tie.Need-returns-3
+returns-3 c = rw (c .before .before .w3 .given .1) (c .in-bands .ensures)
+
+returns-4 : tie.Need-returns-4
+returns-4 c =
+    let g = c .before .before .before .w4 .given .0 .0 in
+    let same : toZ w8 (ofZ w8 g) ≡ g = search needs in
+    rw (c .before .before .before .w4 .given .1, ← (c .before .gain-byte .ensures ∙ ap (coded 8) same)) (c .is-gain .ensures)
+
+returns-5 : tie.Need-returns-5
+returns-5 c = rw (c .before .before .w5 .given .1) (c .is-clock .ensures)
+
+returns-6 : tie.Need-returns-6
+returns-6 c = rw (c .before .before .w6 .given .1) (c .within .ensures)
+
+returns-7 : tie.Need-returns-7
+returns-7 c = rw (c .before .before .w7 .given .1) (c .is-size .ensures)
+
+returns-8 : tie.Need-returns-8
+unfolding valueless
+returns-8 c = sym (valueless-allowed (c .before .args .w) (matched valueless valueless _ refl (c .match .keys8)))
+
+pub allows-spec : {M : Type 1} → statement M
+allows-spec =
+    tie.close
+    (tie.spec
+    enum-known-w
+    enum-known-w-2
+    may-state-requires
+    enum-known-w-3
+    in-bands-requires
+    enum-known-w-4
+    gain-byte-requires
+    is-gain-requires
+    enum-known-w-5
+    is-clock-requires
+    enum-known-w-6
+    cast-within
+    within-requires
+    enum-known-w-7
+    is-size-requires
+    returns
+    returns-2
+    returns-3
+    returns-4
+    returns-5
+    returns-6
+    returns-7
+    returns-8)

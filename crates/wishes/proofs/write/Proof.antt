@@ -1,0 +1,71 @@
+-- 16 is checked before 20; where neither holds, the message is written as it is laid out.
+use mathlib.Core.Path.{_≡_, sym, ap, _∙_}
+use mathlib.Core.Bool.{true, false}
+use lib.ListN.{length}
+use lib.Seq.{sets}
+use borrow.Author.Needs.{needs}
+use borrow.Author.Tests.{not-true, not-false}
+use Rattle.wishes.specs.declared.Layout.{Layout}
+use Rattle.wishes.specs.Wishes.{allowed, laid, messageOf}
+use Rattle.wishes.specs.Writing.{bytesWritten}
+use Rattle.wishes.proofs.Laying.{short-layout}
+use Rattle.wishes.proofs.Answers.{code-not-allowed, code-short, code-written}
+use Rattle.wishes.proofs.write.Statement.{statement}
+use Rattle.wishes.proofs.write.Tie as tie
+
+refused : (c : tie.Then1) → allowed (c .before .before .before .args .w) ≡ false
+refused c = sym (c .before .allows .ensures) ∙ not-true _ (c .if1 .taken)
+
+taken : (c : tie.Else1) → allowed (c .before .before .before .args .w) ≡ true
+taken c = sym (c .before .allows .ensures) ∙ not-false _ (c .if1 .left)
+
+allows-requires : tie.Need-allows-requires
+allows-requires c κs = search needs
+
+returns : tie.Need-returns
+unfolding bytesWritten
+returns c =
+    let a = c .before .before .before .args in
+    let e = code-not-allowed (a .w) (length (a .buffer .now)) (refused c) in
+    (rw e, rw e)
+
+returns-2 : tie.Need-returns-2
+unfolding bytesWritten
+returns-2 c =
+    let a = c .before .before .before .before .args in
+    let e = code-short (a .w) (length (a .buffer .now)) (taken (c .before)) (c .if2 .taken) in
+    (rw e, rw e)
+
+layout-of-requires : tie.Need-layout-of-requires
+layout-of-requires c κs = search needs
+
+put-message-requires : tie.Need-put-message-requires
+put-message-requires c κs = rw (c .layout-of .ensures) (short-layout (c .before .before .before .before .before .before .args .w))
+
+same-length : tie.Need-same-length
+same-length c = search needs
+
+returns-3 : tie.Need-returns-3
+unfolding bytesWritten messageOf
+returns-3 c =
+    let p = c .before .before in
+    let l = p .before in
+    let room = l .before .before in
+    let a = room .before .before .before .before .args in
+    let e = code-written (a .w) (length (a .buffer .now)) (taken (room .before)) (room .if2 .left) in
+    let same = l .layout-of .ensures in (
+      rw e (ap (λ n. record { code = 1; wrote = n }) (p .put-message .ensures .0 ∙ ap (λ (m : Layout). length (laid m)) same)),
+      rw e (p .put-message .ensures .1 ∙ ap (λ (m : Layout). sets (a .buffer .now) 0 (laid m)) same),
+    )
+
+pub write-spec : {M : Type 1} → statement M
+write-spec =
+    tie.close
+    (tie.spec
+    allows-requires
+    returns
+    returns-2
+    layout-of-requires
+    put-message-requires
+    same-length
+    returns-3)

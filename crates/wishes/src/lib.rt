@@ -1,0 +1,188 @@
+// Harvester's wishes of document 01: what the harvester can ask of a box, and the messages that ask it.
+ghost use mathlib.Core.Path.{_≡_};
+ghost use Prim.Native.Nat.{_≤_};
+ghost use lib.ListN.{length};
+ghost use lib.Seq.{sets};
+ghost use Rattle.wire.specs.Signed.{coded};
+ghost use Rattle.wishes.specs.Wishes.{layoutOf, stateNumber, laid, allowed, mayWishState};
+ghost use Rattle.wishes.specs.Writing.{told, toldOf, bytesWritten};
+
+// The state that is wished for: its run byte, 1 for idle or 2 for run, and its capture mode, which idle does not look at.
+pub struct StateFields {
+    pub run: u8,
+    pub mode: u8,
+}
+
+// "One wish for each kind and item above": a set holds the value to set, frequencies, clock and rate in Hz.
+pub enum Wish {
+    AskName,
+    AskSerial,
+    AskInterface,
+    AskVersion(u8),
+    AskStatus,
+    SetState(StateFields),
+    AskState,
+    SetFrequency(u64),
+    AskFrequency,
+    AskFrequencyRange,
+    SetGain(i8),
+    AskGain,
+    SetClock(u32),
+    AskClock,
+    SetRate(u32),
+    AskRate,
+    SetPacketSize(u8),
+    AskPacketSize,
+}
+
+// What the writer did: a message of so many bytes; or nothing, since the box would not allow the value (16), or since the
+// buffer is under 16 bytes (20).
+pub enum Written {
+    Message(usize),
+    NotAllowed,
+    Short,
+}
+
+// How a wish is laid out in its message: the kind, the item's code, then the channel byte or id that the reply echoes,
+// a number in `echoed` bytes, and the value, a number in `width` bytes.
+pub struct Layout {
+    pub kind: u8,
+    pub item: u16,
+    pub echoed: usize,
+    pub echo: u8,
+    pub width: usize,
+    pub value: u64,
+}
+
+// The bits of a gain's signed byte.
+fn gain_byte(g: i8) -> u8
+    ensures { λ r. ⌜ r ≡ coded 8 g ⌝ }
+{
+    ((g as i32 + 256) as u32 % 256) as u8
+}
+
+// The four bytes of a state that is set, as one number: idle as 00 01 00 00, run as 80 02, mode, 00.
+fn state_number(fields: StateFields) -> u64
+    ensures { λ r. ⌜ r ≡ stateNumber fields ⌝ }
+{
+    if fields.run == 1 {
+        return 0x100;
+    }
+    0x80 + 256 * (fields.run as u64 + 256 * fields.mode as u64)
+}
+
+// A request has no value.
+fn request(item: u16, echoed: usize, echo: u8) -> Layout
+    ensures { λ r. ⌜ r ≡ record { kind = 1; item = item; echoed = echoed; echo = echo; width = 0; value = 0 } ⌝ }
+{
+    Layout {
+        kind: 1,
+        item: item,
+        echoed: echoed,
+        echo: echo,
+        width: 0,
+        value: 0,
+    }
+}
+
+// A set has "channel byte 00", where it has one.
+fn setting(item: u16, echoed: usize, width: usize, value: u64) -> Layout
+    ensures { λ r. ⌜ r ≡ record { kind = 0; item = item; echoed = echoed; echo = 0; width = width; value = value } ⌝ }
+{
+    Layout {
+        kind: 0,
+        item: item,
+        echoed: echoed,
+        echo: 0,
+        width: width,
+        value: value,
+    }
+}
+
+// The table of wishes.
+pub fn layout_of(w: Wish) -> Layout
+    ensures { λ r. ⌜ r ≡ layoutOf w ⌝ }
+{
+    match w {
+        Wish::AskName => request(0x0001, 0, 0),
+        Wish::AskSerial => request(0x0002, 0, 0),
+        Wish::AskInterface => request(0x0003, 0, 0),
+        Wish::AskVersion(id) => request(0x0004, 1, id),
+        Wish::AskStatus => request(0x0005, 0, 0),
+        Wish::SetState(fields) => setting(0x0018, 0, 4, state_number(fields)),
+        Wish::AskState => request(0x0018, 0, 0),
+        Wish::SetFrequency(hz) => setting(0x0020, 1, 5, hz),
+        Wish::AskFrequency => request(0x0020, 1, 0),
+        Wish::AskFrequencyRange => Layout {
+            kind: 2,
+            item: 0x0020,
+            echoed: 1,
+            echo: 0,
+            width: 0,
+            value: 0,
+        },
+        Wish::SetGain(g) => setting(0x0038, 1, 1, gain_byte(g) as u64),
+        Wish::AskGain => request(0x0038, 1, 0),
+        Wish::SetClock(hz) => setting(0x00B0, 1, 4, hz as u64),
+        Wish::AskClock => request(0x00B0, 1, 0),
+        Wish::SetRate(hz) => setting(0x00B8, 1, 4, hz as u64),
+        Wish::AskRate => request(0x00B8, 1, 0),
+        Wish::SetPacketSize(n) => setting(0x00C4, 0, 1, n as u64),
+        Wish::AskPacketSize => request(0x00C4, 0, 0),
+    }
+}
+
+// Writes a message as it is laid out, at the start of the buffer, and says how long it is.
+fn put_message(buffer: &mut [u8], a: Layout) -> usize
+    requires { ⌜ (a .echoed ≤ 1) × (a .width ≤ 5) ⌝ }
+    ensures { λ r. ⌜ (r ≡ length (laid a)) × (now (buffer .exit) ≡ sets (now (buffer .entry)) 0 (laid a)) ⌝ }
+{
+    let value_at = 4 + a.echoed;
+    let total = value_at + a.width;
+    wire::put(buffer, 0, 2, wire::header_of(a.kind, total as u16) as u64);
+    wire::put(buffer, 2, 2, a.item as u64);
+    wire::put(buffer, 4, a.echoed, a.echo as u64);
+    wire::put(buffer, value_at, a.width, a.value);
+    total
+}
+
+// The box takes the state: idle always, run in one of the two modes.
+fn may_state(fields: StateFields) -> bool
+    ensures { λ r. ⌜ r ≡ mayWishState fields ⌝ }
+{
+    let run = fields.run;
+    match run {
+        1 => true,
+        2 => items::ranges::is_mode(fields.mode),
+        _ => false,
+    }
+}
+
+// The box would not refuse the wish's value with 16.
+pub fn allows(w: Wish) -> bool
+    ensures { λ r. ⌜ r ≡ allowed w ⌝ }
+{
+    match w {
+        Wish::AskVersion(id) => id <= 3,
+        Wish::SetState(fields) => may_state(fields),
+        Wish::SetFrequency(hz) => tuning::in_bands(hz),
+        Wish::SetGain(g) => items::ranges::is_gain(gain_byte(g)),
+        Wish::SetClock(hz) => tuning::is_clock(hz),
+        Wish::SetRate(hz) => wire::within(32_000, 2_000_000, hz as u64),
+        Wish::SetPacketSize(n) => items::ranges::is_size(n),
+        _ => true,
+    }
+}
+
+// Writes the message of a wish at the start of the buffer.
+pub fn write(w: Wish, buffer: &mut [u8]) -> Written
+    ensures { λ r. ⌜ (told r ≡ toldOf w (length (now (buffer .entry)))) × (now (buffer .exit) ≡ sets (now (buffer .entry)) 0 (bytesWritten w (length (now (buffer .entry))))) ⌝ }
+{
+    if !allows(w) {
+        return Written::NotAllowed;
+    }
+    if buffer.len() < 16 {
+        return Written::Short;
+    }
+    Written::Message(put_message(buffer, layout_of(w)))
+}
