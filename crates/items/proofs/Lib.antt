@@ -1,4 +1,7 @@
 pub mod Classes
 pub mod Keys
 pub mod Lines
+pub mod Rows
+pub mod Serials
 pub mod Setting
+pub mod Judging

@@ -36,9 +36,9 @@ channelAllowed noChannel kind byte = true
 channelAllowed anyChannel kind byte = true
 channelAllowed zeroAndAll kind byte = oneOf byte (pick (eqb kind typeSet) (0x00 ∷ 0xFF ∷ []) (0x00 ∷ []))
 
--- the value that a message of a kind has is allowed
+-- the value that a set has is allowed, or the id that a request has
 abbrev pub valueAllowed : Item → ℕ → List ℕ → Bool
-valueAllowed i kind p = pick (eqb kind typeSet) (i .settable p) (pick (eqb kind typeRequest) (i .askable p) true)
+valueAllowed i kind p = pick (eqb kind typeSet) (i .settable p) (i .askable p)
 
 -- a set that is not taken now, since the box is running
 abbrev pub refusedRunning : Item → ℕ → Settings → List ℕ → Bool
@@ -55,6 +55,13 @@ itemChecks i kind s p =
 -- what the item makes of its parameters: 15, 16, 17, or 1
 abbrev pub itemCode : Item → ℕ → Settings → List ℕ → ℕ
 itemCode i kind s p = firstOf (itemChecks i kind s p) 1
+
+-- a request or a range request, which is not refused while running
+abbrev pub askedBy : Item → List ℕ → ℕ
+askedBy i p =
+    firstOf
+    (check 15 (not (channelAllowed (i .channels) typeRequest (getD p 0 0))) ∷ check 16 (not (valueAllowed i typeRequest p)) ∷ [])
+    1
 
 -- a set with these parameters: its code, and the settings after it
 abbrev pub setBy : Item → Settings → List ℕ → Judged

@@ -1,6 +1,85 @@
 // The settings' ranges: "A box with a field outside these rules is broken (21)."
 ghost use mathlib.Core.Path.{_≡_};
-ghost use Rattle.items.specs.Settings.{isMode, isGain, isSize, isSerialByte};
+ghost use Rattle.items.specs.Settings.{inRange, freshOf, freshAnswer, isMode, isGain, isSize, isSerialByte, allSerial};
+use crate::Judged;
+use crate::Settings;
+
+// Every setting lies within its range. All are tested, with no branch between them.
+pub fn in_range(s: Settings) -> bool
+    ensures { λ r. ⌜ r ≡ inRange s ⌝ }
+{
+    let serial = s.serial;
+    tuning::in_bands(s.frequency)
+        & (s.count <= 4_000_000_000)
+        & tuning::is_clock(s.clock)
+        & rates::is_d(s.divisor)
+        & is_mode(s.mode)
+        & is_gain(s.gain)
+        & is_size(s.size)
+        & all_serial(serial)
+}
+
+// A fresh box with a serial: 1, or 26 and the serial 00000000 where these are not eight of A-Z, 0-9.
+pub fn fresh(serial: &[u8]) -> Judged
+    ensures { λ r. ⌜ r ≡ freshAnswer (now (serial .entry)) ⌝ }
+{
+    if serial.len() != 8 {
+        return Judged {
+            code: 26,
+            settings: started([b'0'; 8]),
+        };
+    }
+    let own = [
+        serial[0],
+        serial[1],
+        serial[2],
+        serial[3],
+        serial[4],
+        serial[5],
+        serial[6],
+        serial[7],
+    ];
+    if !all_serial(own) {
+        return Judged {
+            code: 26,
+            settings: started([b'0'; 8]),
+        };
+    }
+    Judged {
+        code: 1,
+        settings: started(own),
+    }
+}
+
+// "A fresh box: idle, mode 80, 10,000,000 Hz, gain 0, clock 80,000,000, D = 100, large packets, count 0."
+fn started(serial: [u8; 8]) -> Settings
+    ensures { λ r. ⌜ r ≡ freshOf serial ⌝ }
+{
+    Settings {
+        frequency: 10_000_000,
+        count: 0,
+        clock: 80_000_000,
+        divisor: 100,
+        running: false,
+        mode: 0x80,
+        gain: 0,
+        size: 0,
+        serial,
+    }
+}
+
+// Each of a serial's bytes is A-Z or 0-9.
+fn all_serial(serial: [u8; 8]) -> bool
+    ensures { λ r. ⌜ r ≡ allSerial serial ⌝ }
+{
+    let mut all = true;
+    let mut i = 0;
+    while i < 8 {
+        all = all & is_serial_byte(serial[i]);
+        i += 1;
+    }
+    all
+}
 
 // Capture mode: 80 for 24 bits, 00 for 16.
 pub fn is_mode(byte: u8) -> bool

@@ -4,11 +4,30 @@ ghost use mathlib.Core.List.{[], _∷_};
 ghost use Prim.Native.Nat.{_≤_, _<_};
 ghost use lib.ListN.{length};
 ghost use Rattle.wire.specs.Header.{typeSet};
-ghost use Rattle.items.specs.Items.{zeroAndAll, state, gain, packetSize};
+ghost use Rattle.items.specs.Items.{zeroAndAll, state, frequency, gain, clock, rate, packetSize, rowOf};
 ghost use Rattle.items.specs.Answer.{setBy, channelAllowed};
 use crate::Judged;
 use crate::Settings;
 use crate::ranges;
+
+// A set of an item. Where the table has a dash there is nothing to store; such a set is refused before (14).
+pub(crate) fn set_item(s: Settings, item: u16, p: &[u8]) -> Judged
+    requires { ⌜ 4 ≤ length (now p) ⌝ }
+    ensures { λ r. ⌜ r ≡ setBy (rowOf item) s (now (p .entry)) ⌝ }
+{
+    match item {
+        0x0018 => set_state(s, p),
+        0x0020 => set_frequency(s, p),
+        0x0038 => set_gain(s, p),
+        0x00B0 => set_clock(s, p),
+        0x00B8 => set_rate(s, p),
+        0x00C4 => set_size(s, p),
+        _ => Judged {
+            code: 1,
+            settings: s,
+        },
+    }
+}
 
 // State: "Run byte 1 is idle: the other three are ignored, the mode is kept, always accepted." "Other run bytes are 16."
 fn set_state(s: Settings, p: &[u8]) -> Judged
@@ -130,5 +149,75 @@ fn set_channel(byte: u8) -> bool
     match byte {
         0x00 | 0xFF => true,
         _ => false,
+    }
+}
+
+// Frequency: channel, 40-bit Hz in one of the bands.
+fn set_frequency(s: Settings, p: &[u8]) -> Judged
+    requires { ⌜ 1 ≤ length (now p) ⌝ }
+    ensures { λ r. ⌜ r ≡ setBy frequency s (now (p .entry)) ⌝ }
+{
+    if !set_channel(p[0]) {
+        return Judged {
+            code: 15,
+            settings: s,
+        };
+    }
+    let hz = wire::number_at(p, 1, 5);
+    if !tuning::in_bands(hz) {
+        return Judged {
+            code: 16,
+            settings: s,
+        };
+    }
+    let mut set = s;
+    set.frequency = hz;
+    Judged {
+        code: 1,
+        settings: set,
+    }
+}
+
+// Clock: any channel byte, 32-bit Hz.
+fn set_clock(s: Settings, p: &[u8]) -> Judged
+    ensures { λ r. ⌜ r ≡ setBy clock s (now (p .entry)) ⌝ }
+{
+    let hz = wire::number_at(p, 1, 4) as u32;
+    if !tuning::is_clock(hz) {
+        return Judged {
+            code: 16,
+            settings: s,
+        };
+    }
+    let mut set = s;
+    set.clock = hz;
+    Judged {
+        code: 1,
+        settings: set,
+    }
+}
+
+// Rate: any channel byte, 32-bit Hz; the D with the nearest exact rate is taken. Not while running.
+fn set_rate(s: Settings, p: &[u8]) -> Judged
+    ensures { λ r. ⌜ r ≡ setBy rate s (now (p .entry)) ⌝ }
+{
+    let asked = wire::number_at(p, 1, 4) as u32;
+    if !rates::may_ask(asked) {
+        return Judged {
+            code: 16,
+            settings: s,
+        };
+    }
+    if s.running {
+        return Judged {
+            code: 17,
+            settings: s,
+        };
+    }
+    let mut set = s;
+    set.divisor = rates::nearest(asked);
+    Judged {
+        code: 1,
+        settings: set,
     }
 }

@@ -1,0 +1,125 @@
+-- How the codes of a message's header, of the table and of the item make the message's code.
+use Prim.Native.Nat.{ℕ}
+use mathlib.Core.Path.{_≡_, refl, sym, ap, _∙_}
+use mathlib.Core.Bool.{Bool, true, false, _&&_, and-true, and-false}
+use mathlib.Core.List.{List, [], _∷_, _++_}
+use native.Mathlib.Omega.{arith}
+use lib.Dec.{eqb}
+use lib.ListN.{getD}
+use borrow.Author.Tests.{ne-eqb, eq-eqb}
+use Rattle.wire.specs.Choice.{pick, Check, check, firstOf}
+use Rattle.wire.specs.Header.{typeSet, typeRequest}
+use Rattle.items.specs.declared.Settings.{Settings}
+use Rattle.items.specs.declared.Judged.{Judged}
+use Rattle.items.specs.Items.{Channels, noChannel, anyChannel, zeroAndAll, Item, versions, frequency, gain, name, serial, interface, status, state, clock, rate, packetSize, rowIn, rowOf}
+use Rattle.items.specs.Header.{headerChecks}
+use Rattle.items.specs.Table.{tableChecks}
+use Rattle.items.specs.Answer.{Message, channelAllowed, itemIn, row, parameters, itemChecks, itemCode, askedBy, setBy, checks, codeOf, settingsAfter, judgedOf}
+use Rattle.items.proofs.Rows.{row-has}
+
+-- no check of the list has this code
+abbrev pub Others : ℕ → List Check → Type 0
+Others n [] = Unit {0}
+Others n (c ∷ cs) = (c .code ≡ n → ⊥) × Others n cs
+
+-- a check that holds decides, whatever follows
+pub first-stops : (cs ds : List Check) (n : ℕ) → (firstOf cs n ≡ n → ⊥) → firstOf (cs ++ ds) n ≡ firstOf cs n
+first-stops [] ds n h = absurd (h refl)
+first-stops (c ∷ cs) ds n h = go (c .holds) h (first-stops cs ds n)
+  where
+    go : (b : Bool) → (pick b (c .code) (firstOf cs n) ≡ n → ⊥) → ((firstOf cs n ≡ n → ⊥) → firstOf (cs ++ ds) n ≡ firstOf cs n)
+        → pick b (c .code) (firstOf (cs ++ ds) n) ≡ pick b (c .code) (firstOf cs n)
+    go true h more = refl
+    go false h more = more h
+
+-- where none holds, what follows decides
+pub first-goes-on : (cs ds : List Check) (n : ℕ) → Others n cs → firstOf cs n ≡ n → firstOf (cs ++ ds) n ≡ firstOf ds n
+first-goes-on [] ds n o h = refl
+first-goes-on (c ∷ cs) ds n o h = go (c .holds) h (first-goes-on cs ds n (o .1))
+  where
+    go : (b : Bool) → pick b (c .code) (firstOf cs n) ≡ n → (firstOf cs n ≡ n → firstOf (cs ++ ds) n ≡ firstOf ds n)
+        → pick b (c .code) (firstOf (cs ++ ds) n) ≡ firstOf ds n
+    go true h more = absurd (o .0 h)
+    go false h more = more h
+
+-- a request and a range request have the same channels
+channel-asked : (cs : Channels) (kind byte : ℕ) → (kind ≡ typeSet → ⊥) → channelAllowed cs kind byte ≡ channelAllowed cs typeRequest byte
+channel-asked noChannel kind byte h = refl
+channel-asked anyChannel kind byte h = refl
+channel-asked zeroAndAll kind byte h = rw (ne-eqb kind typeSet h)
+
+-- the checks of a request or a range request
+asked-code : (i : Item) (kind : ℕ) (s : Settings) (p : List ℕ) → (kind ≡ typeSet → ⊥) → itemCode i kind s p ≡ askedBy i p
+asked-code i kind s p h = rw (ne-eqb kind typeSet h, channel-asked (i .channels) kind (getD p 0 0) h)
+
+module _ (s : Settings) (m : Message) where
+  abbrev Header : List Check
+  Header = headerChecks (m .type) (m .size) (getD (m .held) 2 0)
+
+  abbrev Table : List Check
+  Table = tableChecks (itemIn m) (m .type) (m .size)
+
+  -- the header decides
+  pub by-header : (firstOf Header 1 ≡ 1 → ⊥) → codeOf s m ≡ firstOf Header 1
+  unfolding codeOf
+  by-header h = first-stops Header (Table ++ itemChecks (row m) (m .type) s (parameters m)) 1 h
+
+  past-header : firstOf Header 1 ≡ 1 → codeOf s m ≡ firstOf (Table ++ itemChecks (row m) (m .type) s (parameters m)) 1
+  unfolding codeOf
+  past-header h =
+      first-goes-on Header (Table ++ itemChecks (row m) (m .type) s (parameters m)) 1
+      ((λ e. omega arith), ((λ e. omega arith), ((λ e. omega arith), tt))) h
+
+  -- the table decides
+  pub by-table : firstOf Header 1 ≡ 1 → (firstOf Table 1 ≡ 1 → ⊥) → codeOf s m ≡ firstOf Table 1
+  by-table h t = past-header h ∙ first-stops Table (itemChecks (row m) (m .type) s (parameters m)) 1 t
+
+  -- the item decides
+  pub by-item : firstOf Header 1 ≡ 1 → firstOf Table 1 ≡ 1 → codeOf s m ≡ itemCode (row m) (m .type) s (parameters m)
+  by-item h t =
+      past-header h
+      ∙ first-goes-on Table (itemChecks (row m) (m .type) s (parameters m)) 1
+      ((λ e. omega arith), ((λ e. omega arith), ((λ e. omega arith), tt))) t
+
+  -- a refused message leaves every setting
+  pub refused : (code : ℕ) → (code ≡ 1 → ⊥) → codeOf s m ≡ code → record { code = code; settings = s } ≡ judgedOf s m
+  unfolding settingsAfter
+  refused code h e = rw (e, ne-eqb code 1 h) refl
+
+  -- a set is its item's
+  pub set-judged : m .type ≡ typeSet → codeOf s m ≡ itemCode (row m) (m .type) s (parameters m) → setBy (row m) s (parameters m) ≡ judgedOf s m
+  unfolding settingsAfter
+  set-judged t e = rw (e, t, and-true (eqb (itemCode (row m) typeSet s (parameters m)) 1)) refl
+
+  -- a request leaves every setting
+  pub asked-judged : (m .type ≡ typeSet → ⊥) → codeOf s m ≡ itemCode (row m) (m .type) s (parameters m)
+      → record { code = askedBy (row m) (parameters m); settings = s } ≡ judgedOf s m
+  unfolding settingsAfter
+  asked-judged t e =
+      rw (e, asked-code (row m) (m .type) s (parameters m) t, ne-eqb (m .type) typeSet t, and-false (eqb (askedBy (row m) (parameters m)) 1)) refl
+
+-- an item that is no channel's and no id's: nothing is asked of its requests
+abbrev unasked : (i : Item) → Type 0
+unasked i = (p : List ℕ) → 1 ≡ askedBy i p
+
+pub asked-else : (item : ℕ) → (item ≡ 0x0004 → ⊥) → (item ≡ 0x0020 → ⊥) → (item ≡ 0x0038 → ⊥) → (p : List ℕ) → 1 ≡ askedBy (rowOf item) p
+unfolding rowOf
+asked-else item v f g =
+    rw (ne-eqb item 0x0004 v, ne-eqb item 0x0020 f, ne-eqb item 0x0038 g)
+    (row-has unasked (λ p. refl) (name ∷ serial ∷ interface ∷ status ∷ state ∷ clock ∷ rate ∷ packetSize ∷ []) item
+    ((λ p. refl), ((λ p. refl), ((λ p. refl), ((λ p. refl), ((λ p. refl), ((λ p. refl), ((λ p. refl), ((λ p. refl), tt)))))))))
+
+-- an item that has no set: a set would store nothing
+abbrev unset : (i : Item) → Type 0
+unset i = (s : Settings) (p : List ℕ) → record { code = 1; settings = s } ≡ setBy i s p
+
+no-set : (s : Settings) (p : List ℕ) → record { code = 1; settings = s } ≡ setBy name s p
+no-set s p = rw (and-false (s .running)) refl
+
+pub set-else : (item : ℕ) → (item ≡ 0x0018 → ⊥) → (item ≡ 0x0020 → ⊥) → (item ≡ 0x0038 → ⊥) → (item ≡ 0x00B0 → ⊥) → (item ≡ 0x00B8 → ⊥)
+    → (item ≡ 0x00C4 → ⊥) → (s : Settings) (p : List ℕ) → record { code = 1; settings = s } ≡ setBy (rowOf item) s p
+unfolding rowOf
+set-else item a b c d e f =
+    rw (ne-eqb item 0x0018 a, ne-eqb item 0x0020 b, ne-eqb item 0x0038 c, ne-eqb item 0x00B0 d, ne-eqb item 0x00B8 e, ne-eqb item 0x00C4 f)
+    (row-has unset no-set (name ∷ serial ∷ interface ∷ versions ∷ status ∷ []) item
+    (no-set, (no-set, (no-set, (no-set, (no-set, tt))))))

@@ -1,0 +1,59 @@
+-- The eight tests are the definition's, one for one.
+use mathlib.Core.Path.{refl}
+use Rattle.items.specs.Settings.{inRange}
+use borrow.Author.Needs.{needs}
+use Rattle.items.proofs.ranges.in_range.Statement.{statement}
+use Rattle.items.proofs.ranges.in_range.Tie as tie
+
+in-bands-requires : tie.Need-in-bands-requires
+in-bands-requires c κs = search needs
+
+is-clock-requires : tie.Need-is-clock-requires
+is-clock-requires c κs = search needs
+
+is-d-requires : tie.Need-is-d-requires
+is-d-requires c κs = search needs
+
+is-mode-requires : tie.Need-is-mode-requires
+is-mode-requires c κs = search needs
+
+is-gain-requires : tie.Need-is-gain-requires
+is-gain-requires c κs = search needs
+
+is-size-requires : tie.Need-is-size-requires
+is-size-requires c κs = search needs
+
+all-serial-requires : tie.Need-all-serial-requires
+all-serial-requires c κs = search needs
+
+returns : tie.Need-returns
+unfolding inRange
+returns c =
+    let size = c .before in
+    let gain = size .before in
+    let mode = gain .before in
+    let divisor = mode .before in
+    let clock = divisor .before in
+    rw (
+      clock .before .before .in-bands .ensures,
+      clock .is-clock .ensures,
+      divisor .is-d .ensures,
+      mode .is-mode .ensures,
+      gain .is-gain .ensures,
+      size .is-size .ensures,
+      c .all-serial .ensures,
+    )
+    refl
+
+pub in-range-spec : {M : Type 1} → statement M
+in-range-spec =
+    tie.close
+    (tie.spec
+    in-bands-requires
+    is-clock-requires
+    is-d-requires
+    is-mode-requires
+    is-gain-requires
+    is-size-requires
+    all-serial-requires
+    returns)
