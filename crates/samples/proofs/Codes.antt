@@ -1,18 +1,19 @@
 -- Two's complement without a branch: a number lifted by half a turn, which makes it whole, and by half a turn more.
 -- Assumes nothing.
-use Prim.Native.Nat.{ℕ, suc, _+_, _-_, _/_, _%_, _^_, _≤_, _<_}
+use Prim.Native.Nat.{ℕ, zero, suc, _+_, _-_, _/_, _%_, _^_, _≤_, _<_}
 use mathlib.Core.Path.{_≡_, refl, sym, ap, _∙_}
 use mathlib.Core.Bool.{true}
-use native.Mathlib.Nat.{div-one, add-mod-right, mod-eq-of-lt}
+use native.Mathlib.Nat.{div-one, add-mod-right, mod-eq-of-lt, mod-eq-sub-mod}
+use native.Mathlib.Decide.{decLt}
 use native.Mathlib.Omega.{arith}
 use lib.Dec.{ltb}
-use lib.IntN.{ℤ, pos, negsuc, _+ℤ_}
+use lib.IntN.{ℤ, pos, negsuc, subℕ, _+ℤ_, _-ℤ_}
 use lib.Signed.{mag, shrZ}
 use mir.Syntax.{w32}
 use mir.Val.{SFits, toZ, ofZ}
-use mir.Facts.{toZ-ofZ}
-use borrow.Author.Tests.{ltb-true, le-ltb}
-use Rattle.wire.specs.Signed.{coded}
+use mir.Facts.{toZ-ofZ, toZ-pos}
+use borrow.Author.Tests.{ltb-true, lt-ltb, le-ltb}
+use Rattle.wire.specs.Signed.{coded, signed}
 use Rattle.packets.specs.Samples.{isSample, narrowed}
 use Rattle.samples.specs.Packing.{lowOf}
 
@@ -66,3 +67,37 @@ lowered (negsuc n) l = omega arith
 pub low-sample : (z : ℤ) → isSample z ≡ true → lowOf z ≡ coded 16 (narrowed 16 z)
 low-sample (pos n) s = omega (arith, ltb-true n 8_388_608 s)
 low-sample (negsuc n) s = omega (arith, ltb-true n 8_388_608 s)
+
+-- ---- and back: a code lifted by half a turn, the whole turns taken off, and the half turn taken off again
+
+drop-half : (u h : ℕ) → 0 < h → pos u -ℤ pos h ≡ subℕ u h
+drop-half u zero l = absurd (omega arith)
+drop-half u (suc h) l = refl
+
+half-small : (u h : ℕ) → u < h + h → mag (subℕ u h) ≤ h
+half-small u h l = elim (decLt u h) [ yes b ↦ rw (lt-ltb u h b) (omega arith) | no b ↦ rw (le-ltb u h (omega arith)) (omega arith) ]
+
+module _ (h u : ℕ) (some : 0 < h) (small : h ≤ 8_388_608) (l : u < h + h) where
+  read-half : toZ w32 u -ℤ pos h ≡ subℕ u h
+  read-half = rw (toZ-pos w32 {n = u} (omega arith)) (drop-half u h some)
+
+  pub drop-fits : SFits w32 (toZ w32 u -ℤ pos h)
+  drop-fits = rw read-half (record { sfits = omega (arith, half-small u h l) })
+
+  pub drop-is : toZ w32 (ofZ w32 (toZ w32 u -ℤ pos h)) ≡ subℕ u h
+  drop-is = toZ-ofZ drop-fits ∙ read-half
+
+pub unturned : (k h v : ℕ) → 2 ^ k ≡ h + h → 2 ^ (k - 1) ≡ h → v < h + h → subℕ ((v + h) % (h + h)) h ≡ signed k v
+unturned k h v whole half l = elim (decLt v h) [ yes b ↦ low b | no b ↦ high (omega arith) ]
+  where
+    low : v < h → subℕ ((v + h) % (h + h)) h ≡ signed k v
+    low b =
+        let turn : (v + h) % (h + h) ≡ v + h = mod-eq-of-lt (omega arith) in
+        rw (turn, half, lt-ltb v h b, le-ltb (v + h) h (omega arith)) (ap pos (omega arith))
+
+    high : h ≤ v → subℕ ((v + h) % (h + h)) h ≡ signed k v
+    high b =
+        let left : v + h - (h + h) ≡ v - h = omega arith in
+        let turn : (v + h) % (h + h) ≡ v - h
+        = mod-eq-sub-mod (omega arith) ∙ rw left (mod-eq-of-lt (omega arith)) in
+        rw (turn, half, whole, le-ltb v h b, lt-ltb (v - h) h (omega arith)) (ap negsuc (omega arith))

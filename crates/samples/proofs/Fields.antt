@@ -3,8 +3,9 @@ use Prim.Native.Nat.{ℕ, zero, suc, _+_, _*_, _/_, _%_, _≤_, _<_}
 use mathlib.Core.Path.{_≡_, refl, sym, ap, _∙_}
 use mathlib.Core.List.{List, [], _∷_}
 use native.Mathlib.Omega.{arith}
-use native.Mathlib.Numerals.{add-one, add-two}
-use lib.ListN.{length, getD, drop}
+use native.Mathlib.Numerals.{add-one}
+use lib.ListN.{length, getD, take, drop}
+use lib.Seq.{drop-drop}
 use Rattle.wire.specs.Number.{number, field}
 use Rattle.wire.proofs.Numbers.{field-step}
 
@@ -18,3 +19,22 @@ pub field-four : (s : List ℕ) (at : ℕ) → at + 4 ≤ length s → getD s at
 field-four s at h =
     let first : field at 4 s ≡ getD s at 0 + 256 * field (at + 1) 3 s = rw (add-one at) (field-step s at 3 (omega arith)) in
     omega (arith, first, field-on s at 1 2 (omega arith), field-on s at 2 1 (omega arith), field-on s at 3 0 (omega arith))
+
+-- a field after the leading bytes is a field of the packet
+pub field-drop : (lead at n : ℕ) (p : List ℕ) → field at n (drop lead p) ≡ field (lead + at) n p
+field-drop lead at n p = ap (λ (l : List ℕ). number (take n l)) (drop-drop at lead p)
+
+-- the word that ends with three bytes, without its lowest byte
+pub field-high : (s : List ℕ) (at : ℕ) → ((k : ℕ) → getD s k 0 < 256) → at < length s → field at 4 s / 256 ≡ field (at + 1) 3 s
+field-high s at small h =
+    let step : field at 4 s ≡ getD s at 0 + 256 * field (at + 1) 3 s = rw (add-one at) (field-step s at 3 h) in
+    omega (arith, step, small at)
+
+-- the two halves of a word
+pub field-halves : (s : List ℕ) (at : ℕ) → ((k : ℕ) → getD s k 0 < 256) → at + 2 ≤ length s → (field at 4 s % 65_536 ≡ field at 2 s) × (field at 4 s / 65_536 ≡ field (at + 2) 2 s)
+field-halves s at small h =
+    let four : field at 4 s ≡ getD s at 0 + 256 * field (at + 1) 3 s = rw (add-one at) (field-step s at 3 (omega arith)) in
+    let two : field at 2 s ≡ getD s at 0 + 256 * field (at + 1) 1 s = rw (add-one at) (field-step s at 1 (omega arith)) in
+    let three : field (at + 1) 3 s ≡ getD s (at + 1) 0 + 256 * field (at + 2) 2 s = field-on s at 1 2 (omega arith) in
+    let one : field (at + 1) 1 s ≡ getD s (at + 1) 0 + 256 * field (at + 2) 0 s = field-on s at 1 0 (omega arith) in
+    (omega (arith, small at, small (at + 1)), omega (arith, small at, small (at + 1)))

@@ -50,3 +50,26 @@ module _ (f : Form) (zs : List ℤ) (l : List ℕ) where
       let may : mayPack f zs (length l) ≡ allSamples zs
       = rw (e, eq-eqb (length zs) (2 * f .pairs) n, le-leb (totalOf f) (length l) room) in
       (fit ∙ sym may, done ∙ rw (may, w))
+
+-- ---- unpacking
+
+module _ (f : Form) (p : List ℕ) (out : List ℤ) where
+  unpack-refused : mayUnpack f (length p) (length out) ≡ false → (false ≡ mayUnpack f (length p) (length out)) × (out ≡ sets out 0 (unpackedOf f p (length out)))
+  unpack-refused e = (sym e, rw e)
+
+  pub unpack-unlisted : listed f ≡ false → (false ≡ mayUnpack f (length p) (length out)) × (out ≡ sets out 0 (unpackedOf f p (length out)))
+  unpack-unlisted e = unpack-refused (rw e)
+
+  pub unpack-short : listed f ≡ true → length p < totalOf f → (false ≡ mayUnpack f (length p) (length out)) × (out ≡ sets out 0 (unpackedOf f p (length out)))
+  unpack-short e h = unpack-refused (rw (e, lt-leb (totalOf f) (length p) h))
+
+  pub unpack-room : listed f ≡ true → totalOf f ≤ length p → length out < 2 * f .pairs → (false ≡ mayUnpack f (length p) (length out)) × (out ≡ sets out 0 (unpackedOf f p (length out)))
+  unpack-room e long h = unpack-refused (rw (e, le-leb (totalOf f) (length p) long, lt-leb (2 * f .pairs) (length out) h))
+
+  pub unpack-done : (bits : ℕ) (out′ : List ℤ) → listed f ≡ true → totalOf f ≤ length p → 2 * f .pairs ≤ length out → f .bits ≡ bits
+      → out′ ≡ sets out 0 (samplesFrom bits (drop 4 p) 0 (2 * f .pairs))
+      → (true ≡ mayUnpack f (length p) (length out)) × (out′ ≡ sets out 0 (unpackedOf f p (length out)))
+  unpack-done bits out′ e long room w done =
+      let may : mayUnpack f (length p) (length out) ≡ true
+      = rw (e, le-leb (totalOf f) (length p) long) (le-leb (2 * f .pairs) (length out) room) in
+      (sym may, done ∙ rw (may, w))

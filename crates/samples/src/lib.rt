@@ -2,6 +2,8 @@
 mod bytes;
 mod fitting;
 mod packing;
+mod unpacking;
 
 pub use fitting::all_fit;
 pub use packing::pack;
+pub use unpacking::unpack;

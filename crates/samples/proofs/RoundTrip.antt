@@ -1,0 +1,82 @@
+-- What was packed is unpacked: at every width of whole bytes, the samples that come back are those that went in, divided by
+-- 2 ^ (24 - bits) and rounded towards minus infinity; at 24 bits the samples themselves. Assumes nothing.
+use Prim.Native.Nat.{ℕ, zero, suc, _+_, _*_, _-_, _/_, _%_, _^_, _≤_, _<_}
+use mathlib.Core.Path.{_≡_, refl, sym, ap, _∙_}
+use mathlib.Core.Bool.{true, _&&_}
+use mathlib.Core.List.{List, [], _∷_, _++_, map, append-assoc}
+use native.Mathlib.Nat.{div-lt-iff-lt-mul, div-add-mod', mod-lt, mul-suc, mul-zero, suc-mul}
+use native.Mathlib.Numerals.{add-one}
+use native.Mathlib.Omega.{arith}
+use lib.IntN.{ℤ, pos, negsuc, _+ℤ_, _*ℤ_}
+use lib.ListN.{length, take, drop, length-append}
+use lib.Pow.{pow-pos, pow-add}
+use lib.Seq.{take-at, drop-at}
+use lib.Signed.{mag, shrZ}
+use borrow.Author.Tests.{ltb-true, lt-ltb}
+use Rattle.wire.specs.Number.{number, bytes, field}
+use Rattle.wire.specs.Signed.{coded, signed}
+use Rattle.wire.proofs.Laws.{and-left, and-right}
+use Rattle.wire.proofs.Numbers.{length-bytes, number-bytes}
+use Rattle.wire.proofs.Signed.{coded-below, signed-coded}
+use Rattle.packets.specs.declared.Form.{Form}
+use Rattle.packets.specs.Forms.{listed}
+use Rattle.packets.specs.Samples.{isSample, allSamples, narrowed, sampleBytes, samplesBytes, sampleAt, samplesFrom}
+use Rattle.packets.proofs.Forms.{is-listed-form}
+
+mag-shift : (z : ℤ) (m : ℕ) → mag (shrZ z m) ≡ mag z / m
+mag-shift (pos n) m = refl
+mag-shift (negsuc n) m = refl
+
+module _ (bits : ℕ) (some : 1 ≤ bits) (most : bits ≤ 24) where
+  -- what is sent of a sample fits the width
+  pub narrowed-small : (z : ℤ) → isSample z ≡ true → mag (narrowed bits z) < 2 ^ (bits - 1)
+  narrowed-small z s =
+      let all : (bits - 1) + (24 - bits) ≡ 23 = omega arith in
+      let power : 2 ^ (bits - 1) * 2 ^ (24 - bits) ≡ 8_388_608 = sym (pow-add 2 (bits - 1) (24 - bits)) ∙ ap (λ (n : ℕ). 2 ^ n) all in
+      let h : mag z < 2 ^ (bits - 1) * 2 ^ (24 - bits) = rw power (ltb-true (mag z) 8_388_608 s) in
+      rw (mag-shift z (2 ^ (24 - bits))) (div-lt-iff-lt-mul (pow-pos (24 - bits)) .1 h)
+
+  module _ (whole : 2 ^ bits ≡ 256 ^ (bits / 8)) where
+    -- a sample's bytes are read as what was sent of it, whatever stands before and after them
+    pub sample-back : (before after : List ℕ) (i : ℕ) (z : ℤ) → length before ≡ bits / 8 * i → isSample z ≡ true → sampleAt bits (before ++ (sampleBytes bits z ++ after)) i ≡ narrowed bits z
+    sample-back before after i z long s =
+        let code = coded bits (narrowed bits z) in
+        let small : mag (narrowed bits z) < 2 ^ (bits - 1) = narrowed-small z s in
+        let below : code < 256 ^ (bits / 8) = rw (← whole) (coded-below bits (narrowed bits z) some small) in
+        rw (drop-at before (sampleBytes bits z ++ after) (bits / 8 * i) long, take-at (sampleBytes bits z) after (bits / 8) (length-bytes (bits / 8) code), number-bytes (bits / 8) code below)
+        (signed-coded bits (narrowed bits z) some small)
+
+    from : (before : List ℕ) (i : ℕ) (zs : List ℤ) → length before ≡ bits / 8 * i → allSamples zs ≡ true → samplesFrom bits (before ++ samplesBytes bits zs) i (length zs) ≡ map (narrowed bits) zs
+    from before i [] long all = refl
+    from before i (z ∷ zs) long all =
+        let first = sample-back before (samplesBytes bits zs) i z long (and-left (isSample z) (allSamples zs) all) in
+        let next : length (before ++ sampleBytes bits z) ≡ bits / 8 * (i + 1)
+        = rw (length-append before (sampleBytes bits z), length-bytes (bits / 8) (coded bits (narrowed bits z)), add-one i, mul-suc (bits / 8) i, long) in
+        let rest = from (before ++ sampleBytes bits z) (i + 1) zs next (and-right (isSample z) (allSamples zs) all) in
+        rw (first, ← append-assoc before (sampleBytes bits z) (samplesBytes bits zs), rest)
+
+    -- all samples come back, narrowed to the width
+    pub round-trip : (zs : List ℤ) → allSamples zs ≡ true → samplesFrom bits (samplesBytes bits zs) 0 (length zs) ≡ map (narrowed bits) zs
+    round-trip zs all = from [] 0 zs (sym (mul-zero (bits / 8))) all
+
+-- so at each listed form
+pub round-trip-form : (f : Form) → listed f ≡ true → (zs : List ℤ) → allSamples zs ≡ true → samplesFrom (f .bits) (samplesBytes (f .bits) zs) 0 (length zs) ≡ map (narrowed (f .bits)) zs
+round-trip-form f l = let g = is-listed-form f l in round-trip (f .bits) (omega arith) (g .narrow) (g .bytewise)
+
+-- "divided by 256, rounded towards minus infinity": at each width what is sent is the quotient by 2 ^ (24 - bits) whose
+-- remainder is not negative and below the divisor.
+floor : (m : ℕ) → 0 < m → (z : ℤ) → (r : ℕ) × ((r < m) × (z ≡ shrZ z m *ℤ pos m +ℤ pos r))
+floor m some (pos n) = (n % m, (mod-lt n some, ap pos (sym (div-add-mod' n m))))
+floor m some (negsuc n) =
+    let low : n % m < m = mod-lt n some in
+    let parts : n / m * m + n % m ≡ n = div-add-mod' n m in
+    let turn : suc (n / m) * m ≡ suc (n / m * m + (m - 1)) = suc-mul (n / m) m ∙ omega arith in (
+      m - suc (n % m),
+      (omega arith, sym (rw (turn, lt-ltb (m - suc (n % m)) (suc (n / m * m + (m - 1))) (omega arith)) (ap negsuc (omega arith)))),
+    )
+
+pub narrowed-floor : (bits : ℕ) (z : ℤ) → (r : ℕ) × ((r < 2 ^ (24 - bits)) × (z ≡ narrowed bits z *ℤ pos (2 ^ (24 - bits)) +ℤ pos r))
+narrowed-floor bits z = floor (2 ^ (24 - bits)) (pow-pos (24 - bits)) z
+
+pub narrowed-16 : (z : ℤ) → (r : ℕ) × ((r < 256) × (z ≡ narrowed 16 z *ℤ pos 256 +ℤ pos r))
+narrowed-16 z = narrowed-floor 16 z

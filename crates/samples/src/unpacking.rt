@@ -1,0 +1,76 @@
+// Unpacking: the bytes after a packet's four leading bytes, as signed numbers of the width sent.
+use crate::bytes;
+use packets::Form;
+ghost use mathlib.Core.Path.{_≡_};
+ghost use Prim.Native.Nat.{_+_, _*_, _≤_, _<_};
+ghost use lib.ListN.{length, drop};
+ghost use lib.Seq.{sets};
+ghost use Rattle.wire.specs.Signed.{signed};
+ghost use Rattle.packets.specs.Samples.{samplesFrom};
+ghost use Rattle.samples.specs.Packing.{mayUnpack, unpackedOf};
+
+// The number that 24 bits stand for.
+fn sign24(v: u32) -> i32
+    requires { ⌜ v < 16777216 ⌝ }
+    ensures { λ r. ⌜ r ≡ signed 24 v ⌝ }
+{
+    ((v + 8388608) % 16777216) as i32 - 8388608
+}
+
+// The number that 16 bits stand for.
+fn sign16(v: u32) -> i32
+    requires { ⌜ v < 65536 ⌝ }
+    ensures { λ r. ⌜ r ≡ signed 16 v ⌝ }
+{
+    ((v + 32768) % 65536) as i32 - 32768
+}
+
+// Reads a sample from the word that ends with its three bytes: the four leading bytes see to it that one byte more stands
+// before each.
+fn unpack24(packet: &[u8], out: &mut [i32], n: usize)
+    requires { ⌜ (4 + 3 * n ≤ length (now packet)) × (n ≤ length (now out)) ⌝ }
+    ensures { λ r. ⌜ now (out .exit) ≡ sets (now (out .entry)) 0 (samplesFrom 24 (drop 4 (now (packet .entry))) 0 n) ⌝ }
+{
+    let mut i = 0;
+    while i < n {
+        out[i] = sign24(bytes::word(packet, 3 + 3 * i) / 256);
+        i += 1;
+    }
+}
+
+// Reads I and Q of a pair from one word.
+fn unpack16(packet: &[u8], out: &mut [i32], pairs: usize)
+    requires { ⌜ (4 + 4 * pairs ≤ length (now packet)) × (2 * pairs ≤ length (now out)) ⌝ }
+    ensures { λ r. ⌜ now (out .exit) ≡ sets (now (out .entry)) 0 (samplesFrom 16 (drop 4 (now (packet .entry))) 0 (2 * pairs)) ⌝ }
+{
+    let mut i = 0;
+    while i < pairs {
+        let pair = bytes::word(packet, 4 + 4 * i);
+        out[2 * i] = sign16(pair % 65536);
+        out[2 * i + 1] = sign16(pair / 65536);
+        i += 1;
+    }
+}
+
+// Writes the samples of a packet of a form at the start of `out`, I and Q in turn, as signed numbers of the width sent. It
+// refuses, and writes nothing, where the form is not listed, the packet is shorter than its form says, or `out` has no room.
+pub fn unpack(f: Form, packet: &[u8], out: &mut [i32]) -> bool
+    ensures { λ r. ⌜ (r ≡ mayUnpack f (length (now (packet .entry))) (length (now (out .entry)))) × (now (out .exit) ≡ sets (now (out .entry)) 0 (unpackedOf f (now (packet .entry)) (length (now (out .entry))))) ⌝ }
+{
+    if !packets::is_listed(f) {
+        return false;
+    }
+    if (packet.len() as u64) < packets::total_of(f) {
+        return false;
+    }
+    if (out.len() as u64) < 2 * f.pairs {
+        return false;
+    }
+    let pairs = f.pairs as usize;
+    if f.bits == 24 {
+        unpack24(packet, out, 2 * pairs);
+        return true;
+    }
+    unpack16(packet, out, pairs);
+    true
+}
