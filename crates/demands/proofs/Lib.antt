@@ -1,3 +1,4 @@
 pub mod Starred
 pub mod OneMessage
 pub mod Reached
+pub mod Shown

@@ -1,2 +1,3 @@
 pub mod Starred
 pub mod Reached
+pub mod Shown

@@ -1,0 +1,329 @@
+-- Demand 2: after an accepted set a request shows the value set, and every other item is as it was.
+-- Assumes nothing.
+use Prim.Native.Nat.{ℕ, zero, suc, _+_, _%_, _≤_, _<_}
+use native.Mathlib.Omega.{arith}
+use mathlib.Core.Path.{_≡_, refl, sym, ap, _∙_}
+use mathlib.Core.Bool.{Bool, true, false, _&&_, _||_, not}
+use mathlib.Core.List.{List, [], _∷_}
+use lib.Dec.{eqb}
+use lib.ListN.{length, getD, take, drop, length-drop}
+use lib.Seq.{drop-cons, length-take-le}
+use borrow.Author.Tests.{eqb-true, not-false}
+use Rattle.wire.specs.Choice.{pick}
+use Rattle.wire.proofs.Laws.{true-not-false, and-not-right}
+use Rattle.wire.specs.Number.{bytes, field}
+use Rattle.wire.specs.Header.{typeSet, typeRequest, typeRange}
+use Rattle.wire.proofs.Numbers.{bytes-number}
+use Rattle.framing.specs.Framing.{allBytes}
+use Rattle.items.specs.declared.Settings.{Settings}
+use Rattle.items.specs.Settings.{withRunning, withCount, withMode, isMode}
+use Rattle.items.specs.Items.{Item, items, noItem, listedIn, rowIn, rowOf, runByte, modeByte, idle, run, frequency, gain, clock, rate, packetSize, state, status, listed}
+use Rattle.items.specs.Table.{offered, isTotal}
+use Rattle.items.specs.Answer.{Message, itemIn, row, parameters, valueAllowed, refusedRunning, checks, codeOf, settingsAfter, replyOf}
+use Rattle.station.proofs.Kept.{allFail, accepted, refusals, left-alone}
+use Rattle.demands.specs.Shown.{shownBy, Held, showing, touches, changes, afterAll, noneChanges}
+
+-- ---- what holds of each line of the table with its code, and of no item, holds of a code and its line
+
+abbrev eachHas : (ℕ → Item → Type 0) → List Item → Type 0
+eachHas P [] = Unit {0}
+eachHas P (i ∷ is) = P (i .code) i × eachHas P is
+
+row-at : (P : ℕ → Item → Type 0) → ((code : ℕ) → P code noItem) → (is : List Item) (code : ℕ) → eachHas P is → P code (rowIn is code)
+row-at P none [] code h = none code
+row-at P none (i ∷ is) code h = go (eqb code (i .code)) refl (row-at P none is code (h .1))
+  where
+    go : (b : Bool) → eqb code (i .code) ≡ b → P code (rowIn is code) → P code (pick b i (rowIn is code))
+    go true q rest = rw (eqb-true code (i .code) q) (h .0)
+    go false q rest = rest
+
+found-at : (P : ℕ → Item → Type 0) → ((code : ℕ) → P code noItem) → eachHas P items → (code : ℕ) → P code (rowOf code)
+unfolding rowOf
+found-at P none h code = row-at P none items code h
+
+-- ---- every other item is as it was
+
+-- where a test both holds and fails, anything does
+no-such : {X : Type 0} (x y : X) → true ≡ false → x ≡ y
+no-such x y e = absurd (true-not-false e)
+
+-- what an item shows is the same in both settings
+abbrev Same : Item → Settings → Settings → Type 0
+Same b s t = (q : List ℕ) → b .value t q ≡ b .value s q
+
+-- a set of the item `a`, whose code is `i`, leaves what every item shows that it does not touch
+abbrev Leaves : ℕ → Item → Type 0
+Leaves i a = (j : ℕ) → touches i j ≡ false → (s : Settings) (p : List ℕ) → Same (rowOf j) s (a .stored s p)
+
+-- so it does if it leaves each line of the table that it does not touch
+leaves-each : (i : ℕ) (a : Item)
+    → eachHas (λ j b. touches i j ≡ false → (s : Settings) (p : List ℕ) → Same b s (a .stored s p)) items → Leaves i a
+leaves-each i a = found-at (λ j b. touches i j ≡ false → (s : Settings) (p : List ℕ) → Same b s (a .stored s p)) (λ j t s p q. refl)
+
+-- The state: an item that shows the same once the box is idle and once it runs, whatever the mode and the count.
+abbrev Steady : Item → Type 0
+Steady b = ((s : Settings) → Same b s (withRunning false s)) × ((s : Settings) (mode : ℕ) → Same b s (withCount 0 (withMode mode (withRunning true s))))
+
+state-leaves : Leaves 0x0018 state
+state-leaves j t s p = go (eqb (runByte p) idle) (s .running) (found-at (λ j b. touches 0x0018 j ≡ false → Steady b) (λ j t. ((λ s q. refl), (λ s mode q. refl))) (search no-such depth 30) j t)
+  where
+    go : (i w : Bool) → Steady (rowOf j)
+        → Same (rowOf j) s (pick i (withRunning false s) (pick w s (withCount 0 (withMode (modeByte p) (withRunning true s)))))
+    go true w h = h .0 s
+    go false true h = λ q. refl
+    go false false h = h .1 s (modeByte p)
+
+-- the table of pairs: where an item is not touched, what it shows of the settings stored computes to what it shows of those before
+leave : eachHas Leaves items
+leave = (
+  λ j t s p q. refl,
+  (
+    λ j t s p q. refl,
+    (
+      λ j t s p q. refl,
+      (
+        λ j t s p q. refl,
+        (
+          λ j t s p q. refl,
+          (
+            state-leaves,
+            (
+              leaves-each 0x0020 frequency (search no-such depth 30),
+              (
+                leaves-each 0x0038 gain (search no-such depth 30),
+                (
+                  leaves-each 0x00B0 clock (search no-such depth 30),
+                  (
+                    leaves-each 0x00B8 rate (search no-such depth 30),
+                    (leaves-each 0x00C4 packetSize (search no-such depth 30), tt),
+                  ),
+                ),
+              ),
+            ),
+          ),
+        ),
+      ),
+    ),
+  ),
+)
+
+pub others-unchanged : (a b : ℕ) → touches a b ≡ false → (s : Settings) (p q : List ℕ)
+    → rowOf b .value (rowOf a .stored s p) q ≡ rowOf b .value s q
+others-unchanged a b t s p q = found-at Leaves (λ i j t s p q. refl) leave a b t s p q
+
+-- ---- a request shows the value set
+
+all-take : (n : ℕ) (bs : List ℕ) → allBytes bs → allBytes (take n bs)
+all-take zero bs h = tt
+all-take (suc n) [] h = tt
+all-take (suc n) (b ∷ bs) h = (h .0, all-take n bs (h .1))
+
+all-drop : (n : ℕ) (bs : List ℕ) → allBytes bs → allBytes (drop n bs)
+all-drop zero bs h = h
+all-drop (suc n) [] h = tt
+all-drop (suc n) (b ∷ bs) h = all-drop n bs (h .1)
+
+all-below : (bs : List ℕ) → allBytes bs → (k : ℕ) → getD bs k 0 < 256
+all-below [] h k = omega arith
+all-below (b ∷ bs) h zero = h .0
+all-below (b ∷ bs) h (suc k) = all-below bs (h .1) k
+
+-- a field of a message, written as a number and shown again, is the bytes that were sent
+field-shown : (at n : ℕ) (p : List ℕ) → at + n ≤ length p → allBytes p → bytes n (field at n p) ≡ take n (drop at p)
+field-shown at n p room h =
+    let long : length (take n (drop at p)) ≡ n = length-take-le n (drop at p) (rw length-drop (omega arith)) in
+    rw long at (bytes-number (take n (drop at p)) (all-below (take n (drop at p)) (all-take n (drop at p) (all-drop at p h))))
+
+byte-shown : (at : ℕ) (p : List ℕ) → at < length p → allBytes p → bytes 1 (getD p at 0) ≡ take 1 (drop at p)
+byte-shown at p room h =
+    let small : getD p at 0 % 256 ≡ getD p at 0 = omega (arith, all-below p h at) in
+    rw (drop-cons p at 0 room, small)
+
+-- what an item shows after a set that was allowed
+abbrev Shows : ℕ → Item → Type 0
+Shows code i =
+    (size : ℕ) → isTotal (i .set) size ≡ true → (s : Settings) (p : List ℕ) → size ≤ 4 + length p → allBytes p → i .settable p ≡ true
+    → s .running && i .locked s p ≡ false → (q : List ℕ) → i .value (i .stored s p) q ≡ shownBy code s p
+
+-- a run that is accepted while running has the mode that the box has
+state-shows : Shows 0x0018 state
+unfolding shownBy
+state-shows size total s p room b may free q =
+    go (eqb (runByte p) idle) (s .running) (eqb (runByte p) run) (eqb (modeByte p) (s .mode)) refl refl may free
+  where
+    go : (i w r same : Bool) → s .running ≡ w → eqb (modeByte p) (s .mode) ≡ same
+        → i || (r && eqb (getD p 0 0) 0x80 && isMode (modeByte p)) ≡ true → w && (r && not same) ≡ false
+        → state .value (pick i (withRunning false s) (pick w s (withCount 0 (withMode (modeByte p) (withRunning true s))))) q
+        ≡ pick i (0x80 ∷ idle ∷ s .mode ∷ 0x00 ∷ []) (0x80 ∷ run ∷ modeByte p ∷ 0x00 ∷ [])
+    go true w r same running mode may free = refl
+    go false true true true running mode may free = rw (running, eqb-true (modeByte p) (s .mode) mode)
+    go false true true false running mode may free = no-such _ _ free
+    go false true false same running mode may free = no-such _ _ (sym may)
+    go false false r same running mode may free = refl
+
+show : eachHas Shows items
+unfolding shownBy
+show = (
+  λ size total. absurd (true-not-false (sym total)),
+  (
+    λ size total. absurd (true-not-false (sym total)),
+    (
+      λ size total. absurd (true-not-false (sym total)),
+      (
+        λ size total. absurd (true-not-false (sym total)),
+        (
+          λ size total. absurd (true-not-false (sym total)),
+          (
+            state-shows,
+            (
+              λ size total s p room b may free q. field-shown 1 5 p (omega (arith, eqb-true size 10 total)) b,
+              (
+                λ size total s p room b may free q. byte-shown 1 p (omega (arith, eqb-true size 6 total)) b,
+                (
+                  λ size total s p room b may free q. field-shown 1 4 p (omega (arith, eqb-true size 9 total)) b,
+                  (
+                    λ size total s p room b may free q. refl,
+                    (λ size total s p room b may free q. byte-shown 0 p (omega (arith, eqb-true size 5 total)) b, tt),
+                  ),
+                ),
+              ),
+            ),
+          ),
+        ),
+      ),
+    ),
+  ),
+)
+
+-- ---- what an accepted message passed
+
+passed : (s : Settings) (m : Message) → codeOf s m ≡ 1 → allFail (checks s m)
+unfolding codeOf
+passed s m h = accepted (checks s m) 1 (refusals s m) h
+
+module _ (s : Settings) (m : Message) (h : codeOf s m ≡ 1) where
+  is-listed : listed (itemIn m) ≡ true
+  is-listed = not-false _ (passed s m h .1 .1 .1 .0)
+
+  has-length : isTotal (offered (row m) (m .type)) (m .size) ≡ true
+  has-length = not-false _ (passed s m h .1 .1 .1 .1 .1 .0)
+
+  has-value : valueAllowed (row m) (m .type) (parameters m) ≡ true
+  has-value = not-false _ (passed s m h .1 .1 .1 .1 .1 .1 .1 .0)
+
+  is-free : refusedRunning (row m) (m .type) s (parameters m) ≡ false
+  is-free = passed s m h .1 .1 .1 .1 .1 .1 .1 .1 .0
+
+-- ---- replies
+
+-- the line that is looked up has the code
+listed-row : (is : List Item) (code : ℕ) → listedIn is code ≡ true → rowIn is code .code ≡ code
+listed-row [] code h = absurd (true-not-false (sym h))
+listed-row (i ∷ is) code h = go (eqb code (i .code)) refl h (listed-row is code)
+  where
+    go : (b : Bool) → eqb code (i .code) ≡ b → b || listedIn is code ≡ true → (listedIn is code ≡ true → rowIn is code .code ≡ code)
+        → pick b i (rowIn is code) .code ≡ code
+    go true q h rest = sym (eqb-true code (i .code) q)
+    go false q h rest = rest h
+
+row-code : (code : ℕ) → listed code ≡ true → rowOf code .code ≡ code
+unfolding listed rowOf
+row-code code h = listed-row items code h
+
+-- an accepted message that asks for no range is answered with the value that its item has then
+answers : (s : Settings) (m : Message) → codeOf s m ≡ 1 → eqb (m .type) typeRange ≡ false
+    → replyOf s m ≡ showing m (row m .value (settingsAfter s m) (parameters m))
+unfolding replyOf
+answers s m h kind = rw (h, kind, row-code (itemIn m) (is-listed s m h))
+
+-- a request stores nothing
+asked-leaves : (s : Settings) (q : Message) → q .type ≡ typeRequest → settingsAfter s q ≡ s
+asked-leaves s q kind =
+    left-alone s q (and-not-right (eqb (codeOf s q) 1) (eqb (q .type) typeSet) (ap (λ (k : ℕ). eqb k typeSet) kind))
+
+-- its code is the same whatever the settings are
+asked-alike : (s t : Settings) (q : Message) → q .type ≡ typeRequest → codeOf t q ≡ codeOf s q
+unfolding codeOf
+asked-alike s t q kind = rw kind
+
+-- and its reply shows the value that its item has
+asked-shows : (s : Settings) (q : Message) → q .type ≡ typeRequest → codeOf s q ≡ 1 → replyOf s q ≡ showing q (row q .value s (parameters q))
+asked-shows s q kind h =
+    answers s q h (rw kind refl) ∙ ap (λ (t : Settings). showing q (row q .value t (parameters q))) (asked-leaves s q kind)
+
+-- ---- messages
+
+-- a message leaves what every item shows that it does not change
+message-leaves : (asked : ℕ) (s : Settings) (m : Message) → changes asked s m ≡ false → Same (rowOf asked) s (settingsAfter s m)
+unfolding settingsAfter
+message-leaves asked s m h q = go (eqb (codeOf s m) 1 && eqb (m .type) typeSet) h
+  where
+    go : (b : Bool) → b && touches (itemIn m) asked ≡ false
+        → rowOf asked .value (pick b (row m .stored s (parameters m)) s) q ≡ rowOf asked .value s q
+    go true t = others-unchanged (itemIn m) asked t s (parameters m) q
+    go false t = refl
+
+messages-leave : (asked : ℕ) (s : Settings) (ms : List Message) → noneChanges asked s ms → Same (rowOf asked) s (afterAll s ms)
+messages-leave asked s [] h q = refl
+messages-leave asked s (m ∷ ms) h q = messages-leave asked (settingsAfter s m) ms (h .1) q ∙ message-leaves asked s m (h .0) q
+
+-- an accepted set stores
+stores : (s : Settings) (m : Message) → codeOf s m ≡ 1 → m .type ≡ typeSet → settingsAfter s m ≡ row m .stored s (parameters m)
+unfolding settingsAfter
+stores s m h kind = rw (h, kind)
+
+-- after it, its item has the value set
+has-value-set : (s : Settings) (m : Message) → codeOf s m ≡ 1 → m .type ≡ typeSet → Held m
+    → (q : List ℕ) → row m .value (settingsAfter s m) q ≡ shownBy (itemIn m) s (parameters m)
+has-value-set s m h kind held q =
+    rw (stores s m h kind)
+    (found-at Shows (λ code size total. absurd (true-not-false (sym total))) show (itemIn m) (m .size) (rw kind at (has-length s m h)) s
+    (parameters m) (rw length-drop (omega (arith, held .whole))) (all-drop 4 (m .held) (held .areBytes)) (rw kind at (has-value s m h))
+    (rw kind at (is-free s m h)) q)
+
+-- "is echoed": the reply to an accepted set has the value set
+pub set-replies : (s : Settings) (m : Message) → codeOf s m ≡ 1 → m .type ≡ typeSet → Held m
+    → replyOf s m ≡ showing m (shownBy (itemIn m) s (parameters m))
+set-replies s m h kind held =
+    answers s m h (rw kind refl) ∙ ap (showing m) (has-value-set s m h kind held (parameters m))
+
+-- "later requests show the setting": after an accepted set, and any messages that do not change what its item shows, an
+-- accepted request of the item shows the value set
+pub set-shows-later : (s : Settings) (m : Message) (ms : List Message) (q : Message)
+    → codeOf s m ≡ 1 → m .type ≡ typeSet → Held m
+    → noneChanges (itemIn m) (settingsAfter s m) ms
+    → q .type ≡ typeRequest → itemIn q ≡ itemIn m → codeOf (afterAll (settingsAfter s m) ms) q ≡ 1
+    → replyOf (afterAll (settingsAfter s m) ms) q ≡ showing q (shownBy (itemIn m) s (parameters m))
+set-shows-later s m ms q h kind held none asked same answered =
+    asked-shows (afterAll (settingsAfter s m) ms) q asked answered
+    ∙ ap (showing q)
+    (rw same (messages-leave (itemIn m) (settingsAfter s m) ms none (parameters q) ∙ has-value-set s m h kind held (parameters q)))
+
+-- at once
+pub set-shows : (s : Settings) (m q : Message)
+    → codeOf s m ≡ 1 → m .type ≡ typeSet → Held m
+    → q .type ≡ typeRequest → itemIn q ≡ itemIn m → codeOf (settingsAfter s m) q ≡ 1
+    → replyOf (settingsAfter s m) q ≡ showing q (shownBy (itemIn m) s (parameters m))
+set-shows s m q h kind held asked same answered = set-shows-later s m [] q h kind held tt asked same answered
+
+-- whatever messages come, a request that none of them changes is answered as before, accepted or not
+pub same-answer : (s : Settings) (ms : List Message) (q : Message) → q .type ≡ typeRequest → noneChanges (itemIn q) s ms
+    → replyOf (afterAll s ms) q ≡ replyOf s q
+unfolding replyOf
+same-answer s ms q asked none =
+    rw (asked-leaves (afterAll s ms) q asked, asked-leaves s q asked, asked-alike s (afterAll s ms) q asked, asked, messages-leave (itemIn q) s ms none (parameters q))
+
+-- the one exception: after an accepted set of the state the status shows it, 0B idle and 0C running
+pub status-shows : (s : Settings) (m : Message) → codeOf s m ≡ 1 → m .type ≡ typeSet → itemIn m ≡ state .code
+    → (q : List ℕ) → rowOf (status .code) .value (settingsAfter s m) q ≡ pick (eqb (runByte (parameters m)) idle) 0x0B 0x0C ∷ []
+unfolding rowOf
+status-shows s m h kind item q =
+    rw (stores s m h kind ∙ ap (λ (code : ℕ). rowOf code .stored s (parameters m)) item)
+    (go (eqb (runByte (parameters m)) idle) (s .running) refl)
+  where
+    go : (i w : Bool) → s .running ≡ w
+        → status .value (pick i (withRunning false s) (pick w s (withCount 0 (withMode (modeByte (parameters m)) (withRunning true s))))) q
+        ≡ pick i 0x0B 0x0C ∷ []
+    go true w running = refl
+    go false true running = rw running
+    go false false running = refl
