@@ -1,6 +1,6 @@
 -- The table of packet forms agrees, row by row, with width and pair count, and what every listed form satisfies, so that no
 -- later proof over forms goes by the four rows. Assumes nothing.
-use Prim.Native.Nat.{ℕ, zero, suc, _+_, _*_, _-_, _/_, _%_, _^_, _≤_, _<_}
+use Prim.Native.Nat.{ℕ, _*_, _/_, _^_, _≤_, _<_}
 use mathlib.Core.Path.{_≡_, refl, sym, ap, _∙_}
 use mathlib.Core.Logic.{_⊎_, inl, inr, ⊎-elim}
 use mathlib.Core.Bool.{Bool, true, false, _&&_, _||_}
@@ -12,16 +12,9 @@ use borrow.Author.Tests.{eqb-true, leb-true, ltb-true, eq-eqb, ne-eqb}
 use Rattle.wire.specs.Choice.{pick}
 use Rattle.wire.specs.Number.{bytes, field}
 use Rattle.wire.specs.Header.{headerOf, lengthIn, typeData}
+use Rattle.wire.proofs.Laws.{and-left, and-right}
 use Rattle.packets.specs.declared.Form.{Form}
-use Rattle.packets.specs.Forms.{Row, forms, formOf, sameForm, totalOf, noForm, listedIn, listed, formForIn, formFor, formWithIn, formWithHeader, wholeIn, wholeOf, isPacket}
-
-and-left : (a b : Bool) → (a && b) ≡ true → a ≡ true
-and-left true b h = refl
-and-left false b h = h
-
-and-right : (a b : Bool) → (a && b) ≡ true → b ≡ true
-and-right true b h = h
-and-right false b h = cc
+use Rattle.packets.specs.Forms.{Row, forms, formOf, sameForm, totalOf, noForm, listedIn, listed, formFor, formWithIn, formWithHeader, wholeIn, wholeOf, isPacket}
 
 -- ---- one computed test over the table
 

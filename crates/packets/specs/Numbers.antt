@@ -1,5 +1,5 @@
 -- Packet numbers and positions.
-use Prim.Native.Nat.{ℕ, zero, suc, _+_, _*_, _-_, _%_}
+use Prim.Native.Nat.{ℕ, zero, suc, _+_, _-_, _%_}
 use mathlib.Core.List.{List}
 use lib.Dec.{ltb}
 use Rattle.wire.specs.Choice.{pick}

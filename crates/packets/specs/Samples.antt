@@ -1,12 +1,11 @@
 -- Samples: whole numbers from -8,388,608 to 8,388,607, and their bytes in a packet.
 use Prim.Native.Nat.{ℕ, zero, suc, _+_, _*_, _-_, _/_, _^_}
-use mathlib.Core.Bool.{Bool, true, false, _&&_}
+use mathlib.Core.Bool.{Bool, true, _&&_}
 use mathlib.Core.List.{List, [], _∷_, _++_}
-use lib.Dec.{ltb, eqb}
+use lib.Dec.{ltb}
 use lib.IntN.{ℤ}
 use lib.Signed.{mag, shrZ}
-use lib.ListN.{take, drop}
-use Rattle.wire.specs.Number.{number, bytes, field}
+use Rattle.wire.specs.Number.{bytes, field}
 use Rattle.wire.specs.Signed.{coded, signed}
 
 -- -8,388,608 ≤ z ≤ 8,388,607. (`mag` is z where z is not negative, and -z - 1 where it is.)

@@ -1,21 +1,18 @@
 -- When packing and unpacking refuse, and that a listed form leaves room for what its loop writes. Assumes nothing.
 use Prim.Native.Nat.{ℕ, _+_, _*_, _/_, _≤_, _<_}
-use mathlib.Core.Path.{_≡_, refl, sym, ap, _∙_}
+use mathlib.Core.Path.{_≡_, sym, _∙_}
 use mathlib.Core.Logic.{⊎-elim}
-use mathlib.Core.Bool.{Bool, true, false, _&&_}
-use mathlib.Core.List.{List, [], _∷_}
+use mathlib.Core.Bool.{Bool, true, false}
+use mathlib.Core.List.{List}
 use native.Mathlib.Nat.{mul-comm}
-use native.Mathlib.Omega.{arith}
-use lib.Dec.{eqb, leb}
 use lib.IntN.{ℤ}
 use lib.ListN.{length, drop}
 use lib.Seq.{sets}
 use borrow.Author.Tests.{eq-eqb, ne-eqb, le-leb, lt-leb}
-use Rattle.wire.specs.Choice.{pick}
 use Rattle.packets.specs.declared.Form.{Form}
 use Rattle.packets.specs.Forms.{listed, totalOf}
 use Rattle.packets.specs.Samples.{allSamples, samplesFrom}
-use Rattle.packets.proofs.Forms.{Listed, is-listed-form}
+use Rattle.packets.proofs.Forms.{is-listed-form}
 use Rattle.samples.specs.Packing.{mayPack, packedOf, filledOf, mayUnpack, unpackedOf}
 
 -- a listed form that is not of 24 bits is of 16

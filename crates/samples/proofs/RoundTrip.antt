@@ -1,20 +1,19 @@
 -- What was packed is unpacked: at every width of whole bytes, the samples that come back are those that went in, divided by
 -- 2 ^ (24 - bits) and rounded towards minus infinity; at 24 bits the samples themselves. Assumes nothing.
-use Prim.Native.Nat.{ℕ, zero, suc, _+_, _*_, _-_, _/_, _%_, _^_, _≤_, _<_}
+use Prim.Native.Nat.{ℕ, suc, _+_, _*_, _-_, _/_, _%_, _^_, _≤_, _<_}
 use mathlib.Core.Path.{_≡_, refl, sym, ap, _∙_}
-use mathlib.Core.Bool.{true, _&&_}
+use mathlib.Core.Bool.{true}
 use mathlib.Core.List.{List, [], _∷_, _++_, map, append-assoc}
 use native.Mathlib.Nat.{div-lt-iff-lt-mul, div-add-mod', mod-lt, mul-suc, mul-zero, suc-mul}
 use native.Mathlib.Numerals.{add-one}
 use native.Mathlib.Omega.{arith}
 use lib.IntN.{ℤ, pos, negsuc, _+ℤ_, _*ℤ_}
-use lib.ListN.{length, take, drop, length-append}
+use lib.ListN.{length, length-append}
 use lib.Pow.{pow-pos, pow-add}
 use lib.Seq.{take-at, drop-at}
 use lib.Signed.{mag, shrZ}
 use borrow.Author.Tests.{ltb-true, lt-ltb}
-use Rattle.wire.specs.Number.{number, bytes, field}
-use Rattle.wire.specs.Signed.{coded, signed}
+use Rattle.wire.specs.Signed.{coded}
 use Rattle.wire.proofs.Laws.{and-left, and-right}
 use Rattle.wire.proofs.Numbers.{length-bytes, number-bytes}
 use Rattle.wire.proofs.Signed.{coded-below, signed-coded}

@@ -1,5 +1,5 @@
 -- The least and the greatest of some numbers, by which all of them are seen to be samples.
-use mathlib.Core.Bool.{Bool, true, false, _&&_, not}
+use mathlib.Core.Bool.{Bool, _&&_, not}
 use lib.IntN.{ℤ, pos, negsuc}
 use lib.Signed.{ltZ}
 use Rattle.wire.specs.Choice.{pick}

@@ -1,5 +1,5 @@
 -- `packets::two_at` meets its contract: a field of two bytes is the first and 256 times the second.
-use mathlib.Core.Path.{sym, _∙_}
+use mathlib.Core.Path.{sym}
 use borrow.Author.Needs.{needs}
 use denote.Ref.{now}
 use Rattle.packets.proofs.Numbers.{field-two}

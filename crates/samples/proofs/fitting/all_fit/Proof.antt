@@ -49,7 +49,7 @@ loop-again c =
     let l = c .before .before .before .before in
     let x = c .before .before in (
       omega arith,
-      rw (toZ-ofZ (sfits-of (c .before .lesser .ok)), toZ-ofZ (sfits-of (c .greater .ok)))
+      rw (toZ-ofZ {z = c .before .lesser .result} (sfits-of (c .before .lesser .ok)), toZ-ofZ {z = c .greater .result} (sfits-of (c .greater .ok)))
           (look-turn (now (l .before .args .samples)) (l .loop .i) (toZ w32 (l .loop .least)) (toZ w32 (l .loop .greatest)) _ _ _ (x .before .loop-test .taken) (toZ-ofZ (sfits-of (x .x .given))) (c .before .lesser .ensures) (c .greater .ensures) (l .loop .inv .1)),
     )
 

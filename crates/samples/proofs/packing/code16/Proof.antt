@@ -1,7 +1,7 @@
 -- `samples::packing::code16` meets its contract: the shift rounds towards minus infinity, and lifting by a multiple of
 -- 2 ^ 16 leaves the low 16 bits as they are.
 use Prim.Native.Nat.{_<_}
-use mathlib.Core.Path.{_≡_, _∙_}
+use mathlib.Core.Path.{_≡_}
 use native.Mathlib.Omega.{arith}
 use lib.IntN.{pos, _+ℤ_}
 use lib.Signed.{mag, shrZ}

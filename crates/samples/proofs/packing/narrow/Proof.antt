@@ -1,7 +1,7 @@
 -- `samples::packing::narrow` meets its contract. The loop's invariant: the least and the greatest of those passed are as in
 -- `all_fit`, and what is still to be kept gives the whole.
-use Prim.Native.Nat.{_+_, _-_, _≤_}
-use mathlib.Core.Path.{_≡_, refl, sym, _∙_}
+use Prim.Native.Nat.{_-_, _≤_}
+use mathlib.Core.Path.{_≡_, refl, _∙_}
 use mathlib.Core.Bool.{_&&_}
 use mathlib.Core.List.{map}
 use native.Mathlib.Omega.{arith}
@@ -71,7 +71,7 @@ loop-again c =
     let l = x .before .before in
     let a = l .before .args in (
       omega arith,
-      rw (toZ-ofZ (sfits-of (g .before .lesser .ok)), toZ-ofZ (sfits-of (g .greater .ok)))
+      rw (toZ-ofZ {z = g .before .lesser .result} (sfits-of (g .before .lesser .ok)), toZ-ofZ {z = g .greater .result} (sfits-of (g .greater .ok)))
           (look-turn (now (a .samples)) (l .loop .i) (toZ w32 (l .loop .least)) (toZ w32 (l .loop .greatest)) _ _ _ (x .before .loop-test .taken) (toZ-ofZ (sfits-of (x .x .given))) (g .before .lesser .ensures) (g .greater .ensures) (l .loop .inv .1)),
       keep-turn lowOf (now (a .samples)) (l .loop .held) _ (l .loop .i) _ (x .before .loop-test .taken) (kept c) (l .loop .inv .2),
     )
