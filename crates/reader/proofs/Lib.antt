@@ -1,2 +1,3 @@
 pub mod Checks
 pub mod Reading
+pub mod Steps

@@ -67,14 +67,6 @@ heard-within r fine begun =
     let held : leb (r .position) last && listed (r .form) ≡ true = sym (heard-sound r begun) ∙ fine in
     leb-true (r .position) last (and-left (leb (r .position) last) (listed (r .form)) held)
 
--- a step is less than two turns and one
-pub step-small : (s t : ℕ) → t ≤ 65_535 → stepOf s t ≤ 131_070
-step-small s t h = ⊎-elim (λ (e : stepOf s t ≡ t - s). omega arith) (λ (e : stepOf s t ≡ t + 65_535 - s). omega arith) (either (ltb s t) refl)
-  where
-    either : (b : Bool) → ltb s t ≡ b → (stepOf s t ≡ t - s) ⊎ (stepOf s t ≡ t + 65_535 - s)
-    either true q = inl (rw q)
-    either false q = inr (rw q)
-
 module _ (r : Reader) (p : List ℕ) where
   refusal : (c : ℕ) → (c ≡ 1 → ⊥) → readCode r p ≡ c → unheard c r ≡ readingOf r p
   unfolding readingOf
@@ -116,15 +108,13 @@ module _ (r : Reader) (p : List ℕ) where
           unfolding readCode
           changed e = refusal 32 (omega arith) (rw (fine, a-packet p some, ne-eqb _ _ later, begun, e))
 
-          module _ (same : sameForm (wholeOf p) (r .form) ≡ true) (d : ℕ) (step : d ≡ stepOf (numberAt (r .position)) (numberIn p)) where
-            pub past : last < r .position + d → unheard 33 r ≡ readingOf r p
+          module _ (same : sameForm (wholeOf p) (r .form) ≡ true) (n : ℕ) (leads : n ≡ r .position + stepOf (numberAt (r .position)) (numberIn p)) where
+            pub past : last < n → unheard 33 r ≡ readingOf r p
             unfolding readCode
-            past l =
-                refusal 33 (omega arith)
-                (rw (fine, a-packet p some, ne-eqb _ _ later, begun, same, ← step, lt-ltb last (r .position + d) l))
+            past l = refusal 33 (omega arith) (rw (fine, a-packet p some, ne-eqb _ _ later, begun, same, ← leads, lt-ltb last n l))
 
-            pub next : r .position + d ≤ last → heardAt (r .position + d) (wholeOf p) ≡ readingOf r p
+            pub next : n ≤ last → heardAt n (wholeOf p) ≡ readingOf r p
             next l =
                 let nonzero : eqb (numberIn p) 0 ≡ false = ne-eqb _ _ later in
-                let there : positionAfter r (numberIn p) ≡ r .position + d = rw (nonzero, step) in
-                sym (taken fine (a-packet p some) (rw (nonzero, begun)) (rw (nonzero, same)) (rw there (le-ltb last (r .position + d) l)) ∙ rw there)
+                let there : positionAfter r (numberIn p) ≡ n = rw nonzero (sym leads) in
+                sym (taken fine (a-packet p some) (rw (nonzero, begun)) (rw (nonzero, same)) (rw there (le-ltb last n l)) ∙ rw there)

@@ -1,7 +1,8 @@
 // The harvester's packet reader: a packet's position, its sample bytes, its samples.
 use packets::Form;
 ghost use mathlib.Core.Path.{_≡_};
-ghost use Prim.Native.Nat.{_<_};
+ghost use Prim.Native.Nat.{_+_, _<_};
+ghost use Rattle.packets.specs.Numbers.{numberAt, stepOf};
 ghost use Rattle.reader.specs.Reading.{silent, sound, unheard, heardAt, readingOf, sampleBytesOf};
 
 // What a reader has heard of the capture so far: the position and form of the last packet; before the first packet
@@ -88,6 +89,18 @@ fn heard_at(position: u64, form: Form) -> Heard
     }
 }
 
+// The position that a step from the last packet's position leads to. Mostly it is the very next one; to ask for that first
+// lets the processor go on before it has worked out the last packet's number.
+fn position_after(position: u64, number: u16) -> u64
+    requires { ⌜ position < 4000000000 ⌝ }
+    ensures { λ r. ⌜ r ≡ position + stepOf (numberAt position) number ⌝ }
+{
+    if packets::number_at_position(position + 1) == number {
+        return position + 1;
+    }
+    position + packets::step(packets::number_at_position(position), number)
+}
+
 // Reads one packet: "Packet reading 21, 30, 31, 32, 33." Of the packet only its length and its first four bytes are looked at.
 pub fn read(r: Reader, packet: &[u8]) -> Heard
     ensures { λ h. ⌜ h ≡ readingOf r (now (packet .entry)) ⌝ }
@@ -110,7 +123,7 @@ pub fn read(r: Reader, packet: &[u8]) -> Heard
     if !packets::same_form(form, last_form) {
         return refused(32, r);
     }
-    let position = r.position + packets::step(packets::number_at_position(r.position), number);
+    let position = position_after(r.position, number);
     if LAST < position {
         return refused(33, r);
     }

@@ -9,7 +9,7 @@ use Rattle.packets.specs.declared.Form.{Form}
 use Rattle.packets.specs.Forms.{wholeOf, sameForm}
 use Rattle.packets.specs.Numbers.{numberIn, numberAt, stepOf}
 use Rattle.reader.specs.Reading.{sound, heardAt}
-use Rattle.reader.proofs.Reading.{pairs-few, heard-within, step-small, broken, no-slice, first, unbegun, changed, past, next}
+use Rattle.reader.proofs.Reading.{pairs-few, heard-within, broken, no-slice, first, unbegun, changed, past, next}
 use Rattle.reader.proofs.read.Statement.{statement}
 use Rattle.reader.proofs.read.Tie as tie
 
@@ -111,56 +111,49 @@ returns-5 c =
     c .refused4 .ensures
     ∙ changed _ _ (fine (p .before .before .before)) (some p) (later n) (begun h) (compared s ∙ not-true _ (c .before .if5 .taken))
 
-number-at-position-requires : tie.Need-number-at-position-requires
-number-at-position-requires c κs = search needs
-
-step-requires : tie.Need-step-requires
-step-requires c κs = search needs
-
 same : (c : tie.Else5) → sameForm (wholeOf (start5 c .args .packet .now)) (start5 c .args .r .form) ≡ true
 same c = compared (c .before) ∙ not-false _ (c .if5 .left)
 
-stepped : (c : tie.After-step) → c .step .result ≡ stepOf (numberAt (start5 (c .before .before) .args .r .position)) (numberIn (start5 (c .before .before) .args .packet .now))
-stepped c =
-    let number = c .before .before .before .before .before .before .before .before in
-    c .step .ensures
-    ∙ ap (λ (t : ℕ). stepOf (c .before .number-at-position .result) t) (number .number-in .ensures)
-    ∙ ap (λ (s : ℕ). stepOf s (numberIn (start5 (c .before .before) .args .packet .now))) (c .before .number-at-position .ensures)
-
-add-position : tie.Need-add-position
-add-position c =
-    let h = c .before .before .before .before .before .before in
+position-after-requires : tie.Need-position-after-requires
+position-after-requires c κs =
+    let h = c .before .before .before in
     let n = h .before .before in
-    let p = n .before .before in
-    omega (arith, heard-within (start4 h .args .r) (fine (p .before .before .before)) (begun h), c .before .step .ensures, step-small (c .before .before .number-at-position .result) (n .before .number-in .result) (omega arith))
+    omega (arith, heard-within (start4 h .args .r) (fine (n .before .before .before .before .before)) (begun h))
+
+leads : (c : tie.After-position-after) → c .position-after .result
+    ≡ start5 (c .before) .args .r .position + stepOf (numberAt (start5 (c .before) .args .r .position)) (numberIn (start5 (c .before) .args .packet .now))
+leads c =
+    let position = start5 (c .before) .args .r .position in
+    c .position-after .ensures
+    ∙ ap (λ (t : ℕ). position + stepOf (numberAt position) t) (c .before .before .before .before .before .before .before .number-in .ensures)
 
 refused-requires-5 : tie.Need-refused-requires-5
 refused-requires-5 c κs = search needs
 
 returns-6 : tie.Need-returns-6
 returns-6 c =
-    let t = c .before .before .before in
-    let e = t .before .before in
+    let t = c .before .before in
+    let e = t .before in
     let h = e .before .before .before in
     let n = h .before .before in
     let p = n .before .before in
     c .refused5 .ensures
-    ∙ past _ _ (fine (p .before .before .before)) (some p) (later n) (begun h) (same e) _ (stepped t) (c .before .if6 .taken)
+    ∙ past _ _ (fine (p .before .before .before)) (some p) (later n) (begun h) (same e) _ (leads t) (c .before .if6 .taken)
 
 heard-at-requires-2 : tie.Need-heard-at-requires-2
-heard-at-requires-2 c κs = (omega arith, few (c .before .before .before .before .before .before .before .before .before .before .before))
+heard-at-requires-2 c κs = (omega arith, few (c .before .before .before .before .before .before .before .before .before))
 
 returns-7 : tie.Need-returns-7
 returns-7 c =
-    let t = c .before .before .before in
-    let e = t .before .before in
+    let t = c .before .before in
+    let e = t .before in
     let h = e .before .before .before in
     let n = h .before .before in
     let p = n .before .before in
     let w = p .before .before in
     c .heard-at2 .ensures
-    ∙ ap (heardAt (start5 e .args .r .position + t .step .result)) (w .whole .ensures)
-    ∙ next _ _ (fine (w .before)) (some p) (later n) (begun h) (same e) _ (stepped t) (omega arith)
+    ∙ ap (heardAt (t .position-after .result)) (w .whole .ensures)
+    ∙ next _ _ (fine (w .before)) (some p) (later n) (begun h) (same e) _ (leads t) (omega arith)
 
 pub read-spec : {M : Type 1} → statement M
 read-spec =
@@ -180,9 +173,7 @@ read-spec =
     same-form-requires
     refused-requires-4
     returns-5
-    number-at-position-requires
-    step-requires
-    add-position
+    position-after-requires
     refused-requires-5
     returns-6
     heard-at-requires-2
