@@ -1,9 +1,9 @@
 -- Checks in order: where none of the list holds the answer is the other one.
 use Prim.Native.Nat.{ℕ}
 use mathlib.Core.Path.{_≡_, refl}
-use mathlib.Core.Bool.{Bool, true, false}
-use mathlib.Core.List.{List, [], _∷_, _++_}
-use Rattle.wire.specs.Choice.{Check, check, firstOf}
+use mathlib.Core.Bool.{false}
+use mathlib.Core.List.{List, [], _∷_}
+use Rattle.wire.specs.Choice.{Check, firstOf}
 
 -- no check of the list holds
 abbrev pub Absent : List Check → Type 0

@@ -1,9 +1,9 @@
 -- Reading by its checks: what each refusal and each acceptance says, in the order of checking, and what a packet's form bounds.
-use Prim.Native.Nat.{ℕ, _+_, _*_, _-_, _≤_, _<_}
-use mathlib.Core.Path.{_≡_, refl, sym, ap, _∙_}
+use Prim.Native.Nat.{ℕ, _+_, _-_, _≤_, _<_}
+use mathlib.Core.Path.{_≡_, sym, ap, _∙_}
 use mathlib.Core.Bool.{Bool, true, false, _&&_, not}
-use mathlib.Core.Logic.{_⊎_, inl, inr, ⊎-elim}
-use mathlib.Core.List.{List, [], _∷_}
+use mathlib.Core.Logic.{⊎-elim}
+use mathlib.Core.List.{List, []}
 use native.Mathlib.Omega.{arith}
 use borrow.Author.Tests.{leb-true, le-leb, lt-leb, eq-eqb, ne-eqb, lt-ltb, le-ltb}
 use lib.Dec.{eqb, leb, ltb}
@@ -13,9 +13,8 @@ use Rattle.wire.proofs.Laws.{pick-true, pick-false, and-left, and-not-left}
 use Rattle.packets.specs.declared.Form.{Form}
 use Rattle.packets.specs.Forms.{noForm, sameForm, listed, wholeOf, isPacket, totalOf}
 use Rattle.packets.specs.Numbers.{numberAt, stepOf, numberIn}
-use Rattle.packets.proofs.Forms.{Listed, is-listed-form, Whole, whole-is, packet-is}
+use Rattle.packets.proofs.Forms.{is-listed-form, Whole, whole-is, packet-is}
 use Rattle.reader.specs.declared.Reader.{Reader}
-use Rattle.reader.specs.declared.Heard.{Heard}
 use Rattle.reader.specs.Reading.{last, sound, positionAfter, readChecks, readCode, readingOf, heardAt, unheard, sampleBytesOf}
 use Rattle.reader.proofs.Checks.{clear}
 

@@ -76,6 +76,11 @@ unpackChecks packet room = check 30 (not (isPacket packet)) ∷ check 20 (ltb ro
 unfoldable pub unpackCode : List ℕ → ℕ → ℕ
 unpackCode packet room = firstOf (unpackChecks packet room) 1
 
+-- its answer: the code, and how many numbers it writes, which is none where it refuses
+unfoldable pub unpackingOf : List ℕ → ℕ → Unpacked
+unpackingOf packet room =
+    record { code = unpackCode packet room; count = pick (eqb (unpackCode packet room) 1) (countIn packet) 0 }
+
 -- the numbers that unpacking writes at the start of the lent slice
 unfoldable pub unpackedOf : List ℕ → ℕ → List ℤ
 unpackedOf packet room =

@@ -2,8 +2,10 @@
 use packets::Form;
 ghost use mathlib.Core.Path.{_≡_};
 ghost use Prim.Native.Nat.{_+_, _<_};
+ghost use lib.ListN.{length};
+ghost use lib.Seq.{sets};
 ghost use Rattle.packets.specs.Numbers.{numberAt, stepOf};
-ghost use Rattle.reader.specs.Reading.{silent, sound, unheard, heardAt, readingOf, sampleBytesOf};
+ghost use Rattle.reader.specs.Reading.{silent, sound, unheard, heardAt, readingOf, sampleBytesOf, unpackingOf, unpackedOf};
 
 // What a reader has heard of the capture so far: the position and form of the last packet; before the first packet
 // nothing, and then all is zero.
@@ -140,4 +142,19 @@ pub fn sample_bytes(packet: &[u8]) -> &[u8]
         return &packet[..0];
     }
     &packet[4..]
+}
+
+// "Unpacking takes a packet and writes its I and Q in turn as signed numbers of the width sent; it refuses with 30, then 20."
+pub fn unpack(packet: &[u8], out: &mut [i32]) -> Unpacked
+    ensures { λ r. ⌜ (r ≡ unpackingOf (now (packet .entry)) (length (now (out .entry)))) × (now (out .exit) ≡ sets (now (out .entry)) 0 (unpackedOf (now (packet .entry)) (length (now (out .entry))))) ⌝ }
+{
+    let form = packets::whole(packet);
+    if form.pairs == 0 {
+        return Unpacked { code: 30, count: 0 };
+    }
+    if !samples::unpack(form, packet, out) {
+        return Unpacked { code: 20, count: 0 };
+    }
+    let count = 2 * form.pairs as usize;
+    Unpacked { code: 1, count }
 }

@@ -1,5 +1,5 @@
 -- The tests are those of `sound`, for a reader that has heard a packet and for one that has not.
-use mathlib.Core.Path.{_≡_, sym, ap, _∙_}
+use mathlib.Core.Path.{ap, _∙_}
 use Rattle.packets.specs.Forms.{sameForm}
 use Rattle.reader.proofs.Reading.{sound-past, sound-within, sound-nowhere, sound-somewhere}
 use borrow.Author.Needs.{needs}
