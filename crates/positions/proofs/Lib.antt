@@ -4,3 +4,4 @@ pub mod Packets
 pub mod Boxes
 pub mod Readings
 pub mod Demand
+pub mod Exist

@@ -1,17 +1,17 @@
 -- One reading of a packet that the box cut: it is taken, at its position.
 use Prim.Native.Nat.{ℕ, _+_, _≤_, _<_}
 use mathlib.Core.Path.{_≡_, refl, sym, ap, _∙_}
-use mathlib.Core.Bool.{true, false, _&&_, not}
+use mathlib.Core.Bool.{true, false}
 use mathlib.Core.List.{List}
 use native.Mathlib.Omega.{arith}
 use borrow.Author.Tests.{eq-eqb, ne-eqb, le-leb, le-ltb}
-use lib.Dec.{eqb, ltb}
+use lib.Dec.{eqb}
 use Rattle.packets.specs.declared.Form.{Form}
-use Rattle.packets.specs.Forms.{listed, wholeOf, isPacket, sameForm}
+use Rattle.packets.specs.Forms.{listed, wholeOf, sameForm}
 use Rattle.packets.specs.Numbers.{numberAt, numberIn, stepOf, most}
 use Rattle.packets.proofs.Numbers.{number-zero}
 use Rattle.reader.specs.declared.Reader.{Reader}
-use Rattle.reader.specs.Reading.{last, sound, positionAfter, readChecks, readCode, readingOf, heardAt}
+use Rattle.reader.specs.Reading.{last, sound, positionAfter, readingOf, heardAt}
 use Rattle.reader.proofs.Reading.{taken}
 use Rattle.positions.proofs.Steps.{position-is-exact, repeated-is-a-turn}
 

@@ -3,6 +3,7 @@ use mathlib.Core.Path.{_≡_, sym, ap, _∙_}
 use Rattle.reader.proofs.Reading.{four-there, no-samples, samples-there}
 use Rattle.packets.specs.declared.Form.{Form}
 use Rattle.packets.specs.Forms.{wholeOf}
+use native.Mathlib.Omega.{arith}
 use borrow.Author.Needs.{needs}
 use Rattle.reader.proofs.sample_bytes.Statement.{statement}
 use Rattle.reader.proofs.sample_bytes.Tie as tie
@@ -20,7 +21,7 @@ some : (c : tie.Else1) → wholeOf (c .before .before .before .before .args .pac
 some c z = c .if1 .left (ap (λ (f : Form). f .pairs) (c .before .before .whole .ensures) ∙ z)
 
 sub-result : tie.Need-sub-result
-sub-result c = four-there (c .before .before .before .before .args .packet .now) (some c)
+sub-result c = omega (arith, four-there (c .before .before .before .before .args .packet .now) (some c))
 
 part-result-start : tie.Need-part-result-start
 part-result-start c = let h = four-there (c .before .before .before .before .args .packet .now) (some c) in search needs

@@ -1,0 +1,54 @@
+-- Demand 3 is not empty: there are captures of every length up to 4,000,000,000. A fresh box that is running cuts silence, packet
+-- after packet, until its count is the most.
+use Prim.Native.Nat.{ℕ, zero, suc, _+_, _≤_, _<_}
+use mathlib.Core.Path.{_≡_, refl, ap}
+use mathlib.Core.Bool.{true, not}
+use mathlib.Core.List.{List, [], _∷_}
+use native.Mathlib.Omega.{arith}
+use borrow.Author.Tests.{eq-eqb, le-leb, lt-leb}
+use lib.IntN.{ℤ, pos}
+use lib.ListN.{length, replicate}
+use Rattle.packets.specs.Numbers.{most}
+use Rattle.items.specs.Settings.{inRange, freshOf, withCount, withRunning}
+use Rattle.framing.specs.Framing.{couldBeLeft, between}
+use Rattle.station.specs.declared.Station.{Station}
+use Rattle.station.specs.Station.{valid}
+use Rattle.cutting.specs.Cutting.{Cutting, cutChecks, cutCode, cuttingOf, cutFrom}
+use Rattle.reader.proofs.Checks.{clear}
+use Rattle.positions.specs.Captures.{Cuts, ends, cuts, Capture}
+
+-- a running box of serial 00000000 that has cut k packets
+abbrev pub running : ℕ → Station
+running k = record { settings = withCount k (withRunning true (freshOf (replicate 8 0x30))); store = between }
+
+-- the samples of a large packet of 24 bits
+abbrev silence : List ℤ
+silence = replicate 480 (pos 0)
+
+running-valid : (k : ℕ) → k ≤ most → valid (running k) ≡ true
+unfolding valid inRange couldBeLeft
+running-valid k h = rw (le-leb k most h)
+
+running-cuts : (k : ℕ) → k < most → cuttingOf (running k) silence 1_444 ≡ cutFrom (running k) silence
+unfolding cutCode cuttingOf
+running-cuts k h =
+    let one : cutCode (running k) silence 1_444 ≡ 1
+    = clear (cutChecks (running k) silence 1_444) 1 (ap not (running-valid k (omega arith)), (refl, (lt-leb most k h, (refl, (refl, (refl, tt)))))) in
+    rw (eq-eqb (cutCode (running k) silence 1_444) 1 one)
+
+-- from k packets on, n more
+goes-on : (n k : ℕ) → k + n ≤ most → (packets : List (List ℕ)) × Cuts (running k) packets × (length packets ≡ n)
+goes-on zero k h = ([], ends, refl)
+goes-on (suc n) k h =
+    let is = running-cuts k (omega arith) in
+    let rest = goes-on n (k + 1) (omega arith) in
+    let later : Cuts (cuttingOf (running k) silence 1_444 .cut .station) (rest .0) = rw is (rest .1) in (
+      cuttingOf (running k) silence 1_444 .bytes ∷ rest .0,
+      cuts silence 1_444 (ap (λ (x : Cutting). x .cut .code) is) later,
+      ap suc (rest .2),
+    )
+
+pub captures-exist : (n : ℕ) → n ≤ most → (packets : List (List ℕ)) × Capture (running 0) packets × (length packets ≡ n)
+captures-exist n h =
+    let all = goes-on n 0 (omega arith) in
+    (all .0, record { running = refl; fresh = refl; calls = all .1 }, all .2)
