@@ -1,12 +1,12 @@
 -- Fields of a few bytes, as sums and as parts of each other. Assumes nothing.
 use Prim.Native.Nat.{ℕ, suc, _+_, _*_, _/_, _%_, _≤_, _<_}
 use mathlib.Core.Path.{_≡_, ap}
-use mathlib.Core.List.{List}
+use mathlib.Core.List.{List, _++_}
 use native.Mathlib.Omega.{arith}
 use native.Mathlib.Numerals.{add-one}
 use lib.ListN.{length, getD, take, drop}
 use lib.Seq.{drop-drop}
-use Rattle.wire.specs.Number.{number, field}
+use Rattle.wire.specs.Number.{number, bytes, field}
 use Rattle.wire.proofs.Numbers.{field-step}
 
 -- the field after a place: its first byte, and 256 times the field after that
@@ -38,3 +38,12 @@ field-halves s at small h =
     let three : field (at + 1) 3 s ≡ getD s (at + 1) 0 + 256 * field (at + 2) 2 s = field-on s at 1 2 (omega arith) in
     let one : field (at + 1) 1 s ≡ getD s (at + 1) 0 + 256 * field (at + 2) 0 s = field-on s at 1 0 (omega arith) in
     (omega (arith, small at, small (at + 1)), omega (arith, small at, small (at + 1)))
+
+-- the four bytes of a word are the two of its lower and the two of its upper half
+pub bytes-pair : (a b : ℕ) → a < 65_536 → bytes 4 (a + 65_536 * b) ≡ bytes 2 a ++ bytes 2 b
+bytes-pair a b h =
+    let low : (a + 65_536 * b) % 256 ≡ a % 256 = omega arith in
+    let half : (a + 65_536 * b) / 256 ≡ a / 256 + 256 * b = omega arith in
+    let next : (a / 256 + 256 * b) % 256 ≡ a / 256 % 256 = omega arith in
+    let high : (a / 256 + 256 * b) / 256 ≡ b = omega arith in
+    rw (low, half, next, high)

@@ -2,7 +2,7 @@
 use Prim.Native.Nat.{ℕ, zero, suc, _+_, _*_, _/_, _≤_, _<_}
 use mathlib.Core.Path.{_≡_, refl, sym, ap, _∙_}
 use mathlib.Core.Bool.{true}
-use mathlib.Core.List.{List, [], _∷_, map}
+use mathlib.Core.List.{List, [], _∷_, _++_, map}
 use native.Mathlib.Nat.{mul-suc, mul-zero}
 use native.Mathlib.Numerals.{add-one}
 use native.Mathlib.Omega.{arith}
@@ -40,6 +40,20 @@ pack-turn bits l whole zs i v h is done =
     let rest : drop i zs ≡ z ∷ drop (i + 1) zs = rw add-one (drop-cons zs i (pos 0) h) in
     let next : 4 + bits / 8 * (i + 1) ≡ 4 + bits / 8 * i + length (bytes (bits / 8) v) = rw (length-bytes (bits / 8) v, add-one i, mul-suc (bits / 8) i) (omega arith) in
     rw (next, sets-append l (4 + bits / 8 * i) (bytes (bits / 8) v) (samplesBytes bits (drop (i + 1) zs)), is) (rw rest at done)
+
+-- two turns at 16 bits, for I and Q of a pair, whose word is r
+pub pack-pair : (l whole : List ℕ) (zs : List ℤ) (i v w r : ℕ) → 2 * i + 1 < length zs → v ≡ coded 16 (narrowed 16 (getD zs (2 * i) (pos 0))) → w ≡ coded 16 (narrowed 16 (getD zs (2 * i + 1) (pos 0)))
+    → bytes 4 r ≡ bytes 2 v ++ bytes 2 w
+    → sets l (4 + 2 * (2 * i)) (samplesBytes 16 (drop (2 * i) zs)) ≡ whole
+    → sets (sets l (4 + 4 * i) (bytes 4 r)) (4 + 2 * (2 * (i + 1))) (samplesBytes 16 (drop (2 * (i + 1)) zs)) ≡ whole
+pack-pair l whole zs i v w r h first second pair done =
+    let next : 2 * (i + 1) ≡ 2 * i + 1 + 1 = omega arith in
+    let here : 4 + 4 * i ≡ 4 + 2 * (2 * i) = omega arith in
+    let mid : 4 + 2 * (2 * i) + 2 ≡ 4 + 2 * (2 * i + 1) = omega arith in
+    ap (λ (bs : List ℕ). sets (sets l (4 + 4 * i) bs) (4 + 2 * (2 * (i + 1))) (samplesBytes 16 (drop (2 * (i + 1)) zs))) pair
+    ∙ rw (next, here, ← sets-append l (4 + 2 * (2 * i)) (bytes 2 v) (bytes 2 w), mid)
+    (pack-turn 16 (sets l (4 + 2 * (2 * i)) (bytes 2 v)) whole zs (2 * i + 1) w h second
+    (pack-turn 16 l whole zs (2 * i) v (omega arith) first done))
 
 -- all is stored
 pub pack-end : (bits : ℕ) (l whole : List ℕ) (zs : List ℤ) (i : ℕ) → length zs ≤ i

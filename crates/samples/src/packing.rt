@@ -67,9 +67,9 @@ fn narrow(samples: &[i32], held: &mut [u16; 512]) -> bool
     inside(least, greatest)
 }
 
-// Writes all samples in two bytes each, unless one is outside 24 bits.
-fn pack16(samples: &[i32], packet: &mut [u8]) -> bool
-    requires { ⌜ (length (now samples) ≤ 512) × (4 + 2 * length (now samples) ≤ length (now packet)) ⌝ }
+// Writes all samples in two bytes each, I and Q of a pair at once, unless one is outside 24 bits.
+fn pack16(samples: &[i32], packet: &mut [u8], pairs: usize) -> bool
+    requires { ⌜ (pairs ≤ 256) × (length (now samples) ≡ 2 * pairs) × (4 + 4 * pairs ≤ length (now packet)) ⌝ }
     ensures { λ r. ⌜ (r ≡ allSamples (now (samples .entry))) × (now (packet .exit) ≡ sets (now (packet .entry)) 4 (filledOf 16 (now (samples .entry)))) ⌝ }
 {
     let mut held = [0u16; 512];
@@ -77,8 +77,8 @@ fn pack16(samples: &[i32], packet: &mut [u8]) -> bool
         return false;
     }
     let mut i = 0;
-    while i < samples.len() {
-        bytes::put2(packet, 4 + 2 * i, held[i]);
+    while i < pairs {
+        bytes::put4(packet, 4 + 4 * i, bytes::pair(held[2 * i], held[2 * i + 1]));
         i += 1;
     }
     true
@@ -101,5 +101,5 @@ pub fn pack(f: Form, samples: &[i32], packet: &mut [u8]) -> bool
     if f.bits == 24 {
         return pack24(samples, packet);
     }
-    pack16(samples, packet)
+    pack16(samples, packet, f.pairs as usize)
 }

@@ -1,5 +1,5 @@
 -- `samples::packing::pack` meets its contract: each test is one of `mayPack`, and the form's width picks the loop.
-use Prim.Native.Nat.{ℕ, _/_, _≤_}
+use Prim.Native.Nat.{ℕ, _+_, _*_, _/_, _≤_}
 use mathlib.Core.Path.{_≡_, sym, ap, _∙_}
 use mathlib.Core.Bool.{true}
 use native.Mathlib.Omega.{arith}
@@ -76,10 +76,11 @@ pack16-requires c κs =
     let r = c .before .before .before in
     let u = r .before .before in
     let e = u .before .before in
-    let f = e .before .before .before .args .f in (
-      omega (arith, u .if2 .left, is-listed-form f (form e) .few),
-      room-for f 2 _ _ (ap (λ (b : ℕ). b / 8) (other-width f (form e) (c .before .if4 .left))) (u .if2 .left) (room r),
-    )
+    let f = e .before .before .before .args .f in
+    let n = length (now (e .before .before .before .args .samples)) in
+    let fit : 4 + 2 * n ≤ length (now (e .before .before .before .args .packet))
+    = room-for f 2 n _ (ap (λ (b : ℕ). b / 8) (other-width f (form e) (c .before .if4 .left))) (u .if2 .left) (room r) in
+    (is-listed-form f (form e) .few, u .if2 .left, omega arith)
 
 same-length-2 : tie.Need-same-length-2
 same-length-2 c = search needs

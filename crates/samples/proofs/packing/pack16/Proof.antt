@@ -1,26 +1,25 @@
 -- `samples::packing::pack16` meets its contract. The loop's invariant: what is still to be stored gives the whole.
-use Prim.Native.Nat.{_+_, _*_, _-_, _≤_}
-use mathlib.Core.Path.{_≡_, refl, sym, ap, _∙_}
+use Prim.Native.Nat.{_+_, _*_, _-_, _≤_, _<_}
+use mathlib.Core.Path.{_≡_, refl, sym, _∙_}
 use mathlib.Core.Bool.{true, false}
 use native.Mathlib.Omega.{arith}
 use borrow.Author.Tests.{not-true, not-false}
 use denote.Ref.{now}
 use lib.ListN.{length, drop}
-use lib.Seq.{sets, length-sets}
-use Rattle.wire.specs.Number.{bytes}
+use lib.Seq.{sets}
 use Rattle.packets.specs.Samples.{allSamples, samplesBytes}
-use Rattle.samples.proofs.Written.{pack-turn, pack-end, kept-code}
+use Rattle.samples.proofs.Written.{pack-pair, pack-end, kept-code}
 use Rattle.samples.proofs.packing.pack16.Statement.{statement}
 use Rattle.samples.proofs.packing.pack16.Tie as tie
 
 abbrev Inv-loop : tie.InvT-loop
-Inv-loop samples packet₀ held i₀ packet i =
-    (i ≤ length samples)
+Inv-loop samples packet₀ pairs held i₀ packet i =
+    (i ≤ pairs)
     × (length packet ≡ length packet₀)
-    × (sets packet (4 + 2 * i) (samplesBytes 16 (drop i samples)) ≡ sets packet₀ 4 (samplesBytes 16 samples))
+    × (sets packet (4 + 2 * (2 * i)) (samplesBytes 16 (drop (2 * i) samples)) ≡ sets packet₀ 4 (samplesBytes 16 samples))
 
 abbrev μ-loop : tie.MeasureT-loop
-μ-loop samples packet₀ held i₀ packet i = length samples - i
+μ-loop samples packet₀ pairs held i₀ packet i = pairs - i
 
 narrow-requires : tie.Need-narrow-requires Inv-loop μ-loop
 narrow-requires c κs = omega arith
@@ -38,20 +37,38 @@ loop-holds c = (omega arith, refl, refl)
 all : (c : tie.Else1 Inv-loop μ-loop) → allSamples (now (c .before .before .before .before .args .samples)) ≡ true
 all c = sym (c .before .narrow .ensures .0) ∙ not-false _ (c .if1 .left)
 
-mul-put2 : tie.Need-mul-put2 Inv-loop μ-loop
-mul-put2 c = omega arith
+mul-put4 : tie.Need-mul-put4 Inv-loop μ-loop
+mul-put4 c = omega arith
 
-add-put2 : tie.Need-add-put2 Inv-loop μ-loop
-add-put2 c = omega arith
+add-put4 : tie.Need-add-put4 Inv-loop μ-loop
+add-put4 c = omega arith
 
-mul-put2-2 : tie.Need-mul-put2-2 Inv-loop μ-loop
-mul-put2-2 c = omega arith
+mul-pair : tie.Need-mul-pair Inv-loop μ-loop
+mul-pair c = omega arith
 
-array-read-put2 : tie.Need-array-read-put2 Inv-loop μ-loop
-array-read-put2 c = omega arith
+mul-pair-2 : tie.Need-mul-pair-2 Inv-loop μ-loop
+mul-pair-2 c = omega arith
 
-put2-requires : tie.Need-put2-requires Inv-loop μ-loop
-put2-requires c κs = omega arith
+array-read-pair : tie.Need-array-read-pair Inv-loop μ-loop
+array-read-pair c = omega arith
+
+mul-pair-3 : tie.Need-mul-pair-3 Inv-loop μ-loop
+mul-pair-3 c = omega arith
+
+add-pair : tie.Need-add-pair Inv-loop μ-loop
+add-pair c = omega arith
+
+mul-pair-4 : tie.Need-mul-pair-4 Inv-loop μ-loop
+mul-pair-4 c = omega arith
+
+array-read-pair-2 : tie.Need-array-read-pair-2 Inv-loop μ-loop
+array-read-pair-2 c = omega arith
+
+pair-requires : tie.Need-pair-requires Inv-loop μ-loop
+pair-requires c κs = tt
+
+put4-requires : tie.Need-put4-requires Inv-loop μ-loop
+put4-requires c κs = omega arith
 
 add-i : tie.Need-add-i Inv-loop μ-loop
 add-i c = omega arith
@@ -62,13 +79,22 @@ loop-less c = omega arith
 loop-again : tie.Need-loop-again Inv-loop μ-loop
 loop-again c =
     let p = c .before .before in
-    let t = p .before .before in
+    let t = p .before .before .before in
     let l = t .before in
-    let a = l .before .before .before .before .before .args in (
+    let s = l .before .before .before .before .before in
+    let zs = now (s .args .samples) in
+    let n = l .before .before .narrow .ensures .1 in
+    let long : length zs ≤ 512 = omega arith in
+    let i : 2 * l .loop .i < length zs = omega arith in
+    let q : 2 * l .loop .i + 1 < length zs = omega arith in (
       omega arith,
-      ap length (p .put2 .ensures) ∙ length-sets (l .loop .packet) (4 + 2 * l .loop .i) (bytes 2 _) ∙ l .loop .inv .1,
-      rw (p .put2 .ensures)
-          (pack-turn 16 (l .loop .packet) _ (now (a .samples)) (l .loop .i) _ (t .loop-test .taken) (kept-code _ _ (now (a .samples)) (l .loop .i) (l .before .before .narrow .ensures .1) (t .loop-test .taken) (l .before .before .before .before .before .pre .0) (all (l .before))) (l .loop .inv .2)),
+      p .put4 .kept .0 ∙ l .loop .inv .1,
+      rw (p .put4 .ensures)
+          (pack-pair (l .loop .packet) _ zs (l .loop .i) _ _ _ q
+          (kept-code _ _ zs (2 * l .loop .i) n i long (all (l .before)))
+          (kept-code _ _ zs (2 * l .loop .i + 1) n q long (all (l .before)))
+          (p .before .pair .ensures)
+          (l .loop .inv .2)),
     )
 
 same-length : tie.Need-same-length Inv-loop μ-loop
@@ -79,7 +105,7 @@ returns-2 c =
     let l = c .before in
     let a = l .before .before .before .before .before .args in (
       sym (all (l .before)),
-      rw (all (l .before)) (pack-end 16 (l .loop .packet) _ (now (a .samples)) (l .loop .i) (c .loop-test .left) (l .loop .inv .2)),
+      rw (all (l .before)) (pack-end 16 (l .loop .packet) _ (now (a .samples)) (2 * l .loop .i) (omega arith) (l .loop .inv .2)),
     )
 
 pub pack16-spec : {M : Type 1} → statement M
@@ -91,11 +117,17 @@ pack16-spec =
     narrow-requires
     returns
     loop-holds
-    mul-put2
-    add-put2
-    mul-put2-2
-    array-read-put2
-    put2-requires
+    mul-put4
+    add-put4
+    mul-pair
+    mul-pair-2
+    array-read-pair
+    mul-pair-3
+    add-pair
+    mul-pair-4
+    array-read-pair-2
+    pair-requires
+    put4-requires
     add-i
     loop-less
     loop-again

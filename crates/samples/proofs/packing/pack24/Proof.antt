@@ -1,6 +1,6 @@
 -- `samples::packing::pack24` meets its contract. The loop's invariant: what is still to be stored gives the whole.
 use Prim.Native.Nat.{_+_, _*_, _-_, _≤_}
-use mathlib.Core.Path.{_≡_, refl, sym, ap, _∙_}
+use mathlib.Core.Path.{_≡_, refl, sym, _∙_}
 use mathlib.Core.Bool.{true, false}
 use native.Mathlib.Omega.{arith}
 use borrow.Author.Needs.{needs, sfits-of}
@@ -8,9 +8,8 @@ use borrow.Author.Tests.{not-true, not-false}
 use denote.Ref.{now}
 use lib.IntN.{pos}
 use lib.ListN.{length, getD, drop}
-use lib.Seq.{sets, length-sets}
+use lib.Seq.{sets}
 use mir.Facts.{toZ-ofZ}
-use Rattle.wire.specs.Number.{bytes}
 use Rattle.wire.specs.Signed.{coded}
 use Rattle.packets.specs.Samples.{allSamples, narrowed, samplesBytes}
 use Rattle.samples.proofs.Written.{sample-at, pack-turn, pack-end}
@@ -81,7 +80,7 @@ loop-again c =
     let l = g .before .before .before in
     let a = l .before .before .before .before .args in (
       omega arith,
-      ap length (p .put3 .ensures) ∙ length-sets (l .loop .packet) (4 + 3 * l .loop .i) (bytes 3 (p .before .code24 .result)) ∙ l .loop .inv .1,
+      p .put3 .kept .0 ∙ l .loop .inv .1,
       rw (p .put3 .ensures)
           (pack-turn 24 (l .loop .packet) _ (now (a .samples)) (l .loop .i) _ (g .before .before .loop-test .taken) (code (p .before)) (l .loop .inv .2)),
     )

@@ -1,0 +1,70 @@
+-- `samples::bytes::put4` meets its contract: the four stores are those of `sets`.
+use Prim.Native.Nat.{_/_}
+use mathlib.Core.Path.{_≡_}
+use native.Mathlib.Omega.{arith}
+use native.Mathlib.Numerals.{add-one, add-two, add-three}
+use lib.ListN.{length-set}
+use borrow.Author.Needs.{needs}
+use Rattle.samples.proofs.bytes.put4.Statement.{statement}
+use Rattle.samples.proofs.bytes.put4.Tie as tie
+
+cast-dst : tie.Need-cast-dst
+cast-dst c = search needs
+
+slice-write-dst : tie.Need-slice-write-dst
+slice-write-dst c = search needs
+
+cast-dst-2 : tie.Need-cast-dst-2
+cast-dst-2 c = search needs
+
+add-dst : tie.Need-add-dst
+add-dst c = search needs
+
+slice-write-dst-2 : tie.Need-slice-write-dst-2
+slice-write-dst-2 c = simp length-set (omega arith)
+
+cast-dst-3 : tie.Need-cast-dst-3
+cast-dst-3 c = search needs
+
+add-dst-2 : tie.Need-add-dst-2
+add-dst-2 c = search needs
+
+slice-write-dst-3 : tie.Need-slice-write-dst-3
+slice-write-dst-3 c = simp length-set (omega arith)
+
+cast-dst-4 : tie.Need-cast-dst-4
+cast-dst-4 c = search needs
+
+add-dst-3 : tie.Need-add-dst-3
+add-dst-3 c = search needs
+
+slice-write-dst-4 : tie.Need-slice-write-dst-4
+slice-write-dst-4 c = simp length-set (omega arith)
+
+same-length : tie.Need-same-length
+same-length c = search needs
+
+returns : tie.Need-returns
+returns c =
+    let v = c .args .v in
+    let third : v / 65536 ≡ v / 256 / 256 = omega arith in
+    let fourth : v / 16777216 ≡ v / 256 / 256 / 256 = omega arith in
+    rw (third, fourth, add-one (c .args .at), add-two (c .args .at), add-three (c .args .at))
+
+pub put4-spec : {M : Type 1} → statement M
+put4-spec =
+    tie.close
+    (tie.spec
+    cast-dst
+    slice-write-dst
+    cast-dst-2
+    add-dst
+    slice-write-dst-2
+    cast-dst-3
+    add-dst-2
+    slice-write-dst-3
+    cast-dst-4
+    add-dst-3
+    slice-write-dst-4
+    same-length
+    returns)
