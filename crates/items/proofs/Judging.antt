@@ -6,21 +6,36 @@ use mathlib.Core.List.{List, [], _∷_, _++_}
 use native.Mathlib.Omega.{arith}
 use lib.Dec.{eqb}
 use lib.ListN.{getD}
-use borrow.Author.Tests.{ne-eqb, eq-eqb}
+use borrow.Author.Tests.{ne-eqb, not-false}
 use Rattle.wire.specs.Choice.{pick, Check, check, firstOf}
 use Rattle.wire.specs.Header.{typeSet, typeRequest}
 use Rattle.items.specs.declared.Settings.{Settings}
 use Rattle.items.specs.declared.Judged.{Judged}
-use Rattle.items.specs.Items.{Channels, noChannel, anyChannel, zeroAndAll, Item, versions, frequency, gain, name, serial, interface, status, state, clock, rate, packetSize, rowIn, rowOf}
+use Rattle.items.specs.Items.{Channels, noChannel, anyChannel, zeroAndAll, Item, versions, frequency, gain, name, serial, interface, status, state, clock, rate, packetSize, listed, rowIn, rowOf}
 use Rattle.items.specs.Header.{headerChecks}
 use Rattle.items.specs.Table.{tableChecks}
 use Rattle.items.specs.Answer.{Message, channelAllowed, itemIn, row, parameters, itemChecks, itemCode, askedBy, setBy, checks, codeOf, settingsAfter, judgedOf}
-use Rattle.items.proofs.Rows.{row-has}
+use Rattle.items.proofs.Rows.{row-has, row-code}
 
 -- no check of the list has this code
-abbrev pub Others : ℕ → List Check → Type 0
-Others n [] = Unit {0}
-Others n (c ∷ cs) = (c .code ≡ n → ⊥) × Others n cs
+abbrev pub otherThan : ℕ → List Check → Type 0
+otherThan n [] = Unit {0}
+otherThan n (c ∷ cs) = (c .code ≡ n → ⊥) × otherThan n cs
+
+-- no check of the list holds
+abbrev pub allFail : List Check → Type 0
+allFail [] = Unit {0}
+allFail (c ∷ cs) = (c .holds ≡ false) × allFail cs
+
+-- where none gives its code, none holds
+pub accepted : (cs : List Check) (n : ℕ) → otherThan n cs → firstOf cs n ≡ n → allFail cs
+accepted [] n o h = tt
+accepted (c ∷ cs) n o h = go (λ e. accepted cs n (o .1) e) (c .holds) refl h
+  where
+    go : (firstOf cs n ≡ n → allFail cs) → (b : Bool) → c .holds ≡ b → pick b (c .code) (firstOf cs n) ≡ n
+        → (c .holds ≡ false) × allFail cs
+    go rest true q e = absurd (o .0 e)
+    go rest false q e = (q, rest e)
 
 -- a check that holds decides, whatever follows
 pub first-stops : (cs ds : List Check) (n : ℕ) → (firstOf cs n ≡ n → ⊥) → firstOf (cs ++ ds) n ≡ firstOf cs n
@@ -33,7 +48,7 @@ first-stops (c ∷ cs) ds n h = go (c .holds) h (first-stops cs ds n)
     go false h more = more h
 
 -- where none holds, what follows decides
-pub first-goes-on : (cs ds : List Check) (n : ℕ) → Others n cs → firstOf cs n ≡ n → firstOf (cs ++ ds) n ≡ firstOf ds n
+pub first-goes-on : (cs ds : List Check) (n : ℕ) → otherThan n cs → firstOf cs n ≡ n → firstOf (cs ++ ds) n ≡ firstOf ds n
 first-goes-on [] ds n o h = refl
 first-goes-on (c ∷ cs) ds n o h = go (c .holds) h (first-goes-on cs ds n (o .1))
   where
@@ -51,6 +66,37 @@ channel-asked zeroAndAll kind byte h = rw (ne-eqb kind typeSet h)
 -- the checks of a request or a range request
 asked-code : (i : Item) (kind : ℕ) (s : Settings) (p : List ℕ) → (kind ≡ typeSet → ⊥) → itemCode i kind s p ≡ askedBy i p
 asked-code i kind s p h = rw (ne-eqb kind typeSet h, channel-asked (i .channels) kind (getD p 0 0) h)
+
+-- none of a message's checks has the code 1
+pub refusals : (s : Settings) (m : Message) → otherThan 1 (checks s m)
+refusals s m = (
+  (λ e. omega arith),
+  (
+    (λ e. omega arith),
+    (
+      (λ e. omega arith),
+      (
+        (λ e. omega arith),
+        (
+          (λ e. omega arith),
+          (
+            (λ e. omega arith),
+            ((λ e. omega arith), ((λ e. omega arith), ((λ e. omega arith), tt))),
+          ),
+        ),
+      ),
+    ),
+  ),
+)
+
+-- an accepted message passed every check
+pub passed : (s : Settings) (m : Message) → codeOf s m ≡ 1 → allFail (checks s m)
+unfolding codeOf
+passed s m h = accepted (checks s m) 1 (refusals s m) h
+
+-- so its item is listed, and its row has its code
+pub accepted-row : (s : Settings) (m : Message) → codeOf s m ≡ 1 → row m .code ≡ itemIn m
+accepted-row s m h = row-code (itemIn m) (not-false (listed (itemIn m)) (passed s m h .1 .1 .1 .0))
 
 module _ (s : Settings) (m : Message) where
   abbrev Header : List Check

@@ -7,7 +7,7 @@ use lib.Dec.{eqb, leb}
 use lib.ListN.{getD}
 use Rattle.wire.specs.Choice.{pick}
 use Rattle.wire.specs.Number.{bytes, field}
-use Rattle.rates.specs.Rate.{mayAsk, nearestOf, rateOf}
+use Rattle.rates.specs.Rate.{mayAsk, nearestOf, isD, rateOf}
 use Rattle.tuning.specs.Bands.{inBands}
 use Rattle.tuning.specs.Word.{isClock}
 use Rattle.items.specs.declared.Settings.{Settings}
@@ -242,6 +242,10 @@ clock =
       value = λ s p. bytes 4 (s .clock);
     }
 
+-- the achieved rate of a D; a divisor that is none, as only a broken box has it, has no rate
+abbrev pub achievedRate : ℕ → ℕ
+achievedRate d = pick (isD d) (rateOf d) 0
+
 -- 00B8 rate: any channel byte, 32-bit Hz; "Items 00B8 and 00C4 cannot be set while running (17)."
 abbrev pub rate : Item
 rate =
@@ -256,7 +260,7 @@ rate =
       askable = always;
       locked = λ s p. true;
       stored = λ s p. withDivisor (nearestOf (field 1 4 p)) s;
-      value = λ s p. bytes 4 (rateOf (s .divisor));
+      value = λ s p. bytes 4 (achievedRate (s .divisor));
     }
 
 -- 00C4 packet size: 0 large, 1 small

@@ -1,0 +1,141 @@
+-- How what is judged and what is written make the answer to a message.
+use Prim.Native.Nat.{ℕ, suc, _+_, _<_}
+use mathlib.Core.Path.{_≡_, refl, sym, ap, subst, _∙_}
+use mathlib.Core.Bool.{Bool, true, false}
+use mathlib.Core.List.{List, [], _∷_, _++_}
+use native.Mathlib.Omega.{arith}
+use lib.Dec.{eqb, ltb, lit<}
+use lib.ListN.{length, getD, take, drop, length-drop}
+use lib.Seq.{sets, getD-drop}
+use borrow.Author.Tests.{le-ltb, ne-eqb}
+use Rattle.wire.specs.Choice.{pick}
+use Rattle.wire.specs.Number.{bytes}
+use Rattle.wire.specs.Header.{nak, typeRange, typeReply, typeRangeReply}
+use Rattle.tuning.specs.Bands.{bands, rangeBytes}
+use Rattle.items.specs.declared.Settings.{Settings}
+use Rattle.items.specs.Items.{Item, items, rowOf}
+use Rattle.items.specs.Answer.{Message, itemIn, row, parameters, codeOf, settingsAfter, replyOf, replyTo, replyBody, rangeBody, framed}
+use Rattle.items.proofs.Rows.{allHave, found}
+use Rattle.replies.specs.declared.Answered.{Answered}
+use Rattle.replies.specs.Replies.{countIn, bytesIn, due, answerOf, refused, replied}
+
+-- ---- a reply has of the parameters only the first byte
+
+take-one : (p : List ℕ) → 0 < length p → take 1 p ≡ getD p 0 0 ∷ []
+take-one [] h = absurd (omega arith)
+take-one (b ∷ p) h = refl
+
+abbrev FirstOnly : Item → Type 0
+FirstOnly i = (s : Settings) (p : List ℕ) → 0 < length p → replyBody i s p ≡ replyBody i s (getD p 0 0 ∷ [])
+
+first-only : (code : ℕ) → FirstOnly (rowOf code)
+first-only code =
+    found FirstOnly (λ s p h. refl) (
+      (λ s p h. refl),
+      (
+        (λ s p h. refl),
+        (
+          (λ s p h. refl),
+          (
+            (λ s p h. rw (take-one p h)),
+            (
+              (λ s p h. refl),
+              (
+                (λ s p h. refl),
+                (
+                  (λ s p h. rw (take-one p h)),
+                  (
+                    (λ s p h. rw (take-one p h)),
+                    (
+                      (λ s p h. rw (take-one p h)),
+                      (
+                        (λ s p h. rw (take-one p h)),
+                        (
+                          (λ s p h. refl),
+                          tt,
+                        ),
+                      ),
+                    ),
+                  ),
+                ),
+              ),
+            ),
+          ),
+        ),
+      ),
+    )
+    code
+
+reply-first : (code kind : ℕ) (s : Settings) (p : List ℕ) → 0 < length p → replyTo (rowOf code) kind s p ≡ replyTo (rowOf code) kind s (getD p 0 0 ∷ [])
+reply-first code kind s p h = go (eqb kind typeRange)
+  where
+    go : (b : Bool)
+        → pick b (framed typeRangeReply (rangeBody (rowOf code) p)) (framed typeReply (replyBody (rowOf code) s p))
+        ≡ pick b (framed typeRangeReply (rangeBody (rowOf code) (getD p 0 0 ∷ []))) (framed typeReply (replyBody (rowOf code) s (getD p 0 0 ∷ [])))
+    go true = rw (take-one p h)
+    go false = ap (framed typeReply) (first-only code s p h)
+
+-- ---- what is due is the reply
+
+module _ (s : Settings) (m : Message) where
+  pub unanswered-reply : codeOf s m ≡ 2 → replyOf s m ≡ []
+  unfolding replyOf
+  unanswered-reply e = rw e refl
+
+  pub due-reply : 4 < length (m .held) → (codeOf s m ≡ 2 → ⊥)
+      → due (codeOf s m) (m .type) (itemIn m) (getD (m .held) 4 0) (settingsAfter s m) ≡ replyOf s m
+  unfolding replyOf
+  due-reply h answered =
+      let p = parameters m in
+      let some : 0 < length p = rw (length-drop 4 (m .held)) (omega arith) in
+      let first : getD p 0 0 ≡ getD (m .held) 4 0 = getD-drop 4 (m .held) 0 0 in
+      rw (ne-eqb (codeOf s m) 2 answered)
+      (ap (λ (l : List ℕ). pick (eqb (codeOf s m) 1) l nak)
+      (sym (reply-first (itemIn m) (m .type) (settingsAfter s m) p some ∙ ap (λ (b : ℕ). replyTo (row m) (m .type) (settingsAfter s m) (b ∷ [])) first)))
+
+-- something is due
+pub some-due : (code kind item echo : ℕ) (s : Settings) → 0 < length (due code kind item echo s)
+some-due code kind item echo s = go (eqb code 1) (eqb kind typeRange)
+  where
+    go : (a b : Bool)
+        → 0 < length (pick a (pick b (framed typeRangeReply (rangeBody (rowOf item) (echo ∷ []))) (framed typeReply (replyBody (rowOf item) s (echo ∷ [])))) nak)
+    go false b = lit< tt
+    go true true = lit< tt
+    go true false = omega arith
+
+-- ---- the answer
+
+module _ (s : Settings) (m : Message) (l : List ℕ) where
+  abbrev pub Answers : Answered → List ℕ → Type 0
+  Answers r k = (r ≡ answerOf s m (length l) .answered) × (k ≡ sets l 0 (answerOf s m (length l) .bytes))
+
+  -- no reply is due
+  pub answers-nothing : (code : ℕ) (after : Settings) → code ≡ codeOf s m → code ≡ 2 → after ≡ settingsAfter s m
+      → Answers (record { code = 2; wrote = 0; settings = after }) l
+  unfolding answerOf
+  answers-nothing code after c two a =
+      let none = unanswered-reply s m (sym c ∙ two) in
+      let free = le-ltb (length l) 0 (omega arith) in
+      (rw (none, free, ← c, two, a) refl, rw (none, free) refl)
+
+  module _ (w : ℕ) (k reply : List ℕ) (is : reply ≡ replyOf s m) (count : w ≡ countIn (length l) reply) (left : k ≡ sets l 0 (bytesIn (length l) reply)) where
+    -- there is no room
+    pub answers-short : 0 < length reply → w ≡ 0 → Answers (record { code = 20; wrote = 0; settings = s }) k
+    unfolding answerOf
+    answers-short some none = go (ltb (length l) (length reply)) refl
+      where
+        go : (b : Bool) → ltb (length l) (length reply) ≡ b → Answers (record { code = 20; wrote = 0; settings = s }) k
+        go true q = (rw (← is, q) refl, left ∙ rw (← is, q) refl)
+        go false q = absurd (let z : length reply ≡ 0 = sym (count ∙ rw q refl) ∙ none in omega arith)
+
+    -- there is
+    pub answers-whole : (code : ℕ) (after : Settings) → code ≡ codeOf s m → after ≡ settingsAfter s m → (w ≡ 0 → ⊥)
+        → Answers (record { code = code; wrote = w; settings = after }) k
+    unfolding answerOf
+    answers-whole code after c a some = go (ltb (length l) (length reply)) refl
+      where
+        go : (b : Bool) → ltb (length l) (length reply) ≡ b → Answers (record { code = code; wrote = w; settings = after }) k
+        go true q = absurd (some (count ∙ rw q refl))
+        go false q =
+            let all : w ≡ length reply = count ∙ rw q refl in
+            (rw (← is, q, c, a, all) refl, left ∙ rw (← is, q) refl)

@@ -1,0 +1,4 @@
+pub mod Values
+pub mod Shown
+pub mod Room
+pub mod Answering

@@ -1,0 +1,60 @@
+-- The bytes of the values that replies show.
+use Prim.Native.Nat.{ℕ, zero, suc, _+_, _*_, _<_}
+use mathlib.Core.Path.{_≡_, refl, sym, ap, _∙_}
+use mathlib.Core.List.{List, [], _∷_, _++_}
+use native.Mathlib.Omega.{arith}
+use lib.Dec.{lit<}
+use lib.ListN.{length, getD, take, length-append}
+use lib.Seq.{take-all}
+use Rattle.wire.specs.Number.{number, bytes, field}
+use Rattle.wire.specs.Header.{typeReply}
+use Rattle.wire.proofs.Numbers.{bytes-number}
+use Rattle.layouts.specs.Layouts.{laid}
+use Rattle.items.specs.Settings.{freshOf}
+use Rattle.items.specs.Items.{versions}
+use Rattle.items.specs.Answer.{framed, replyBody}
+use Rattle.replies.specs.Replies.{echoing}
+
+-- 80, run byte, mode, 00
+pub state-bytes : (mode run : ℕ) → mode < 256 → run < 256
+    → bytes 4 (mode * 65536 + (run * 256 + 128)) ≡ 0x80 ∷ run ∷ mode ∷ 0x00 ∷ []
+state-bytes mode run m r =
+    ap (bytes 4) whole ∙ bytes-number (0x80 ∷ run ∷ mode ∷ 0x00 ∷ []) small
+  where
+    whole : mode * 65536 + (run * 256 + 128) ≡ number (0x80 ∷ run ∷ mode ∷ 0x00 ∷ [])
+    whole = omega arith
+
+    small : (k : ℕ) → getD (0x80 ∷ run ∷ mode ∷ 0x00 ∷ []) k 0 < 256
+    small zero = lit< tt
+    small (suc zero) = r
+    small (suc (suc zero)) = m
+    small (suc (suc (suc zero))) = lit< tt
+    small (suc (suc (suc (suc k)))) = lit< tt
+
+number-zero : (l : List ℕ) → number (l ++ 0x00 ∷ []) ≡ number l
+number-zero [] = refl
+number-zero (b ∷ l) = ap (λ (n : ℕ). b + 256 * n) (number-zero l)
+
+small-zero : (l : List ℕ) → ((k : ℕ) → getD l k 0 < 256) → (k : ℕ) → getD (l ++ 0x00 ∷ []) k 0 < 256
+small-zero [] h zero = lit< tt
+small-zero [] h (suc k) = lit< tt
+small-zero (b ∷ l) h zero = h 0
+small-zero (b ∷ l) h (suc k) = small-zero l (λ n. h (suc n)) k
+
+-- eight characters and a zero byte
+pub serial-bytes : (serial : List ℕ) → length serial ≡ 8 → ((k : ℕ) → getD serial k 0 < 256) → (v : ℕ) → v ≡ field 0 8 serial
+    → bytes 9 v ≡ serial ++ 0x00 ∷ []
+serial-bytes serial long small v is =
+    let all : take 8 serial ≡ serial = take-all 8 serial (omega arith) in
+    let nine : length (serial ++ 0x00 ∷ []) ≡ 9 = length-append serial (0x00 ∷ []) ∙ omega arith in
+    let same : v ≡ number (serial ++ 0x00 ∷ []) = is ∙ ap number all ∙ sym (number-zero serial) in
+    ap (bytes 9) same ∙ (rw nine at (bytes-number (serial ++ 0x00 ∷ []) (small-zero serial small)))
+
+-- an id that is not in the table
+pub no-version : (id : ℕ) → (id ≡ 0 → ⊥) → (id ≡ 1 → ⊥) → (id ≡ 2 → ⊥) → (id ≡ 3 → ⊥)
+    → laid (echoing 0x0004 id 0 0) ≡ framed typeReply (replyBody versions (freshOf []) (id ∷ []))
+no-version zero a b c d = absurd (a refl)
+no-version (suc zero) a b c d = absurd (b refl)
+no-version (suc (suc zero)) a b c d = absurd (c refl)
+no-version (suc (suc (suc zero))) a b c d = absurd (d refl)
+no-version (suc (suc (suc (suc k)))) a b c d = refl

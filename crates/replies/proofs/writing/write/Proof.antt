@@ -1,0 +1,70 @@
+-- The code and the kind say which of the three is due.
+use mathlib.Core.Path.{_≡_, refl, sym, _∙_}
+use mathlib.Core.List.{[], _∷_}
+use denote.Ref.{now}
+use borrow.Author.Tests.{ne-eqb}
+use Rattle.wire.specs.Header.{nak, typeReply, typeRangeReply}
+use Rattle.items.specs.Items.{rowOf}
+use Rattle.items.specs.Answer.{framed, replyBody, rangeBody}
+use Rattle.replies.specs.Replies.{due}
+use Rattle.replies.proofs.Room.{wrote-as, message-put}
+use borrow.Author.Needs.{needs}
+use Rattle.replies.proofs.writing.write.Statement.{statement}
+use Rattle.replies.proofs.writing.write.Tie as tie
+
+put-nak-requires : tie.Need-put-nak-requires
+put-nak-requires c κs = search needs
+
+same-length : tie.Need-same-length
+same-length c = search needs
+
+returns : tie.Need-returns
+returns c =
+    let a = c .before .before .before .before .before .before .args in
+    let is : nak ≡ due (a .code) (a .kind) (a .item) (a .echo) (a .s) = rw (ne-eqb (a .code) 1 (c .before .before .before .before .if1 .taken)) refl in
+    wrote-as (now (a .reply)) is (c .before .before .put-nak .ensures)
+
+put-range-requires : tie.Need-put-range-requires
+put-range-requires c κs = c .before .before .before .before .pre (c .before .before .if1 .left)
+
+same-length-2 : tie.Need-same-length-2
+same-length-2 c = search needs
+
+returns-2 : tie.Need-returns-2
+returns-2 c =
+    let a = c .before .before .before .before .before .before .before .args in
+    let is : framed typeRangeReply (rangeBody (rowOf (a .item)) (a .echo ∷ [])) ≡ due (a .code) (a .kind) (a .item) (a .echo) (a .s)
+    = rw (c .before .before .before .before .before .if1 .left, c .before .before .before .before .if2 .taken) refl in
+    wrote-as (now (a .reply)) is (c .before .before .put-range .ensures)
+
+reply-layout-requires : tie.Need-reply-layout-requires
+reply-layout-requires c κs = c .before .before .before .before .pre (c .before .before .if1 .left)
+
+put-message-requires : tie.Need-put-message-requires
+put-message-requires c κs = search needs
+
+same-length-3 : tie.Need-same-length-3
+same-length-3 c = search needs
+
+returns-3 : tie.Need-returns-3
+returns-3 c =
+    let a = c .before .before .before .before .before .before .before .before .args in
+    let is : framed typeReply (replyBody (rowOf (a .item)) (a .s) (a .echo ∷ [])) ≡ due (a .code) (a .kind) (a .item) (a .echo) (a .s)
+    = rw (c .before .before .before .before .before .before .if1 .left, ne-eqb (a .kind) 2 (c .before .before .before .before .before .if2 .left)) refl in
+    message-put (now (a .reply)) (due (a .code) (a .kind) (a .item) (a .echo) (a .s)) (c .before .before .before .reply-layout .result) (c .before .before .put-message .result)
+    (c .before .before .put-message .last .0) (c .before .before .before .reply-layout .ensures ∙ is) (c .before .before .put-message .ensures)
+
+pub write-spec : {M : Type 1} → statement M
+write-spec =
+    tie.close
+    (tie.spec
+    put-nak-requires
+    same-length
+    returns
+    put-range-requires
+    same-length-2
+    returns-2
+    reply-layout-requires
+    put-message-requires
+    same-length-3
+    returns-3)

@@ -1,0 +1,106 @@
+// The reply that shows an item's current value.
+ghost use mathlib.Core.Path.{_≡_};
+ghost use mathlib.Core.List.{[], _∷_, _++_};
+ghost use lib.ListN.{length};
+ghost use Rattle.wire.specs.Choice.{pick};
+ghost use Rattle.wire.specs.Number.{bytes};
+ghost use Rattle.wire.specs.Header.{typeReply};
+ghost use Rattle.layouts.specs.Layouts.{laid};
+ghost use Rattle.items.specs.Items.{versions, rowOf};
+ghost use Rattle.items.specs.Settings.{freshOf};
+ghost use Rattle.items.specs.Answer.{framed, replyBody};
+ghost use Rattle.replies.specs.Replies.{plainly, echoing};
+use items::Settings;
+use layouts::Layout;
+
+// "NetSDR" and a zero byte, the first character in the low byte.
+const NAME: u64 = 0x0052_4453_7465_4E;
+
+// The reply for an item with its current value, and the channel byte or id that it echoes. No item has no value.
+pub(crate) fn reply_layout(s: Settings, item: u16, echo: u8) -> Layout
+    requires { ⌜ rowOf item .code ≡ item ⌝ }
+    ensures { λ r. ⌜ laid r ≡ framed typeReply (replyBody (rowOf item) s (echo ∷ [])) ⌝ }
+{
+    match item {
+        0x0001 => plain(item, 7, NAME),
+        0x0002 => {
+            let serial = s.serial;
+            plain(item, 9, serial_value(&serial))
+        }
+        0x0003 => plain(item, 2, 105),
+        0x0004 => version(echo),
+        0x0005 => plain(item, 1, status_value(s.running)),
+        0x0018 => plain(item, 4, state_value(s.running, s.mode)),
+        0x0020 => with_echo(item, echo, 5, s.frequency),
+        0x0038 => with_echo(item, echo, 1, s.gain as u64),
+        0x00B0 => with_echo(item, echo, 4, s.clock as u64),
+        0x00B8 => with_echo(item, echo, 4, rates::achieved(s.divisor) as u64),
+        0x00C4 => plain(item, 1, s.size as u64),
+        _ => plain(item, 0, 0),
+    }
+}
+
+fn plain(item: u16, width: u8, value: u64) -> Layout
+    ensures { λ r. ⌜ r ≡ plainly item width value ⌝ }
+{
+    Layout {
+        kind: 0,
+        item,
+        echoed: false,
+        echo: 0,
+        width,
+        value,
+    }
+}
+
+fn with_echo(item: u16, echo: u8, width: u8, value: u64) -> Layout
+    ensures { λ r. ⌜ r ≡ echoing item echo width value ⌝ }
+{
+    Layout {
+        kind: 0,
+        item,
+        echoed: true,
+        echo,
+        width,
+        value,
+    }
+}
+
+// "id, then two bytes: 0: 64 00, 1: 6B 00, 2: 66 00, 3: 01 07 (house)". There is no other id.
+fn version(id: u8) -> Layout
+    ensures { λ r. ⌜ laid r ≡ framed typeReply (replyBody versions (freshOf []) (id ∷ [])) ⌝ }
+{
+    match id {
+        0 => with_echo(0x0004, id, 2, 0x0064),
+        1 => with_echo(0x0004, id, 2, 0x006B),
+        2 => with_echo(0x0004, id, 2, 0x0066),
+        3 => with_echo(0x0004, id, 2, 0x0701),
+        _ => with_echo(0x0004, id, 0, 0),
+    }
+}
+
+// "0B idle, 0C running"
+fn status_value(running: bool) -> u64
+    ensures { λ r. ⌜ r ≡ pick running 0x0C 0x0B ⌝ }
+{
+    if running { 0x0C } else { 0x0B }
+}
+
+// "Replies hold 80, run byte, mode, 00 (house)."
+fn state_value(running: bool, mode: u8) -> u64
+    ensures { λ r. ⌜ bytes 4 r ≡ 0x80 ∷ pick running 2 1 ∷ mode ∷ 0x00 ∷ [] ⌝ }
+{
+    let high = mode as u64 * 0x1_0000;
+    if running {
+        return high + 0x0280;
+    }
+    high + 0x0180
+}
+
+// "eight characters and a zero byte"
+fn serial_value(serial: &[u8]) -> u64
+    requires { ⌜ length (now serial) ≡ 8 ⌝ }
+    ensures { λ r. ⌜ bytes 9 r ≡ now (serial .entry) ++ 0x00 ∷ [] ⌝ }
+{
+    wire::number_at(serial, 0, 8)
+}
