@@ -14,6 +14,7 @@ use Rattle.wire.proofs.Laws.{true-not-false, and-not-right}
 use Rattle.wire.specs.Number.{bytes, field}
 use Rattle.wire.specs.Header.{typeSet, typeRequest, typeRange}
 use Rattle.wire.proofs.Numbers.{bytes-number}
+use Rattle.rates.proofs.Rates.{nearest-d}
 use Rattle.framing.specs.Framing.{allBytes}
 use Rattle.items.specs.declared.Settings.{Settings}
 use Rattle.items.specs.Settings.{withRunning, withCount, withMode, isMode}
@@ -182,7 +183,7 @@ show = (
                 (
                   λ size total s p room b may free q. field-shown 1 4 p (omega (arith, eqb-true size 9 total)) b,
                   (
-                    λ size total s p room b may free q. refl,
+                    λ size total s p room b may free q. rw (nearest-d (field 1 4 p) may) refl,
                     (λ size total s p room b may free q. byte-shown 0 p (omega (arith, eqb-true size 5 total)) b, tt),
                   ),
                 ),
