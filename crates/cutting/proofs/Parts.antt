@@ -34,6 +34,7 @@ laid l header number samples h n =
   where
     head : sets (sets l 0 header) 2 number ≡ sets l 0 (header ++ number)
     head = rw h at (sets-append l 0 header number)
+
     tail : sets (sets l 0 (header ++ number)) 4 samples ≡ sets l 0 (header ++ number ++ samples)
     tail =
         let four : length (header ++ number) ≡ 4 = length-append header number ∙ omega arith in

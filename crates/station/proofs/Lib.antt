@@ -1,4 +1,8 @@
 pub mod Kept
 pub mod Short
 pub mod Valid
+pub mod Words
+pub mod Values
+pub mod Replies
+pub mod Answers
 pub mod Serving

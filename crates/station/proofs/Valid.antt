@@ -8,13 +8,15 @@ use lib.ListN.{length}
 use borrow.Author.Tests.{le-ltb}
 use Rattle.wire.proofs.Laws.{and-left, and-right, and-both}
 use Rattle.framing.specs.declared.Store.{Store}
+use Rattle.framing.specs.declared.Taking.{Taking}
+use Rattle.framing.proofs.Cutting.{told}
 use Rattle.framing.specs.Framing.{taken, finished, couldBeLeft}
 use Rattle.items.specs.declared.Settings.{Settings}
 use Rattle.items.specs.Settings.{inRange}
 use Rattle.items.specs.Answer.{replyOf}
 use Rattle.station.specs.declared.Station.{Station}
 use Rattle.station.specs.Station.{valid}
-use Rattle.station.specs.Feeding.{messageIn, feedingOf, answered, waiting}
+use Rattle.station.specs.Feeding.{messageIn, feedingOf, refused, answered, answering, waiting}
 
 abbrev pub box : Settings → Store → Station
 box s t = record { settings = s; store = t }
@@ -41,3 +43,22 @@ pub feeding-waiting : (s : Settings) (t : Store) (host : List ℕ) (room : ℕ) 
     → finished (taken t host .store) ≡ false → feedingOf (box s t) host room ≡ waiting s (taken t host)
 unfolding feedingOf
 feeding-waiting s t host room v f = rw (v, f)
+
+-- ---- the three ways that a call of feeding goes, by what the framing took
+
+module _ (s : Station) (host : List ℕ) (room : ℕ) where
+  pub feeding-broken : valid s ≡ false → feedingOf s host room ≡ refused 21 s
+  unfolding feedingOf
+  feeding-broken v = rw v
+
+  module _ (t : Taking) (v : valid s ≡ true) (e : t ≡ taken (s .store) host) where
+    ends : t .finished ≡ finished (taken (s .store) host .store)
+    ends = ap (λ (k : Taking). k .finished) e ∙ sym (told 0 (s .store) host)
+
+    pub feeding-open : t .finished ≡ false → waiting (s .settings) t ≡ feedingOf s host room
+    unfolding feedingOf
+    feeding-open f = rw (v, sym ends ∙ f, e)
+
+    pub feeding-done : t .finished ≡ true → answering s t room ≡ feedingOf s host room
+    unfolding feedingOf
+    feeding-done f = rw (v, sym ends ∙ f, e)

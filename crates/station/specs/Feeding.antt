@@ -24,6 +24,10 @@ pub record Feeding : Type 0 where
   pub fed : Fed
   pub bytes : List ℕ
 
+-- what is written of a reply where there is this much room: all of it or nothing
+abbrev pub fitted : ℕ → List ℕ → List ℕ
+fitted room reply = pick (ltb room (length reply)) [] reply
+
 -- "Codes from 20 consume nothing and return the state given."
 abbrev pub refused : ℕ → Station → Feeding
 refused code s = record { fed = record { code = code; consumed = 0; wrote = 0; station = s }; bytes = [] }
@@ -50,11 +54,14 @@ answered s t =
       bytes = replyOf s (messageIn (t .store));
     }
 
--- what the taken bytes come to, where there is room: "lent buffer shorter than what this call would write" is 20
+-- where there is room: "lent buffer shorter than what this call would write" is 20
+abbrev pub answering : Station → Taking → ℕ → Feeding
+answering s t room =
+    pick (ltb room (length (replyOf (s .settings) (messageIn (t .store))))) (refused 20 s) (answered (s .settings) t)
+
+-- what the taken bytes come to
 abbrev pub fedBy : Station → Taking → ℕ → Feeding
-fedBy s t room =
-    pick (not (finished (t .store))) (waiting (s .settings) t)
-    (pick (ltb room (length (replyOf (s .settings) (messageIn (t .store))))) (refused 20 s) (answered (s .settings) t))
+fedBy s t room = pick (not (finished (t .store))) (waiting (s .settings) t) (answering s t room)
 
 -- "Orders: feeding 21, 20."
 unfoldable pub feedingOf : Station → List ℕ → ℕ → Feeding

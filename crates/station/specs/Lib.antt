@@ -1,3 +1,4 @@
 pub mod Station
 pub mod Feeding
+pub mod Replying
 pub mod Serving

@@ -1,14 +1,40 @@
 -- The box: when it is broken, a fresh one, and its tuning word.
 use Prim.Native.Nat.{ℕ}
 use mathlib.Core.Bool.{Bool, _&&_}
-use mathlib.Core.List.{List}
+use mathlib.Core.List.{List, [], _∷_}
+use Rattle.wire.specs.Choice.{pick}
+use Rattle.tuning.specs.Word.{wordOf}
 use Rattle.framing.specs.Framing.{between, couldBeLeft}
-use Rattle.items.specs.Settings.{inRange, freshOf}
+use Rattle.items.specs.Settings.{inRange, freshOf, freshAnswer}
 use Rattle.station.specs.declared.Station.{Station}
+use Rattle.station.specs.declared.Began.{Began}
+use Rattle.station.specs.declared.Tuning.{Tuning}
+use Rattle.station.specs.declared.Tuning.the-variants.{Word, Broken}
 
 -- "A box with a field outside these rules is broken (21). Its unfinished message must also be one that some bytes could have left."
 unfoldable pub valid : Station → Bool
 valid s = inRange (s .settings) && couldBeLeft (s .store)
+
+-- A fresh box from a serial: "26: serial not eight of A-Z, 0-9 .. the fresh box has serial 00000000".
+abbrev pub freshBox : List ℕ → Began
+freshBox serial =
+    record {
+      code = freshAnswer serial .code;
+      station = record { settings = freshAnswer serial .settings; store = between };
+    }
+
+-- The tuning word: "it is worked out when asked". A broken box has none.
+unfoldable pub tuningOf : Station → Tuning
+tuningOf s = pick (valid s) (Word (wordOf (s .settings .frequency) (s .settings .clock))) Broken
+
+-- what the answer tells in the numbers of "What comes back": 1 and the word, or 21
+abbrev pub codeIn : Tuning → ℕ
+codeIn (Word w) = 1
+codeIn Broken = 21
+
+abbrev pub valuesIn : Tuning → List ℕ
+valuesIn (Word w) = w ∷ []
+valuesIn Broken = []
 
 -- a fresh box, between messages
 abbrev pub freshStation : List ℕ → Station

@@ -1,4 +1,9 @@
 // The box of document 01: a fresh one, feeding it, and its tuning word.
+mod feeding; // feeding.rt: one call of feeding
+
+pub use feeding::feed;
+ghost use mathlib.Core.Path.{_≡_};
+ghost use Rattle.station.specs.Station.{valid, freshBox, tuningOf};
 use framing::Store;
 use items::Settings;
 
@@ -15,4 +20,58 @@ pub struct Fed {
     pub consumed: usize,
     pub wrote: usize,
     pub station: Station,
+}
+
+// A fresh box, and the code for its serial.
+pub struct Began {
+    pub code: u8,
+    pub station: Station,
+}
+
+// The tuning word of a box; a broken box has none.
+pub enum Tuning {
+    Word(u32),
+    Broken,
+}
+
+// A fresh box with a serial; where that is not eight of A-Z, 0-9, code 26 and the box with serial 00000000.
+pub fn fresh(serial: &[u8]) -> Began
+    ensures { λ r. ⌜ r ≡ freshBox (now (serial .entry)) ⌝ }
+{
+    let began = items::fresh(serial);
+    let settings = began.settings;
+    let station = Station {
+        settings: settings,
+        store: framing::between(),
+    };
+    Began {
+        code: began.code,
+        station: station,
+    }
+}
+
+// Whether every setting is in its range, and the unfinished message one that some bytes could have left.
+pub fn is_valid(s: Station) -> bool
+    ensures { λ r. ⌜ r ≡ valid s ⌝ }
+{
+    let settings = s.settings;
+    if !items::in_range(settings) {
+        return false;
+    }
+    let store = s.store;
+    framing::could_be_left(store)
+}
+
+// The tuning word, worked out when asked.
+pub fn tuning_word(s: Station) -> Tuning
+    ensures { λ r. ⌜ r ≡ tuningOf s ⌝ }
+{
+    if !is_valid(s) {
+        return Tuning::Broken;
+    }
+    let settings = s.settings;
+    match tuning::word_of(settings.frequency, settings.clock) {
+        tuning::Word::Is(w) => Tuning::Word(w),
+        tuning::Word::NotAllowed => Tuning::Broken,
+    }
 }

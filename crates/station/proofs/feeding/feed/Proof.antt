@@ -1,0 +1,56 @@
+-- `station::feeding::feed` meets its contract: the box is broken, waits for more bytes, or answers a finished message.
+-- Assumes nothing.
+use Rattle.station.proofs.Valid.{valid-settings, feeding-broken, feeding-open, feeding-done}
+use denote.Ref.{now}
+use lib.ListN.{length}
+use borrow.Author.Tests.{not-true, not-false}
+use mathlib.Core.Path.{refl, sym, _∙_}
+use borrow.Author.Needs.{needs}
+use Rattle.station.proofs.feeding.feed.Statement.{statement}
+use Rattle.station.proofs.feeding.feed.Tie as tie
+
+is-valid-requires : tie.Need-is-valid-requires
+is-valid-requires c κs = search needs
+
+refused-requires : tie.Need-refused-requires
+refused-requires c κs = search needs
+
+returns : tie.Need-returns
+returns c = let a = c .before .before .before .before .before .args in
+    rw (c .refused .ensures, feeding-broken (a .s) (now (a .host)) (length (now (a .reply))) (sym (c .before .before .is-valid .ensures) ∙ not-true _ (c .before .if1 .taken))) (refl, refl)
+
+take-in-requires : tie.Need-take-in-requires
+take-in-requires c κs = search needs
+
+waiting-requires : tie.Need-waiting-requires
+waiting-requires c κs = search needs
+
+returns-2 : tie.Need-returns-2
+returns-2 c = let a = c .before .before .before .before .before .before .before .before .before .args in
+    rw (c .waiting .ensures, ← feeding-open (a .s) (now (a .host)) (length (now (a .reply))) (c .before .before .before .take-in .result) (sym (c .before .before .before .before .before .before .is-valid .ensures) ∙ not-false _ (c .before .before .before .before .before .if1 .left)) (c .before .before .before .take-in .ensures) (not-true _ (c .before .if2 .taken)))
+    (refl, refl)
+
+answer-requires : tie.Need-answer-requires
+answer-requires c κs = valid-settings (c .before .before .before .before .before .before .before .before .before .args .s .settings) (c .before .before .before .before .before .before .before .before .before .args .s .store) (sym (c .before .before .before .before .before .before .is-valid .ensures) ∙ not-false _ (c .before .before .before .before .before .if1 .left))
+
+same-length : tie.Need-same-length
+same-length c = search needs
+
+returns-3 : tie.Need-returns-3
+returns-3 c = let a = c .before .before .before .before .before .before .before .before .before .before .before .before .args in
+    rw (← feeding-done (a .s) (now (a .host)) (length (now (a .reply))) (c .before .before .before .before .before .before .take-in .result) (sym (c .before .before .before .before .before .before .before .before .before .is-valid .ensures) ∙ not-false _ (c .before .before .before .before .before .before .before .before .if1 .left)) (c .before .before .before .before .before .before .take-in .ensures) (not-false _ (c .before .before .before .before .if2 .left)))
+    (c .before .before .answer .ensures)
+
+pub feed-spec : {M : Type 1} → statement M
+feed-spec =
+    tie.close
+    (tie.spec
+    is-valid-requires
+    refused-requires
+    returns
+    take-in-requires
+    waiting-requires
+    returns-2
+    answer-requires
+    same-length
+    returns-3)
