@@ -3,5 +3,4 @@ pub mod Keys
 pub mod Lines
 pub mod Rows
 pub mod Serials
-pub mod Setting
 pub mod Judging

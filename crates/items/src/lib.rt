@@ -1,13 +1,9 @@
-// Items of document 01: the settings of a box, the table of items, and what one finished message does.
+// Items of document 01: the settings of a box, the table of items, and what a header alone decides.
 
-mod header; // header.rt: what the header of a message decides
-mod message; // message.rt: what one finished message does
+pub mod header; // header.rt: what the header of a message decides
 pub mod ranges; // ranges.rt: a fresh box, and which settings are within their ranges
-mod sets; // sets.rt: what a set of each item does
 pub mod table; // table.rt: the table's lengths
 
-pub use message::item_in;
-pub use message::judge;
 pub use ranges::fresh;
 pub use ranges::in_range;
 

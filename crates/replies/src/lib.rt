@@ -22,7 +22,7 @@ pub struct Answered {
 pub fn answer(s: Settings, kind: u8, size: u16, held: &[u8; 64], reply: &mut [u8]) -> Answered
     ensures { λ r. ⌜ (r ≡ answerOf s (record { type = kind; size = size; held = now (held .entry) }) (length (now (reply .entry))) .answered) × (now (reply .exit) ≡ sets (now (reply .entry)) 0 (answerOf s (record { type = kind; size = size; held = now (held .entry) }) (length (now (reply .entry))) .bytes)) ⌝ }
 {
-    let judged = items::judge(s, kind, size, held);
+    let judged = judging::judge(s, kind, size, held);
     let code = judged.code;
     let after = judged.settings;
     if code == 2 {
@@ -36,7 +36,7 @@ pub fn answer(s: Settings, kind: u8, size: u16, held: &[u8; 64], reply: &mut [u8
     let wrote = writing::write(
         code,
         kind,
-        items::item_in(message),
+        judging::item_in(message),
         message[4],
         after,
         reply,

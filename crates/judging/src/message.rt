@@ -1,0 +1,78 @@
+// What one finished message does: its code, and the settings after it.
+ghost use mathlib.Core.Path.{_≡_};
+ghost use Prim.Native.Nat.{_≤_};
+ghost use lib.ListN.{length};
+ghost use mathlib.Core.List.{[], _∷_};
+ghost use Rattle.wire.specs.Number.{field};
+ghost use Rattle.items.specs.Items.{frequency, rowOf};
+ghost use Rattle.items.specs.Answer.{askedBy, judgedOf};
+use crate::sets;
+use items::Judged;
+use items::Settings;
+use items::header;
+use items::table;
+
+// The code of a finished message of a type and a length, and the settings after it. `held` is its first 64 bytes. "Codes 10
+// to 17 stand in order of checking (11 first)."
+pub fn judge(s: Settings, kind: u8, size: u16, held: &[u8; 64]) -> Judged
+    ensures { λ r. ⌜ r ≡ judgedOf s (record { type = kind; size = size; held = now (held .entry) }) ⌝ }
+{
+    let message = &held[..];
+    let early = header::header_code(kind, size, message[2]);
+    if early != 1 {
+        return Judged {
+            code: early,
+            settings: s,
+        };
+    }
+    let item = item_in(message);
+    let listed = table::listed_code(item, kind, size);
+    if listed != 1 {
+        return Judged {
+            code: listed,
+            settings: s,
+        };
+    }
+    if kind == 0 {
+        return sets::set_item(s, item, &message[4..]);
+    }
+    Judged {
+        code: asked_code(item, &message[4..]),
+        settings: s,
+    }
+}
+
+// "Control messages have a 16-bit item code after the header".
+pub fn item_in(message: &[u8]) -> u16
+    ensures { λ r. ⌜ r ≡ field 2 2 (now (message .entry)) ⌝ }
+{
+    wire::number_at(message, 2, 2) as u16
+}
+
+// A request or a range request: the channel of frequency and gain is 00 (15), and there are versions 0 to 3 (16).
+fn asked_code(item: u16, p: &[u8]) -> u8
+    requires { ⌜ 1 ≤ length (now p) ⌝ }
+    ensures { λ r. ⌜ r ≡ askedBy (rowOf item) (now (p .entry)) ⌝ }
+{
+    match item {
+        0x0004 => {
+            if p[0] <= 3 {
+                return 1;
+            }
+            16
+        }
+        0x0020 => asked_channel(p[0]),
+        0x0038 => asked_channel(p[0]),
+        _ => 1,
+    }
+}
+
+// "Channel for 0020 and 0038: 00".
+fn asked_channel(byte: u8) -> u8
+    ensures { λ r. ⌜ r ≡ askedBy frequency (byte ∷ []) ⌝ }
+{
+    if byte == 0 {
+        return 1;
+    }
+    15
+}

@@ -1,0 +1,223 @@
+// What a set of each item does. The readers are handed the message's parameters, its bytes from the fifth on.
+ghost use mathlib.Core.Path.{_≡_};
+ghost use mathlib.Core.List.{[], _∷_};
+ghost use Prim.Native.Nat.{_≤_, _<_};
+ghost use lib.ListN.{length};
+ghost use Rattle.wire.specs.Header.{typeSet};
+ghost use Rattle.items.specs.Items.{zeroAndAll, state, frequency, gain, clock, rate, packetSize, rowOf};
+ghost use Rattle.items.specs.Answer.{setBy, channelAllowed};
+use items::Judged;
+use items::Settings;
+use items::ranges;
+
+// A set of an item. Where the table has a dash there is nothing to store; such a set is refused before (14).
+pub(crate) fn set_item(s: Settings, item: u16, p: &[u8]) -> Judged
+    requires { ⌜ 4 ≤ length (now p) ⌝ }
+    ensures { λ r. ⌜ r ≡ setBy (rowOf item) s (now (p .entry)) ⌝ }
+{
+    match item {
+        0x0018 => set_state(s, p),
+        0x0020 => set_frequency(s, p),
+        0x0038 => set_gain(s, p),
+        0x00B0 => set_clock(s, p),
+        0x00B8 => set_rate(s, p),
+        0x00C4 => set_size(s, p),
+        _ => Judged {
+            code: 1,
+            settings: s,
+        },
+    }
+}
+
+// State: "Run byte 1 is idle: the other three are ignored, the mode is kept, always accepted." "Other run bytes are 16."
+fn set_state(s: Settings, p: &[u8]) -> Judged
+    requires { ⌜ 3 ≤ length (now p) ⌝ }
+    ensures { λ r. ⌜ r ≡ setBy state s (now (p .entry)) ⌝ }
+{
+    match p[1] {
+        1 => {
+            let mut idle = s;
+            idle.running = false;
+            Judged {
+                code: 1,
+                settings: idle,
+            }
+        }
+        2 => start(s, p[0], p[2]),
+        _ => Judged {
+            code: 16,
+            settings: s,
+        },
+    }
+}
+
+// "Run byte 2 starts: first byte 80 and mode 80 (24 bits) or 00 (16 bits), else 16." "Starting from idle sets the packet
+// count to 0. Run while running in the same mode replies and changes nothing; in another mode 17."
+fn start(s: Settings, first: u8, mode: u8) -> Judged
+    ensures { λ r. ⌜ r ≡ setBy state s (first ∷ 2 ∷ mode ∷ []) ⌝ }
+{
+    if first != 0x80 {
+        return Judged {
+            code: 16,
+            settings: s,
+        };
+    }
+    if !ranges::is_mode(mode) {
+        return Judged {
+            code: 16,
+            settings: s,
+        };
+    }
+    if s.running {
+        if mode != s.mode {
+            return Judged {
+                code: 17,
+                settings: s,
+            };
+        }
+        return Judged {
+            code: 1,
+            settings: s,
+        };
+    }
+    let mut begun = s;
+    begun.running = true;
+    begun.mode = mode;
+    begun.count = 0;
+    Judged {
+        code: 1,
+        settings: begun,
+    }
+}
+
+// RF gain: channel, signed byte 0, -10, -20 or -30.
+fn set_gain(s: Settings, p: &[u8]) -> Judged
+    requires { ⌜ 2 ≤ length (now p) ⌝ }
+    ensures { λ r. ⌜ r ≡ setBy gain s (now (p .entry)) ⌝ }
+{
+    if !set_channel(p[0]) {
+        return Judged {
+            code: 15,
+            settings: s,
+        };
+    }
+    let byte = p[1];
+    if !ranges::is_gain(byte) {
+        return Judged {
+            code: 16,
+            settings: s,
+        };
+    }
+    let mut set = s;
+    set.gain = byte;
+    Judged {
+        code: 1,
+        settings: set,
+    }
+}
+
+// Packet size: 0 large, 1 small; not while running.
+fn set_size(s: Settings, p: &[u8]) -> Judged
+    requires { ⌜ 1 ≤ length (now p) ⌝ }
+    ensures { λ r. ⌜ r ≡ setBy packetSize s (now (p .entry)) ⌝ }
+{
+    let byte = p[0];
+    if !ranges::is_size(byte) {
+        return Judged {
+            code: 16,
+            settings: s,
+        };
+    }
+    if s.running {
+        return Judged {
+            code: 17,
+            settings: s,
+        };
+    }
+    let mut set = s;
+    set.size = byte;
+    Judged {
+        code: 1,
+        settings: set,
+    }
+}
+
+// "Channel for 0020 and 0038: 00, and on set also FF."
+fn set_channel(byte: u8) -> bool
+    ensures { λ r. ⌜ r ≡ channelAllowed zeroAndAll typeSet byte ⌝ }
+{
+    match byte {
+        0x00 | 0xFF => true,
+        _ => false,
+    }
+}
+
+// Frequency: channel, 40-bit Hz in one of the bands.
+fn set_frequency(s: Settings, p: &[u8]) -> Judged
+    requires { ⌜ 1 ≤ length (now p) ⌝ }
+    ensures { λ r. ⌜ r ≡ setBy frequency s (now (p .entry)) ⌝ }
+{
+    if !set_channel(p[0]) {
+        return Judged {
+            code: 15,
+            settings: s,
+        };
+    }
+    let hz = wire::number_at(p, 1, 5);
+    if !tuning::in_bands(hz) {
+        return Judged {
+            code: 16,
+            settings: s,
+        };
+    }
+    let mut set = s;
+    set.frequency = hz;
+    Judged {
+        code: 1,
+        settings: set,
+    }
+}
+
+// Clock: any channel byte, 32-bit Hz.
+fn set_clock(s: Settings, p: &[u8]) -> Judged
+    ensures { λ r. ⌜ r ≡ setBy clock s (now (p .entry)) ⌝ }
+{
+    let hz = wire::number_at(p, 1, 4) as u32;
+    if !tuning::is_clock(hz) {
+        return Judged {
+            code: 16,
+            settings: s,
+        };
+    }
+    let mut set = s;
+    set.clock = hz;
+    Judged {
+        code: 1,
+        settings: set,
+    }
+}
+
+// Rate: any channel byte, 32-bit Hz; the D with the nearest exact rate is taken. Not while running.
+fn set_rate(s: Settings, p: &[u8]) -> Judged
+    ensures { λ r. ⌜ r ≡ setBy rate s (now (p .entry)) ⌝ }
+{
+    let asked = wire::number_at(p, 1, 4) as u32;
+    if !rates::may_ask(asked) {
+        return Judged {
+            code: 16,
+            settings: s,
+        };
+    }
+    if s.running {
+        return Judged {
+            code: 17,
+            settings: s,
+        };
+    }
+    let mut set = s;
+    set.divisor = rates::nearest(asked);
+    Judged {
+        code: 1,
+        settings: set,
+    }
+}
