@@ -1,5 +1,4 @@
 // Samples of document 01: the loops that pack them into a packet and unpack them, kept to shapes that compile fast.
-mod bytes;
 mod fitting;
 mod packing;
 mod unpacking;

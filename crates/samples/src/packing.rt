@@ -1,5 +1,4 @@
 // Packing: samples into the bytes of a packet, after its four leading bytes.
-use crate::bytes;
 use crate::fitting::all_fit;
 use crate::fitting::greater;
 use crate::fitting::inside;
@@ -7,13 +6,42 @@ use crate::fitting::lesser;
 use packets::Form;
 ghost use mathlib.Core.Path.{_≡_};
 ghost use mathlib.Core.Bool.{true};
-ghost use mathlib.Core.List.{map};
+ghost use mathlib.Core.List.{_++_, map};
 ghost use Prim.Native.Nat.{_+_, _*_, _≤_};
 ghost use lib.ListN.{length};
 ghost use lib.Seq.{sets};
+ghost use Rattle.wire.specs.Number.{bytes};
 ghost use Rattle.wire.specs.Signed.{coded};
 ghost use Rattle.packets.specs.Samples.{isSample, allSamples, narrowed};
 ghost use Rattle.samples.specs.Packing.{mayPack, packedOf, filledOf, lowOf};
+
+// Writes a number in three bytes at a place that the slice has.
+fn put3(dst: &mut [u8], at: usize, v: u32)
+    requires { ⌜ at + 3 ≤ length (now dst) ⌝ }
+    ensures { λ r. ⌜ now (dst .exit) ≡ sets (now (dst .entry)) at (bytes 3 v) ⌝ }
+{
+    dst[at] = (v % 256) as u8;
+    dst[at + 1] = (v / 256 % 256) as u8;
+    dst[at + 2] = (v / 65536 % 256) as u8;
+}
+
+// Writes a number in four bytes at a place that the slice has: stores of one number side by side are one of the processor's.
+fn put4(dst: &mut [u8], at: usize, v: u32)
+    requires { ⌜ at + 4 ≤ length (now dst) ⌝ }
+    ensures { λ r. ⌜ now (dst .exit) ≡ sets (now (dst .entry)) at (bytes 4 v) ⌝ }
+{
+    dst[at] = (v % 256) as u8;
+    dst[at + 1] = (v / 256 % 256) as u8;
+    dst[at + 2] = (v / 65536 % 256) as u8;
+    dst[at + 3] = (v / 16777216 % 256) as u8;
+}
+
+// The word whose four bytes are the two of each of two numbers.
+fn pair(first: u16, second: u16) -> u32
+    ensures { λ r. ⌜ bytes 4 r ≡ bytes 2 first ++ bytes 2 second ⌝ }
+{
+    first as u32 + 65536 * (second as u32)
+}
 
 // "24-bit form: two's complement."
 fn code24(x: i32) -> u32
@@ -42,7 +70,7 @@ fn pack24(samples: &[i32], packet: &mut [u8]) -> bool
     }
     let mut i = 0;
     while i < samples.len() {
-        bytes::put3(packet, 4 + 3 * i, code24(samples[i]));
+        put3(packet, 4 + 3 * i, code24(samples[i]));
         i += 1;
     }
     true
@@ -78,7 +106,7 @@ fn pack16(samples: &[i32], packet: &mut [u8], pairs: usize) -> bool
     }
     let mut i = 0;
     while i < pairs {
-        bytes::put4(packet, 4 + 4 * i, bytes::pair(held[2 * i], held[2 * i + 1]));
+        put4(packet, 4 + 4 * i, pair(held[2 * i], held[2 * i + 1]));
         i += 1;
     }
     true

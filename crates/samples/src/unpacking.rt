@@ -1,13 +1,28 @@
 // Unpacking: the bytes after a packet's four leading bytes, as signed numbers of the width sent.
-use crate::bytes;
 use packets::Form;
 ghost use mathlib.Core.Path.{_≡_};
 ghost use Prim.Native.Nat.{_+_, _*_, _≤_, _<_};
 ghost use lib.ListN.{length, drop};
 ghost use lib.Seq.{sets};
+ghost use Rattle.wire.specs.Number.{field};
 ghost use Rattle.wire.specs.Signed.{signed};
 ghost use Rattle.packets.specs.Samples.{samplesFrom};
 ghost use Rattle.samples.specs.Packing.{mayUnpack, unpackedOf};
+
+// A byte as a part of a word.
+fn wide(b: u8) -> u32
+    ensures { λ r. ⌜ (r ≡ b) × (r ≤ 255) ⌝ }
+{
+    b as u32
+}
+
+// The number in four bytes at a place that the slice has: bytes side by side in one sum are one read of the processor's.
+fn word(s: &[u8], at: usize) -> u32
+    requires { ⌜ at + 4 ≤ length (now s) ⌝ }
+    ensures { λ r. ⌜ r ≡ field at 4 (now (s .entry)) ⌝ }
+{
+    wide(s[at]) + 256 * wide(s[at + 1]) + 65536 * wide(s[at + 2]) + 16777216 * wide(s[at + 3])
+}
 
 // The number that 24 bits stand for.
 fn sign24(v: u32) -> i32
@@ -33,7 +48,7 @@ fn unpack24(packet: &[u8], out: &mut [i32], n: usize)
 {
     let mut i = 0;
     while i < n {
-        out[i] = sign24(bytes::word(packet, 3 + 3 * i) / 256);
+        out[i] = sign24(word(packet, 3 + 3 * i) / 256);
         i += 1;
     }
 }
@@ -45,7 +60,7 @@ fn unpack16(packet: &[u8], out: &mut [i32], pairs: usize)
 {
     let mut i = 0;
     while i < pairs {
-        let pair = bytes::word(packet, 4 + 4 * i);
+        let pair = word(packet, 4 + 4 * i);
         out[2 * i] = sign16(pair % 65536);
         out[2 * i + 1] = sign16(pair / 65536);
         i += 1;

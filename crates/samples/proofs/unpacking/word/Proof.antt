@@ -1,9 +1,9 @@
--- `samples::bytes::word` meets its contract: a field of four bytes is their sum by powers of 256.
+-- `samples::unpacking::word` meets its contract: a field of four bytes is their sum by powers of 256.
 use denote.Ref.{now}
 use Rattle.samples.proofs.Fields.{field-four}
 use borrow.Author.Needs.{needs}
-use Rattle.samples.proofs.bytes.word.Statement.{statement}
-use Rattle.samples.proofs.bytes.word.Tie as tie
+use Rattle.samples.proofs.unpacking.word.Statement.{statement}
+use Rattle.samples.proofs.unpacking.word.Tie as tie
 
 shared-slice-read-wide : tie.Need-shared-slice-read-wide
 shared-slice-read-wide c = search needs

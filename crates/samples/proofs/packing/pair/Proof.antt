@@ -1,9 +1,9 @@
--- `samples::bytes::pair` meets its contract: the first number is below 65,536, so the second has the word's upper half.
+-- `samples::packing::pair` meets its contract: the first number is below 65,536, so the second has the word's upper half.
 use native.Mathlib.Omega.{arith}
 use Rattle.samples.proofs.Fields.{bytes-pair}
 use borrow.Author.Needs.{needs}
-use Rattle.samples.proofs.bytes.pair.Statement.{statement}
-use Rattle.samples.proofs.bytes.pair.Tie as tie
+use Rattle.samples.proofs.packing.pair.Statement.{statement}
+use Rattle.samples.proofs.packing.pair.Tie as tie
 
 mul-result : tie.Need-mul-result
 mul-result c = search needs

@@ -1,12 +1,12 @@
--- `samples::bytes::put3` meets its contract: the three stores are those of `sets`.
+-- `samples::packing::put3` meets its contract: the three stores are those of `sets`.
 use Prim.Native.Nat.{_/_}
 use mathlib.Core.Path.{_≡_}
 use native.Mathlib.Omega.{arith}
 use native.Mathlib.Numerals.{add-one, add-two}
 use lib.ListN.{length-set}
 use borrow.Author.Needs.{needs}
-use Rattle.samples.proofs.bytes.put3.Statement.{statement}
-use Rattle.samples.proofs.bytes.put3.Tie as tie
+use Rattle.samples.proofs.packing.put3.Statement.{statement}
+use Rattle.samples.proofs.packing.put3.Tie as tie
 
 cast-dst : tie.Need-cast-dst
 cast-dst c = search needs

@@ -1,12 +1,12 @@
--- `samples::bytes::put4` meets its contract: the four stores are those of `sets`.
+-- `samples::packing::put4` meets its contract: the four stores are those of `sets`.
 use Prim.Native.Nat.{_/_}
 use mathlib.Core.Path.{_≡_}
 use native.Mathlib.Omega.{arith}
 use native.Mathlib.Numerals.{add-one, add-two, add-three}
 use lib.ListN.{length-set}
 use borrow.Author.Needs.{needs}
-use Rattle.samples.proofs.bytes.put4.Statement.{statement}
-use Rattle.samples.proofs.bytes.put4.Tie as tie
+use Rattle.samples.proofs.packing.put4.Statement.{statement}
+use Rattle.samples.proofs.packing.put4.Tie as tie
 
 cast-dst : tie.Need-cast-dst
 cast-dst c = search needs
