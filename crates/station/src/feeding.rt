@@ -106,7 +106,7 @@ fn answer(s: Station, t: Taking, reply: &mut [u8]) -> Fed
     let held = store.held;
     let header = wire::number_at(&held, 0, 2) as u16;
     let kind = wire::type_in(header);
-    let judged = items::judge(settings, kind, wire::length_in(header), &held);
+    let judged = judging::judge(settings, kind, wire::length_in(header), &held);
     let code = judged.code;
     let after = judged.settings;
     if code == 2 {
@@ -148,7 +148,7 @@ fn put_reply(after: Settings, kind: u8, held: &[u8; 64], reply: &mut [u8]) -> us
           × (now (reply .exit) ≡ sets (now (reply .entry)) 0 (fitted room (replyTo (rowOf (field 2 2 (now (held .entry)))) kind after (drop 4 (now (held .entry)))))) ⌝ }
 {
     let message = &held[..];
-    let item = items::item_in(message);
+    let item = judging::item_in(message);
     if kind == 2 {
         return put_range(item, &message[4..], reply);
     }
