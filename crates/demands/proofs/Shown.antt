@@ -1,4 +1,5 @@
--- Demand 2: after an accepted set a request shows the value set, and every other item is as it was.
+-- Demand 2 of items' definitions: after an accepted set a request shows the value set, and every other item is as it was.
+-- What is to be shown of an item is shown of each line of the table, and holds of the line that a message names.
 -- Assumes nothing.
 use Prim.Native.Nat.{ℕ, zero, suc, _+_, _%_, _≤_, _<_}
 use native.Mathlib.Omega.{arith}
@@ -9,8 +10,8 @@ use lib.Dec.{eqb}
 use lib.ListN.{length, getD, take, drop, length-drop}
 use lib.Seq.{drop-cons, length-take-le}
 use borrow.Author.Tests.{eqb-true, not-false}
-use Rattle.wire.specs.Choice.{pick}
-use Rattle.wire.proofs.Laws.{true-not-false, and-not-right}
+use Rattle.wire.specs.Choice.{pick, within}
+use Rattle.wire.proofs.Laws.{true-not-false, and-not-right, pick-same, within-low, within-high}
 use Rattle.wire.specs.Number.{bytes, field}
 use Rattle.wire.specs.Header.{typeSet, typeRequest, typeRange}
 use Rattle.wire.proofs.Numbers.{bytes-number}
@@ -18,15 +19,18 @@ use Rattle.rates.proofs.Rates.{nearest-d}
 use Rattle.framing.specs.Framing.{allBytes}
 use Rattle.items.specs.declared.Settings.{Settings}
 use Rattle.items.specs.Settings.{withRunning, withCount, withMode, isMode}
-use Rattle.items.specs.Items.{Item, items, noItem, listedIn, rowIn, rowOf, runByte, modeByte, idle, run, frequency, gain, clock, rate, packetSize, state, status, listed}
-use Rattle.items.specs.Table.{offered, isTotal}
-use Rattle.items.specs.Answer.{Message, itemIn, row, parameters, valueAllowed, refusedRunning, checks, codeOf, settingsAfter, replyOf}
+use Rattle.items.specs.Items.{Offer, total, dash, Item, items, noItem, listedIn, rowIn, rowOf, runByte, modeByte, idle, run, frequency, gain, clock, rate, packetSize, state, status, listed}
+use Rattle.items.specs.Table.{offerFor, offered, isDash, isTotal}
+use Rattle.items.specs.Answer.{Message, itemIn, row, parameters, valueAllowed, refusedRunning, itemCode, checks, codeOf, settingsAfter, replyOf}
+use Rattle.items.proofs.Classes.{fitting, unnamed}
+use Rattle.items.proofs.Judging.{by-item}
+use Rattle.station.specs.Feeding.{answered}
 use Rattle.station.proofs.Kept.{allFail, accepted, refusals, left-alone}
-use Rattle.demands.specs.Shown.{shownBy, Held, showing, touches, changes, afterAll, noneChanges}
+use Rattle.demands.specs.Shown.{shownBy, valueSet, Held, showing, touches, changes, afterAll, noneChanges}
 
 -- ---- what holds of each line of the table with its code, and of no item, holds of a code and its line
 
-abbrev eachHas : (ℕ → Item → Type 0) → List Item → Type 0
+abbrev pub eachHas : (ℕ → Item → Type 0) → List Item → Type 0
 eachHas P [] = Unit {0}
 eachHas P (i ∷ is) = P (i .code) i × eachHas P is
 
@@ -38,7 +42,7 @@ row-at P none (i ∷ is) code h = go (eqb code (i .code)) refl (row-at P none is
     go true q rest = rw (eqb-true code (i .code) q) (h .0)
     go false q rest = rest
 
-found-at : (P : ℕ → Item → Type 0) → ((code : ℕ) → P code noItem) → eachHas P items → (code : ℕ) → P code (rowOf code)
+pub found-at : (P : ℕ → Item → Type 0) → ((code : ℕ) → P code noItem) → eachHas P items → (code : ℕ) → P code (rowOf code)
 unfolding rowOf
 found-at P none h code = row-at P none items code h
 
@@ -49,7 +53,7 @@ no-such : {X : Type 0} (x y : X) → true ≡ false → x ≡ y
 no-such x y e = absurd (true-not-false e)
 
 -- what an item shows is the same in both settings
-abbrev Same : Item → Settings → Settings → Type 0
+abbrev pub Same : Item → Settings → Settings → Type 0
 Same b s t = (q : List ℕ) → b .value t q ≡ b .value s q
 
 -- a set of the item `a`, whose code is `i`, leaves what every item shows that it does not touch
@@ -63,10 +67,15 @@ leaves-each i a = found-at (λ j b. touches i j ≡ false → (s : Settings) (p 
 
 -- The state: an item that shows the same once the box is idle and once it runs, whatever the mode and the count.
 abbrev Steady : Item → Type 0
-Steady b = ((s : Settings) → Same b s (withRunning false s)) × ((s : Settings) (mode : ℕ) → Same b s (withCount 0 (withMode mode (withRunning true s))))
+Steady b =
+    ((s : Settings) → Same b s (withRunning false s))
+    × ((s : Settings) (mode : ℕ) → Same b s (withCount 0 (withMode mode (withRunning true s))))
+
+steady : (j : ℕ) → touches 0x0018 j ≡ false → Steady (rowOf j)
+steady = found-at (λ j b. touches 0x0018 j ≡ false → Steady b) (λ j t. ((λ s q. refl), (λ s mode q. refl))) (search no-such depth 30)
 
 state-leaves : Leaves 0x0018 state
-state-leaves j t s p = go (eqb (runByte p) idle) (s .running) (found-at (λ j b. touches 0x0018 j ≡ false → Steady b) (λ j t. ((λ s q. refl), (λ s mode q. refl))) (search no-such depth 30) j t)
+state-leaves j t s p = go (eqb (runByte p) idle) (s .running) (steady j t)
   where
     go : (i w : Bool) → Steady (rowOf j)
         → Same (rowOf j) s (pick i (withRunning false s) (pick w s (withCount 0 (withMode (modeByte p) (withRunning true s)))))
@@ -74,7 +83,8 @@ state-leaves j t s p = go (eqb (runByte p) idle) (s .running) (found-at (λ j b.
     go false true h = λ q. refl
     go false false h = h .1 s (modeByte p)
 
--- the table of pairs: where an item is not touched, what it shows of the settings stored computes to what it shows of those before
+-- The table of pairs: what an item that is not touched shows of the settings stored computes to what it shows of those
+-- before. The first five items are never set.
 leave : eachHas Leaves items
 leave = (
   λ j t s p q. refl,
@@ -108,6 +118,8 @@ leave = (
   ),
 )
 
+-- "other items are unchanged": a set of one item, whatever its parameters, leaves the value of every other, but for the status
+-- where the state is set
 pub others-unchanged : (a b : ℕ) → touches a b ≡ false → (s : Settings) (p q : List ℕ)
     → rowOf b .value (rowOf a .stored s p) q ≡ rowOf b .value s q
 others-unchanged a b t s p q = found-at Leaves (λ i j t s p q. refl) leave a b t s p q
@@ -149,7 +161,7 @@ Shows code i =
 -- a run that is accepted while running has the mode that the box has
 state-shows : Shows 0x0018 state
 unfolding shownBy
-state-shows size total s p room b may free q =
+state-shows size long s p room b may free q =
     go (eqb (runByte p) idle) (s .running) (eqb (runByte p) run) (eqb (modeByte p) (s .mode)) refl refl may free
   where
     go : (i w r same : Bool) → s .running ≡ w → eqb (modeByte p) (s .mode) ≡ same
@@ -165,26 +177,26 @@ state-shows size total s p room b may free q =
 show : eachHas Shows items
 unfolding shownBy
 show = (
-  λ size total. absurd (true-not-false (sym total)),
+  λ size long. absurd (true-not-false (sym long)),
   (
-    λ size total. absurd (true-not-false (sym total)),
+    λ size long. absurd (true-not-false (sym long)),
     (
-      λ size total. absurd (true-not-false (sym total)),
+      λ size long. absurd (true-not-false (sym long)),
       (
-        λ size total. absurd (true-not-false (sym total)),
+        λ size long. absurd (true-not-false (sym long)),
         (
-          λ size total. absurd (true-not-false (sym total)),
+          λ size long. absurd (true-not-false (sym long)),
           (
             state-shows,
             (
-              λ size total s p room b may free q. field-shown 1 5 p (omega (arith, eqb-true size 10 total)) b,
+              λ size long s p room b may free q. field-shown 1 5 p (omega (arith, eqb-true size 10 long)) b,
               (
-                λ size total s p room b may free q. byte-shown 1 p (omega (arith, eqb-true size 6 total)) b,
+                λ size long s p room b may free q. byte-shown 1 p (omega (arith, eqb-true size 6 long)) b,
                 (
-                  λ size total s p room b may free q. field-shown 1 4 p (omega (arith, eqb-true size 9 total)) b,
+                  λ size long s p room b may free q. field-shown 1 4 p (omega (arith, eqb-true size 9 long)) b,
                   (
-                    λ size total s p room b may free q. rw (nearest-d (field 1 4 p) may) refl,
-                    (λ size total s p room b may free q. byte-shown 0 p (omega (arith, eqb-true size 5 total)) b, tt),
+                    λ size long s p room b may free q. rw (nearest-d (field 1 4 p) may) refl,
+                    (λ size long s p room b may free q. byte-shown 0 p (omega (arith, eqb-true size 5 long)) b, tt),
                   ),
                 ),
               ),
@@ -243,19 +255,19 @@ asked-leaves s q kind =
     left-alone s q (and-not-right (eqb (codeOf s q) 1) (eqb (q .type) typeSet) (ap (λ (k : ℕ). eqb k typeSet) kind))
 
 -- its code is the same whatever the settings are
-asked-alike : (s t : Settings) (q : Message) → q .type ≡ typeRequest → codeOf t q ≡ codeOf s q
+pub asked-alike : (s t : Settings) (q : Message) → q .type ≡ typeRequest → codeOf t q ≡ codeOf s q
 unfolding codeOf
 asked-alike s t q kind = rw kind
 
 -- and its reply shows the value that its item has
-asked-shows : (s : Settings) (q : Message) → q .type ≡ typeRequest → codeOf s q ≡ 1 → replyOf s q ≡ showing q (row q .value s (parameters q))
+pub asked-shows : (s : Settings) (q : Message) → q .type ≡ typeRequest → codeOf s q ≡ 1 → replyOf s q ≡ showing q (row q .value s (parameters q))
 asked-shows s q kind h =
     answers s q h (rw kind refl) ∙ ap (λ (t : Settings). showing q (row q .value t (parameters q))) (asked-leaves s q kind)
 
 -- ---- messages
 
 -- a message leaves what every item shows that it does not change
-message-leaves : (asked : ℕ) (s : Settings) (m : Message) → changes asked s m ≡ false → Same (rowOf asked) s (settingsAfter s m)
+pub message-leaves : (asked : ℕ) (s : Settings) (m : Message) → changes asked s m ≡ false → Same (rowOf asked) s (settingsAfter s m)
 unfolding settingsAfter
 message-leaves asked s m h q = go (eqb (codeOf s m) 1 && eqb (m .type) typeSet) h
   where
@@ -274,17 +286,17 @@ unfolding settingsAfter
 stores s m h kind = rw (h, kind)
 
 -- after it, its item has the value set
-has-value-set : (s : Settings) (m : Message) → codeOf s m ≡ 1 → m .type ≡ typeSet → Held m
-    → (q : List ℕ) → row m .value (settingsAfter s m) q ≡ shownBy (itemIn m) s (parameters m)
+pub has-value-set : (s : Settings) (m : Message) → codeOf s m ≡ 1 → m .type ≡ typeSet → Held m
+    → (q : List ℕ) → row m .value (settingsAfter s m) q ≡ valueSet s m
 has-value-set s m h kind held q =
     rw (stores s m h kind)
-    (found-at Shows (λ code size total. absurd (true-not-false (sym total))) show (itemIn m) (m .size) (rw kind at (has-length s m h)) s
+    (found-at Shows (λ code size long. absurd (true-not-false (sym long))) show (itemIn m) (m .size) (rw kind at (has-length s m h)) s
     (parameters m) (rw length-drop (omega (arith, held .whole))) (all-drop 4 (m .held) (held .areBytes)) (rw kind at (has-value s m h))
     (rw kind at (is-free s m h)) q)
 
 -- "is echoed": the reply to an accepted set has the value set
 pub set-replies : (s : Settings) (m : Message) → codeOf s m ≡ 1 → m .type ≡ typeSet → Held m
-    → replyOf s m ≡ showing m (shownBy (itemIn m) s (parameters m))
+    → replyOf s m ≡ showing m (valueSet s m)
 set-replies s m h kind held =
     answers s m h (rw kind refl) ∙ ap (showing m) (has-value-set s m h kind held (parameters m))
 
@@ -294,7 +306,7 @@ pub set-shows-later : (s : Settings) (m : Message) (ms : List Message) (q : Mess
     → codeOf s m ≡ 1 → m .type ≡ typeSet → Held m
     → noneChanges (itemIn m) (settingsAfter s m) ms
     → q .type ≡ typeRequest → itemIn q ≡ itemIn m → codeOf (afterAll (settingsAfter s m) ms) q ≡ 1
-    → replyOf (afterAll (settingsAfter s m) ms) q ≡ showing q (shownBy (itemIn m) s (parameters m))
+    → replyOf (afterAll (settingsAfter s m) ms) q ≡ showing q (valueSet s m)
 set-shows-later s m ms q h kind held none asked same answered =
     asked-shows (afterAll (settingsAfter s m) ms) q asked answered
     ∙ ap (showing q)
@@ -304,21 +316,26 @@ set-shows-later s m ms q h kind held none asked same answered =
 pub set-shows : (s : Settings) (m q : Message)
     → codeOf s m ≡ 1 → m .type ≡ typeSet → Held m
     → q .type ≡ typeRequest → itemIn q ≡ itemIn m → codeOf (settingsAfter s m) q ≡ 1
-    → replyOf (settingsAfter s m) q ≡ showing q (shownBy (itemIn m) s (parameters m))
+    → replyOf (settingsAfter s m) q ≡ showing q (valueSet s m)
 set-shows s m q h kind held asked same answered = set-shows-later s m [] q h kind held tt asked same answered
 
--- whatever messages come, a request that none of them changes is answered as before, accepted or not
+-- a request whose item shows the same is answered alike, accepted or not
+pub answered-alike : (s t : Settings) (q : Message) → q .type ≡ typeRequest → Same (row q) s t → replyOf t q ≡ replyOf s q
+unfolding replyOf
+answered-alike s t q asked same =
+    rw (asked-leaves t q asked, asked-leaves s q asked, asked-alike s t q asked, asked, same (parameters q))
+
+-- "other items are unchanged": whatever messages come, a request of an item that none of them changes is answered as before
 pub same-answer : (s : Settings) (ms : List Message) (q : Message) → q .type ≡ typeRequest → noneChanges (itemIn q) s ms
     → replyOf (afterAll s ms) q ≡ replyOf s q
-unfolding replyOf
-same-answer s ms q asked none =
-    rw (asked-leaves (afterAll s ms) q asked, asked-leaves s q asked, asked-alike s (afterAll s ms) q asked, asked, messages-leave (itemIn q) s ms none (parameters q))
+same-answer s ms q asked none = answered-alike s (afterAll s ms) q asked (messages-leave (itemIn q) s ms none)
 
--- the one exception: after an accepted set of the state the status shows it, 0B idle and 0C running
-pub status-shows : (s : Settings) (m : Message) → codeOf s m ≡ 1 → m .type ≡ typeSet → itemIn m ≡ state .code
+-- The one exception: after an accepted set of the state, and any messages that do not change what the status shows, an
+-- accepted request of the status shows it, "0B idle, 0C running".
+status-value : (s : Settings) (m : Message) → codeOf s m ≡ 1 → m .type ≡ typeSet → itemIn m ≡ state .code
     → (q : List ℕ) → rowOf (status .code) .value (settingsAfter s m) q ≡ pick (eqb (runByte (parameters m)) idle) 0x0B 0x0C ∷ []
 unfolding rowOf
-status-shows s m h kind item q =
+status-value s m h kind item q =
     rw (stores s m h kind ∙ ap (λ (code : ℕ). rowOf code .stored s (parameters m)) item)
     (go (eqb (runByte (parameters m)) idle) (s .running) refl)
   where
@@ -328,3 +345,74 @@ status-shows s m h kind item q =
     go true w running = refl
     go false true running = rw running
     go false false running = refl
+
+pub status-shows : (s : Settings) (m : Message) (ms : List Message) (q : Message)
+    → codeOf s m ≡ 1 → m .type ≡ typeSet → itemIn m ≡ state .code
+    → noneChanges (status .code) (settingsAfter s m) ms
+    → q .type ≡ typeRequest → itemIn q ≡ status .code → codeOf (afterAll (settingsAfter s m) ms) q ≡ 1
+    → replyOf (afterAll (settingsAfter s m) ms) q ≡ showing q (pick (eqb (runByte (parameters m)) idle) 0x0B 0x0C ∷ [])
+status-shows s m ms q h kind item none asked same answered =
+    asked-shows (afterAll (settingsAfter s m) ms) q asked answered
+    ∙ ap (showing q)
+    (rw same (messages-leave (status .code) (settingsAfter s m) ms none (parameters q) ∙ status-value s m h kind item (parameters q)))
+
+-- ---- what the table offers is obeyed: a box that NAKs all is ruled out
+
+-- a length of the table is one of a control message
+abbrev fits : Offer → Bool
+fits (total n) = within 4 64 n
+fits dash = true
+
+-- what is offered has a length of the table
+total-fits : (o : Offer) (size : ℕ) → fits o ≡ true → isTotal o size ≡ true → (4 ≤ size) × (size ≤ 64) × (isDash o ≡ false)
+total-fits (total n) size f t = rw (eqb-true size n t) (within-low 4 64 n f, within-high 4 64 n f, refl)
+total-fits dash size f t = absurd (true-not-false (sym t))
+
+-- and is a set, a request or a range request
+offer-kind : (a b c : Offer) (kind size : ℕ) → isTotal (offerFor a b c kind) size ≡ true → kind ≤ 2
+offer-kind a b c kind size = go (eqb kind typeSet) (eqb kind typeRequest) (eqb kind typeRange) refl refl refl
+  where
+    go : (s r g : Bool) → eqb kind typeSet ≡ s → eqb kind typeRequest ≡ r → eqb kind typeRange ≡ g
+        → isTotal (pick s a (pick r b (pick g c dash))) size ≡ true → kind ≤ 2
+    go true r g p q u t = omega (arith, eqb-true kind typeSet p)
+    go false true g p q u t = omega (arith, eqb-true kind typeRequest q)
+    go false false true p q u t = omega (arith, eqb-true kind typeRange u)
+    go false false false p q u t = absurd (true-not-false (sym t))
+
+offer-fits : (a b c : Offer) (kind : ℕ) → fits a ≡ true → fits b ≡ true → fits c ≡ true → fits (offerFor a b c kind) ≡ true
+offer-fits a b c kind p q u = go (eqb kind typeSet) (eqb kind typeRequest) (eqb kind typeRange)
+  where
+    go : (s r g : Bool) → fits (pick s a (pick r b (pick g c dash))) ≡ true
+    go true r g = p
+    go false true g = q
+    go false false true = u
+    go false false false = refl
+
+-- each line has lengths that fit, and what is offered is listed
+abbrev Offers : ℕ → Item → Type 0
+Offers code i =
+    (fits (i .set) ≡ true) × (fits (i .request) ≡ true) × (fits (i .range) ≡ true)
+    × ((kind size : ℕ) → isTotal (offered i kind) size ≡ true → listed code ≡ true)
+
+offers : eachHas Offers items
+unfolding listed
+offers = search depth 30
+
+none-offered : (kind size : ℕ) → isTotal (offered noItem kind) size ≡ false
+none-offered kind size = simp pick-same
+
+offers-at : (code : ℕ) → Offers code (rowOf code)
+offers-at code =
+    found-at Offers (λ code. (refl, refl, refl, λ kind size t. absurd (true-not-false (sym t ∙ none-offered kind size)))) offers code
+
+-- A message of a kind and a length that the table offers is obeyed unless the item refuses it, with 15, 16 or 17.
+pub obeyed : (s : Settings) (m : Message) → isTotal (offered (row m) (m .type)) (m .size) ≡ true
+    → itemCode (row m) (m .type) s (parameters m) ≡ 1 → codeOf s m ≡ 1
+obeyed s m t free =
+    let o = offers-at (itemIn m) in
+    let f = total-fits (offered (row m) (m .type)) (m .size) (offer-fits (row m .set) (row m .request) (row m .range) (m .type) (o .0) (o .1) (o .2)) t in
+    let k = offer-kind (row m .set) (row m .request) (row m .range) (m .type) (m .size) t in
+    by-item s m
+    (sym (fitting (m .type) (m .size) k (f .0) (f .1) ∙ unnamed (m .type) (m .size) (getD (m .held) 2 0) k))
+    (rw (o .3 (m .type) (m .size) t, f .2, t))
+    ∙ free

@@ -1,19 +1,24 @@
 -- Demand 2: after an accepted set a request shows the value set, and every other item is as it was. "A box that echoes
 -- without storing" does not do so: "later requests show the setting".
-use Prim.Native.Nat.{ℕ, _≤_}
+use Prim.Native.Nat.{ℕ, _-_, _≤_}
 use mathlib.Core.Path.{_≡_}
-use mathlib.Core.Bool.{Bool, false, _&&_, _||_}
+use mathlib.Core.Bool.{Bool, true, false, _&&_, _||_}
 use mathlib.Core.List.{List, [], _∷_, _++_}
 use lib.Dec.{eqb}
-use lib.ListN.{length, take, drop}
+use lib.IntN.{ℤ}
+use lib.ListN.{length, take, drop, replicate}
 use Rattle.wire.specs.Choice.{pick}
 use Rattle.wire.specs.Number.{bytes, field}
-use Rattle.wire.specs.Header.{typeSet, typeReply}
-use Rattle.framing.specs.Framing.{allBytes}
+use Rattle.wire.specs.Header.{lengthIn, typeIn, nak, typeSet, typeRequest, typeReply}
+use Rattle.framing.specs.Framing.{allBytes, between, taken, headerIn, announced}
 use Rattle.rates.specs.Rate.{nearestOf, rateOf}
 use Rattle.items.specs.declared.Settings.{Settings}
 use Rattle.items.specs.Items.{status, state, idle, run, runByte, modeByte}
 use Rattle.items.specs.Answer.{Message, itemIn, row, parameters, codeOf, settingsAfter, framed}
+use Rattle.station.specs.declared.Station.{Station}
+use Rattle.station.specs.Station.{valid}
+use Rattle.station.specs.Feeding.{Feeding, messageIn, feedingOf}
+use Rattle.cutting.specs.Cutting.{cuttingOf}
 
 -- What a request shows after an accepted set, by the settings before the set and the set's parameters: a line for each
 -- item that can be set.
@@ -51,9 +56,13 @@ abbrev pub shownIn : List Line → ℕ → Settings → List ℕ → List ℕ
 shownIn [] code s p = []
 shownIn (l ∷ ls) code s p = pick (eqb code (l .code)) (l .shown s p) (shownIn ls code s p)
 
--- what a request of an item shows after an accepted set of it
+-- what a request of an item shows after an accepted set of it with these parameters
 unfoldable pub shownBy : ℕ → Settings → List ℕ → List ℕ
 shownBy code s p = shownIn lines code s p
+
+-- "the value set": the same of a message
+abbrev pub valueSet : Settings → Message → List ℕ
+valueSet s m = shownBy (itemIn m) s (parameters m)
 
 -- all of the message is held, and each place holds a byte
 pub record Held (m : Message) : Type 0 where
@@ -82,3 +91,71 @@ afterAll s (m ∷ ms) = afterAll (settingsAfter s m) ms
 abbrev pub noneChanges : ℕ → Settings → List Message → Type 0
 noneChanges asked s [] = Unit {0}
 noneChanges asked s (m ∷ ms) = (changes asked s m ≡ false) × noneChanges asked (settingsAfter s m) ms
+
+-- The same of a box that is fed.
+
+-- the bytes of one message: as many as its header announces, and no more than the box keeps
+pub record OneMessage (m : List ℕ) : Type 0 where
+  pub areBytes : allBytes m
+  pub announces : announced m ≡ length m
+  pub least : 2 ≤ length m
+  pub most : length m ≤ 64
+
+-- the message that a box holds when it has taken them: "unused places are zero"
+abbrev pub messageOf : List ℕ → Message
+messageOf m = record { type = typeIn (headerIn m); size = lengthIn (headerIn m); held = m ++ replicate (64 - length m) 0 }
+
+-- a box between messages
+abbrev pub resting : Settings → Station
+resting s = record { settings = s; store = between }
+
+-- a call is done, and wrote this reply
+abbrev pub repliesWith : Feeding → List ℕ → Type 0
+repliesWith f reply = (f .fed .code ≡ 1) × (f .bytes ≡ reply)
+
+-- Demand 2 of a way to feed a box, whichever it is: a whole set that is to be accepted is fed in one call, and a whole
+-- request of the same item in the next. Both replies show the value set.
+abbrev pub ShowsSets : (Station → List ℕ → ℕ → Feeding) → Type 0
+ShowsSets feed =
+    (s : Settings) (m : List ℕ) (room : ℕ) (q : List ℕ) (later : ℕ)
+    → valid (resting s) ≡ true → length (s .serial) ≡ 8 → 64 ≤ room → 64 ≤ later
+    → OneMessage m → messageOf m .type ≡ typeSet → codeOf s (messageOf m) ≡ 1
+    → OneMessage q → messageOf q .type ≡ typeRequest → itemIn (messageOf q) ≡ itemIn (messageOf m) → codeOf s (messageOf q) ≡ 1
+    → repliesWith (feed (resting s) m room) (showing (messageOf m) (valueSet s (messageOf m)))
+    × repliesWith (feed (feed (resting s) m room .fed .station) q later) (showing (messageOf q) (valueSet s (messageOf m)))
+
+-- "a box that NAKs all", with whatever code
+abbrev pub naksAll : ℕ → Station → List ℕ → ℕ → Feeding
+naksAll code s host room = record { fed = record { code = code; consumed = length host; wrote = 2; station = s }; bytes = nak }
+
+-- "a box that echoes without storing": it answers as it should, and stays as it was
+abbrev pub echoesOnly : Station → List ℕ → ℕ → Feeding
+echoesOnly s host room =
+    record {
+      fed =
+          record {
+            code = feedingOf s host room .fed .code;
+            consumed = feedingOf s host room .fed .consumed;
+            wrote = feedingOf s host room .fed .wrote;
+            station = record { settings = s .settings; store = feedingOf s host room .fed .station .store };
+          };
+      bytes = feedingOf s host room .bytes;
+    }
+
+-- the message that a call finishes, where it finishes one
+abbrev pub finishedBy : Station → List ℕ → Message
+finishedBy s host = messageIn (taken (s .store) host .store)
+
+-- the call accepts a set, and of an item that can change what `asked` shows
+abbrev pub disturbs : ℕ → Station → List ℕ → ℕ → Bool
+disturbs asked s host room =
+    eqb (feedingOf s host room .fed .code) 1
+    && eqb (finishedBy s host .type) typeSet
+    && touches (itemIn (finishedBy s host)) asked
+
+-- From one box to another by any calls of feeding and cutting, each refused or not, of which none changes what `asked` shows.
+pub data Undisturbed (asked : ℕ) : Station → Station → Type 0 where
+  still : (s : Station) → Undisturbed asked s s
+  fed : (s t : Station) (host : List ℕ) (room : ℕ) → Undisturbed asked s t → disturbs asked t host room ≡ false
+      → Undisturbed asked s (feedingOf t host room .fed .station)
+  cut : (s t : Station) (samples : List ℤ) (room : ℕ) → Undisturbed asked s t → Undisturbed asked s (cuttingOf t samples room .cut .station)

@@ -1,0 +1,230 @@
+-- Demand 2 of the box: it is fed a whole set and, after any calls that leave its item, a whole request. The messages are
+-- answered as in Shown.antt, and feeding and cutting in between leave what the item shows.
+-- Assumes nothing.
+use Prim.Native.Nat.{ℕ, zero, suc, _+_, _-_, _≤_, _<_, max}
+use native.Mathlib.Nat.{le-trans}
+use native.Mathlib.Omega.{arith}
+use mathlib.Core.Path.{_≡_, refl, sym, ap, _∙_}
+use mathlib.Core.Bool.{Bool, true, false, _&&_, not}
+use mathlib.Core.List.{List, [], _∷_, _++_}
+use lib.Dec.{eqb, leb, ltb, lit≤}
+use lib.IntN.{ℤ}
+use lib.ListN.{length, getD, replicate, length-append, length-replicate}
+use lib.Seq.{take-append-le}
+use Rattle.wire.specs.Choice.{pick}
+use Rattle.wire.specs.Number.{number}
+use Rattle.wire.specs.Header.{lengthIn, typeIn, typeSet, typeRequest, typeData}
+use Rattle.framing.specs.declared.Taking.{Taking}
+use Rattle.framing.specs.Framing.{allBytes, totalOf, headerIn, between, finished, taking, taken, couldBeLeft}
+use Rattle.framing.proofs.Cutting.{told}
+use Rattle.items.specs.declared.Settings.{Settings}
+use Rattle.items.specs.Settings.{inRange, freshOf, withCount}
+use Rattle.items.specs.Items.{rowOf, listed}
+use Rattle.items.specs.Answer.{Message, itemIn, row, parameters, codeOf, settingsAfter, replyOf}
+use Rattle.station.specs.declared.Station.{Station}
+use Rattle.station.specs.Station.{valid}
+use Rattle.station.specs.Feeding.{messageIn, Feeding, refused, waiting, answered, feedingOf}
+use Rattle.station.proofs.Short.{reply-short}
+use Rattle.station.proofs.Valid.{feeding-answered}
+use Rattle.cutting.specs.Cutting.{cutCode, cutFrom, cuttingOf}
+use Rattle.demands.proofs.Reached.{feeding-keeps, cutting-keeps}
+use Rattle.demands.proofs.OneMessage.{tookAll, one-message}
+use Rattle.station.proofs.Kept.{serial-kept}
+use Rattle.demands.specs.Shown.{shownBy, valueSet, Held, showing, OneMessage, messageOf, resting, repliesWith, ShowsSets, finishedBy, naksAll, echoesOnly, Undisturbed, still, fed, cut}
+use Rattle.demands.proofs.Shown.{Same, found-at, message-leaves, asked-alike, asked-shows, answered-alike, has-value-set, set-replies}
+
+-- ---- one whole message, fed in one call to a box between messages
+
+all-append : (a b : List ℕ) → allBytes a → allBytes b → allBytes (a ++ b)
+all-append [] b h k = k
+all-append (x ∷ a) b h k = (h .0, all-append a b (h .1) k)
+
+all-zero : (n : ℕ) → allBytes (replicate n 0)
+all-zero zero = tt
+all-zero (suc n) = (lit≤ tt, all-zero n)
+
+-- a header announces at least its length
+length-announced : (kind size : ℕ) → size < 8192 → size ≤ totalOf kind size
+length-announced kind size h = go (leb typeData kind && eqb size 0)
+  where
+    go : (b : Bool) → size ≤ pick b 8194 (max 2 size)
+    go true = omega arith
+    go false = omega arith
+
+module _ (m : List ℕ) (one : OneMessage m) where
+  -- it is held whole
+  pub held-whole : Held (messageOf m)
+  held-whole =
+      let room : length (m ++ replicate (64 - length m) 0) ≡ 64 = simp (length-append, length-replicate) (omega (arith, one .most)) in
+      record {
+        whole =
+            rw room
+            (omega (arith, length-announced (typeIn (headerIn m)) (lengthIn (headerIn m)) (omega arith), one .announces, one .most));
+        areBytes = all-append m (replicate (64 - length m) 0) (one .areBytes) (all-zero (64 - length m));
+      }
+
+  took : taken between m ≡ tookAll m
+  took = one-message m (one .announces) (one .least) (one .most)
+
+  is-message : messageIn (taken between m .store) ≡ messageOf m
+  is-message =
+      ap (λ (t : Taking). messageIn (t .store)) took
+      ∙ ap (λ (bs : List ℕ). record { type = typeIn (number bs); size = lengthIn (number bs); held = m ++ replicate (64 - length m) 0 })
+      (take-append-le 2 m (replicate (64 - length m) 0) (one .least))
+
+  -- a valid box answers it
+  pub message-fed : (s : Settings) (room : ℕ) → valid (resting s) ≡ true → length (s .serial) ≡ 8 → 64 ≤ room
+      → (feedingOf (resting s) m room .fed .code ≡ codeOf s (messageOf m))
+      × (feedingOf (resting s) m room .fed .station ≡ resting (settingsAfter s (messageOf m)))
+      × (feedingOf (resting s) m room .bytes ≡ replyOf s (messageOf m))
+  message-fed s room v eight enough =
+      rw (feeding-answered s between m room v (told 0 between m ∙ ap (λ (t : Taking). t .finished) took)
+      (le-trans (reply-short s (messageIn (taken between m .store)) eight) enough))
+      (ap (codeOf s) is-message, ap (λ (x : Message). resting (settingsAfter s x)) is-message, ap (replyOf s) is-message)
+
+-- ---- the calls in between
+
+-- what holds of the settings before a call, and of those after the message that it answers, holds of those after the call
+feeding-by : (P : Settings → Type 0) (s : Station) (host : List ℕ) (room : ℕ) → P (s .settings)
+    → (feedingOf s host room .fed .code ≡ codeOf (s .settings) (finishedBy s host)
+    → P (settingsAfter (s .settings) (finishedBy s host)))
+    → P (feedingOf s host room .fed .station .settings)
+unfolding feedingOf
+feeding-by P s host room before after =
+    go (valid s) (finished (taken (s .store) host .store))
+    (ltb room (length (replyOf (s .settings) (finishedBy s host)))) after
+  where
+    Fed : Bool → Bool → Bool → Feeding
+    Fed v d short =
+        pick (not v) (refused 21 s)
+        (pick (not d) (waiting (s .settings) (taken (s .store) host))
+        (pick short (refused 20 s) (answered (s .settings) (taken (s .store) host))))
+
+    go : (v d short : Bool)
+        → (Fed v d short .fed .code ≡ codeOf (s .settings) (finishedBy s host)
+        → P (settingsAfter (s .settings) (finishedBy s host)))
+        → P (Fed v d short .fed .station .settings)
+    go false d short h = before
+    go true false short h = before
+    go true true true h = before
+    go true true false h = h refl
+
+-- a cut counts one packet more, or leaves the settings
+cutting-by : (P : Settings → Type 0) (s : Station) (samples : List ℤ) (room : ℕ) → P (s .settings)
+    → P (withCount (s .settings .count + 1) (s .settings)) → P (cuttingOf s samples room .cut .station .settings)
+unfolding cuttingOf
+cutting-by P s samples room before after = go (eqb (cutCode s samples room) 1)
+  where
+    go : (b : Bool) → P (pick b (cutFrom s samples) (Rattle.cutting.specs.Cutting.refused (cutCode s samples room) s) .cut .station .settings)
+    go true = after
+    go false = before
+
+-- no item shows the count
+count-leaves : (asked : ℕ) (s : Settings) (n : ℕ) → Same (rowOf asked) s (withCount n s)
+count-leaves = found-at (λ code i. (s : Settings) (n : ℕ) → Same i s (withCount n s)) (λ code s n q. refl) (search depth 30)
+
+-- what the calls keep
+record Keeps (asked : ℕ) (s t : Station) : Type 0 where
+  same : Same (rowOf asked) (s .settings) (t .settings)
+  serial : t .settings .serial ≡ s .settings .serial
+  stays : valid s ≡ true → valid t ≡ true
+
+kept : (asked : ℕ) (s t : Station) → Undisturbed asked s t → Keeps asked s t
+kept asked s t (still u) = record { same = λ q. refl; serial = refl; stays = λ v. v }
+kept asked s t (fed b u host room rest calm) =
+    let k = kept asked b u rest in
+    record {
+      same = λ q. feeding-by (λ x. rowOf asked .value x q ≡ rowOf asked .value (u .settings) q) u host room refl
+          (λ code. message-leaves asked (u .settings) (finishedBy u host) (rw code at calm) q) ∙ k .same q;
+      serial = feeding-by (λ x. x .serial ≡ u .settings .serial) u host room refl
+          (λ code. serial-kept (u .settings) (finishedBy u host)) ∙ k .serial;
+      stays = λ v. feeding-keeps u host room (k .stays v);
+    }
+kept asked s t (cut b u samples room rest) =
+    let k = kept asked b u rest in
+    record {
+      same = λ q. cutting-by (λ x. rowOf asked .value x q ≡ rowOf asked .value (u .settings) q) u samples room refl
+          (count-leaves asked (u .settings) (u .settings .count + 1) q) ∙ k .same q;
+      serial = cutting-by (λ x. x .serial ≡ u .settings .serial) u samples room refl refl ∙ k .serial;
+      stays = λ v. cutting-keeps u samples room (k .stays v);
+    }
+
+-- Demand 2, of the box: a whole set that is accepted is fed in one call; then any calls of feeding and cutting, none of
+-- which changes what its item shows; then, between messages, a whole request of it. The reply shows the value set.
+pub fed-set-shows-later : (s : Settings) (m : List ℕ) (room : ℕ) (t : Settings) (q : List ℕ) (later : ℕ)
+    → valid (resting s) ≡ true → length (s .serial) ≡ 8 → 64 ≤ room → 64 ≤ later
+    → OneMessage m → messageOf m .type ≡ typeSet → codeOf s (messageOf m) ≡ 1
+    → Undisturbed (itemIn (messageOf m)) (feedingOf (resting s) m room .fed .station) (resting t)
+    → OneMessage q → messageOf q .type ≡ typeRequest → itemIn (messageOf q) ≡ itemIn (messageOf m) → codeOf s (messageOf q) ≡ 1
+    → repliesWith (feedingOf (resting t) q later) (showing (messageOf q) (valueSet s (messageOf m)))
+fed-set-shows-later s m room t q later v eight enough more one kind h calm two asked same answered =
+    let f = message-fed m one s room v eight enough in
+    let k = kept (itemIn (messageOf m)) (feedingOf (resting s) m room .fed .station) (resting t) calm in
+    let long : length (t .serial) ≡ 8 =
+    ap length (k .serial ∙ ap (λ (b : Station). b .settings .serial) (f .1) ∙ serial-kept s (messageOf m)) ∙ eight in
+    let g = message-fed q two t later (k .stays (feeding-keeps (resting s) m room v)) long more in
+    let now : codeOf t (messageOf q) ≡ 1 = asked-alike s t (messageOf q) asked ∙ answered in
+    let value : row (messageOf m) .value t (parameters (messageOf q)) ≡ valueSet s (messageOf m) =
+    k .same (parameters (messageOf q))
+    ∙ ap (λ (b : Station). row (messageOf m) .value (b .settings) (parameters (messageOf q))) (f .1)
+    ∙ has-value-set s (messageOf m) h kind (held-whole m one) (parameters (messageOf q)) in (
+      g .0 ∙ now,
+      g .2
+          ∙ asked-shows t (messageOf q) asked now
+          ∙ ap (showing (messageOf q)) (ap (λ (code : ℕ). rowOf code .value t (parameters (messageOf q))) same ∙ value),
+    )
+
+-- The same at once: the whole set in one call, and the whole request in the next.
+pub fed-set-shows : ShowsSets feedingOf
+fed-set-shows s m room q later v eight enough more one kind h two asked same answered =
+    let f = message-fed m one s room v eight enough in (
+      (f .0 ∙ h, f .2 ∙ set-replies s (messageOf m) h kind (held-whole m one)),
+      rw (f .1)
+          (fed-set-shows-later s m room (settingsAfter s (messageOf m)) q later v eight enough more one kind h
+          (rw (f .1) (still (resting (settingsAfter s (messageOf m))))) two asked same answered),
+    )
+
+-- And other items are unchanged: after any calls, none of which changes what it shows, a whole request is answered as before.
+pub fed-same-answer : (s t : Settings) (q : List ℕ) (room later : ℕ)
+    → valid (resting s) ≡ true → length (s .serial) ≡ 8 → 64 ≤ room → 64 ≤ later
+    → OneMessage q → messageOf q .type ≡ typeRequest → Undisturbed (itemIn (messageOf q)) (resting s) (resting t)
+    → feedingOf (resting t) q later .bytes ≡ feedingOf (resting s) q room .bytes
+fed-same-answer s t q room later v eight enough more one asked calm =
+    let k = kept (itemIn (messageOf q)) (resting s) (resting t) calm in
+    message-fed q one t later (k .stays v) (ap length (k .serial) ∙ eight) more .2
+    ∙ answered-alike s t (messageOf q) asked (k .same)
+    ∙ sym (message-fed q one s room v eight enough .2)
+
+-- ---- two boxes that are none of ours
+
+-- a fresh box, a set of its frequency to 14,010,000 Hz, and a request of it
+abbrev start : Settings
+start = freshOf (replicate 8 0x30)
+
+abbrev tune : List ℕ
+tune = 0x0A ∷ 0x00 ∷ 0x20 ∷ 0x00 ∷ 0x00 ∷ 0x90 ∷ 0xC6 ∷ 0xD5 ∷ 0x00 ∷ 0x00 ∷ []
+
+abbrev ask : List ℕ
+ask = 0x05 ∷ 0x20 ∷ 0x20 ∷ 0x00 ∷ 0x00 ∷ []
+
+-- a box that shows its sets answers both with the bytes of the set
+tuned : (feed : Station → List ℕ → ℕ → Feeding) → ShowsSets feed
+    → repliesWith (feed (resting start) tune 64) tune × repliesWith (feed (feed (resting start) tune 64 .fed .station) ask 64) tune
+unfolding valid inRange couldBeLeft listed rowOf codeOf shownBy
+tuned feed shows =
+    shows start tune 64 ask 64 refl refl (lit≤ tt) (lit≤ tt)
+    (record { areBytes = search lit≤ depth 20; announces = refl; least = lit≤ tt; most = lit≤ tt }) refl refl
+    (record { areBytes = search lit≤ depth 20; announces = refl; least = lit≤ tt; most = lit≤ tt }) refl refl refl
+
+-- the first reply is no NAK
+pub naks-all-fails : (code : ℕ) → ShowsSets (naksAll code) → ⊥
+naks-all-fails code shows =
+    let wrong : _≡_ {A = ℕ} 0x02 0x0A = ap (λ (bs : List ℕ). getD bs 0 0) (tuned (naksAll code) shows .0 .1) in
+    omega arith
+
+-- the second shows the frequency set, and not that of the fresh box
+pub echoes-only-fails : ShowsSets echoesOnly → ⊥
+unfolding feedingOf valid inRange couldBeLeft taking listed rowOf codeOf replyOf settingsAfter
+echoes-only-fails shows =
+    let wrong : _≡_ {A = ℕ} 0x80 0x90 = ap (λ (bs : List ℕ). getD bs 5 0) (tuned echoesOnly shows .1 .1) in
+    omega arith
