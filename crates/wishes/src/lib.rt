@@ -168,7 +168,7 @@ pub fn allows(w: Wish) -> bool
         Wish::SetFrequency(hz) => tuning::in_bands(hz),
         Wish::SetGain(g) => items::ranges::is_gain(gain_byte(g)),
         Wish::SetClock(hz) => tuning::is_clock(hz),
-        Wish::SetRate(hz) => wire::within(32_000, 2_000_000, hz as u64),
+        Wish::SetRate(hz) => rates::may_ask(hz),
         Wish::SetPacketSize(n) => items::ranges::is_size(n),
         _ => true,
     }

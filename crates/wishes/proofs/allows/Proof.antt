@@ -42,11 +42,8 @@ is-clock-requires c κs = search needs
 enum-known-w-6 : tie.Need-enum-known-w-6
 enum-known-w-6 c = search needs
 
-cast-within : tie.Need-cast-within
-cast-within c = search needs
-
-within-requires : tie.Need-within-requires
-within-requires c κs = search needs
+may-ask-requires : tie.Need-may-ask-requires
+may-ask-requires c κs = search needs
 
 enum-known-w-7 : tie.Need-enum-known-w-7
 enum-known-w-7 c = search needs
@@ -73,7 +70,7 @@ returns-5 : tie.Need-returns-5
 returns-5 c = rw (c .before .before .w5 .given .1) (c .is-clock .ensures)
 
 returns-6 : tie.Need-returns-6
-returns-6 c = rw (c .before .before .w6 .given .1) (c .within .ensures)
+returns-6 c = rw (c .before .before .w6 .given .1) (c .may-ask .ensures)
 
 returns-7 : tie.Need-returns-7
 returns-7 c = rw (c .before .before .w7 .given .1) (c .is-size .ensures)
@@ -97,8 +94,7 @@ allows-spec =
     enum-known-w-5
     is-clock-requires
     enum-known-w-6
-    cast-within
-    within-requires
+    may-ask-requires
     enum-known-w-7
     is-size-requires
     returns

@@ -1,0 +1,8 @@
+pub mod Layouts
+pub mod Same
+pub mod Tags
+pub mod Bytes
+pub mod Recognised
+pub mod Values
+pub mod Answers
+pub mod Exactly
