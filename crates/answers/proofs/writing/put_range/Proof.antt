@@ -8,10 +8,10 @@ use denote.Ref.{now}
 use Rattle.wire.specs.Header.{typeRangeReply}
 use Rattle.items.specs.Items.{rowOf}
 use Rattle.items.specs.Answer.{framed, rangeBody}
-use Rattle.replies.proofs.Room.{no-room, room, range-put}
+use Rattle.answers.proofs.Room.{no-room, room, range-put}
 use borrow.Author.Needs.{needs}
-use Rattle.replies.proofs.writing.put_range.Statement.{statement}
-use Rattle.replies.proofs.writing.put_range.Tie as tie
+use Rattle.answers.proofs.writing.put_range.Statement.{statement}
+use Rattle.answers.proofs.writing.put_range.Tie as tie
 
 abbrev whole : tie.Start → List ℕ
 whole c = framed typeRangeReply (rangeBody (rowOf (c .args .item)) (c .args .channel ∷ []))

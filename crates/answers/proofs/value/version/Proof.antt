@@ -1,10 +1,10 @@
 -- Each id has its line of the table.
 use mathlib.Core.Path.{_≡_, refl, ap, _∙_}
 use Rattle.layouts.specs.Layouts.{laid}
-use Rattle.replies.proofs.Values.{no-version}
+use Rattle.answers.proofs.Values.{no-version}
 use borrow.Author.Needs.{needs}
-use Rattle.replies.proofs.value.version.Statement.{statement}
-use Rattle.replies.proofs.value.version.Tie as tie
+use Rattle.answers.proofs.value.version.Statement.{statement}
+use Rattle.answers.proofs.value.version.Tie as tie
 
 with-echo-requires : tie.Need-with-echo-requires
 with-echo-requires c κs = search needs

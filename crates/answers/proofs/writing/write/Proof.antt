@@ -6,11 +6,11 @@ use borrow.Author.Tests.{ne-eqb}
 use Rattle.wire.specs.Header.{nak, typeReply, typeRangeReply}
 use Rattle.items.specs.Items.{rowOf}
 use Rattle.items.specs.Answer.{framed, replyBody, rangeBody}
-use Rattle.replies.specs.Replies.{due}
-use Rattle.replies.proofs.Room.{wrote-as, message-put}
+use Rattle.answers.specs.Replies.{due}
+use Rattle.answers.proofs.Room.{wrote-as, message-put}
 use borrow.Author.Needs.{needs}
-use Rattle.replies.proofs.writing.write.Statement.{statement}
-use Rattle.replies.proofs.writing.write.Tie as tie
+use Rattle.answers.proofs.writing.write.Statement.{statement}
+use Rattle.answers.proofs.writing.write.Tie as tie
 
 put-nak-requires : tie.Need-put-nak-requires
 put-nak-requires c κs = search needs

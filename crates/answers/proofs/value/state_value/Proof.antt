@@ -1,9 +1,9 @@
 -- The four bytes of the sum are its parts.
 use lib.Dec.{lit<}
-use Rattle.replies.proofs.Values.{state-bytes}
+use Rattle.answers.proofs.Values.{state-bytes}
 use borrow.Author.Needs.{needs}
-use Rattle.replies.proofs.value.state_value.Statement.{statement}
-use Rattle.replies.proofs.value.state_value.Tie as tie
+use Rattle.answers.proofs.value.state_value.Statement.{statement}
+use Rattle.answers.proofs.value.state_value.Tie as tie
 
 mul-high : tie.Need-mul-high
 mul-high c = search needs

@@ -2,7 +2,7 @@
 ghost use mathlib.Core.Path.{_≡_};
 ghost use lib.ListN.{length};
 ghost use lib.Seq.{sets};
-ghost use Rattle.replies.specs.Replies.{answerOf};
+ghost use Rattle.answers.specs.Replies.{answerOf};
 
 mod value; // value.rt: the reply that shows an item's current value
 mod writing; // writing.rt: what is written for a code

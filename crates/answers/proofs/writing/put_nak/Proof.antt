@@ -3,10 +3,10 @@ use mathlib.Core.Path.{refl}
 use denote.Ref.{now}
 use lib.ListN.{set}
 use Rattle.wire.specs.Header.{nak}
-use Rattle.replies.proofs.Room.{no-room, room}
+use Rattle.answers.proofs.Room.{no-room, room}
 use borrow.Author.Needs.{needs}
-use Rattle.replies.proofs.writing.put_nak.Statement.{statement}
-use Rattle.replies.proofs.writing.put_nak.Tie as tie
+use Rattle.answers.proofs.writing.put_nak.Statement.{statement}
+use Rattle.answers.proofs.writing.put_nak.Tie as tie
 
 returns : tie.Need-returns
 returns c = no-room (now (c .before .args .reply)) nak (c .if1 .taken)

@@ -1,9 +1,9 @@
 -- The number of eight bytes has these bytes, and a zero byte after them.
 use denote.Ref.{now}
-use Rattle.replies.proofs.Values.{serial-bytes}
+use Rattle.answers.proofs.Values.{serial-bytes}
 use borrow.Author.Needs.{needs}
-use Rattle.replies.proofs.value.serial_value.Statement.{statement}
-use Rattle.replies.proofs.value.serial_value.Tie as tie
+use Rattle.answers.proofs.value.serial_value.Statement.{statement}
+use Rattle.answers.proofs.value.serial_value.Tie as tie
 
 number-at-requires : tie.Need-number-at-requires
 number-at-requires c κs = search needs

@@ -10,7 +10,7 @@ use Rattle.layouts.specs.declared.Layout.{Layout}
 use Rattle.items.specs.declared.Settings.{Settings}
 use Rattle.items.specs.Items.{rowOf}
 use Rattle.items.specs.Answer.{Message, codeOf, settingsAfter, replyOf, replyTo}
-use Rattle.replies.specs.declared.Answered.{Answered}
+use Rattle.answers.specs.declared.Answered.{Answered}
 
 -- "lent buffer shorter than what this call would write": then nothing is written, and else all of it
 abbrev pub countIn : ℕ → List ℕ → ℕ

@@ -3,10 +3,10 @@ use mathlib.Core.Path.{_≡_, refl, sym, ap, _∙_}
 use Rattle.wire.specs.Number.{bytes}
 use Rattle.layouts.specs.Layouts.{laid}
 use Rattle.items.specs.Items.{rowOf}
-use Rattle.replies.proofs.Shown.{shows-plainly, shows-echoing, status-bytes, no-row}
+use Rattle.answers.proofs.Shown.{shows-plainly, shows-echoing, status-bytes, no-row}
 use borrow.Author.Needs.{needs}
-use Rattle.replies.proofs.value.reply_layout.Statement.{statement}
-use Rattle.replies.proofs.value.reply_layout.Tie as tie
+use Rattle.answers.proofs.value.reply_layout.Statement.{statement}
+use Rattle.answers.proofs.value.reply_layout.Tie as tie
 
 plain-requires : tie.Need-plain-requires
 plain-requires c κs = search needs

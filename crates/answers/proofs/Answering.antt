@@ -16,8 +16,8 @@ use Rattle.items.specs.declared.Settings.{Settings}
 use Rattle.items.specs.Items.{Item, items, rowOf}
 use Rattle.items.specs.Answer.{Message, itemIn, row, parameters, codeOf, settingsAfter, replyOf, replyTo, replyBody, rangeBody, framed}
 use Rattle.items.proofs.Rows.{allHave, found}
-use Rattle.replies.specs.declared.Answered.{Answered}
-use Rattle.replies.specs.Replies.{countIn, bytesIn, due, answerOf, refused, replied}
+use Rattle.answers.specs.declared.Answered.{Answered}
+use Rattle.answers.specs.Replies.{countIn, bytesIn, due, answerOf, refused, replied}
 
 -- ---- a reply has of the parameters only the first byte
 

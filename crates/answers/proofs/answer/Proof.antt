@@ -9,11 +9,11 @@ use Rattle.items.specs.declared.Judged.{Judged}
 use Rattle.items.specs.Items.{rowOf}
 use Rattle.items.specs.Answer.{Message, codeOf, settingsAfter, itemIn, replyOf}
 use Rattle.items.proofs.Judging.{accepted-row}
-use Rattle.replies.specs.Replies.{due}
-use Rattle.replies.proofs.Answering.{due-reply, some-due, answers-nothing, answers-short, answers-whole}
+use Rattle.answers.specs.Replies.{due}
+use Rattle.answers.proofs.Answering.{due-reply, some-due, answers-nothing, answers-short, answers-whole}
 use borrow.Author.Needs.{needs}
-use Rattle.replies.proofs.answer.Statement.{statement}
-use Rattle.replies.proofs.answer.Tie as tie
+use Rattle.answers.proofs.answer.Statement.{statement}
+use Rattle.answers.proofs.answer.Tie as tie
 
 judge-requires : tie.Need-judge-requires
 judge-requires c κs = search needs
