@@ -1,105 +1,97 @@
--- What a finished message comes to: nothing, NAK or a reply, written where there is room.
+-- What the crate answers says of a finished message is what feeding owes.
 -- Assumes nothing.
-use Prim.Native.Nat.{ℕ, zero, suc, _≤_, _<_, zero-le}
+use Prim.Native.Nat.{ℕ}
 use native.Mathlib.Omega.{arith}
 use mathlib.Core.Path.{_≡_, refl, sym, ap, _∙_}
 use mathlib.Core.Bool.{Bool, true, false}
 use mathlib.Core.List.{List, [], _∷_}
-use borrow.Author.Tests.{le-ltb, ne-eqb, not-false}
-use lib.Dec.{eqb, ltb}
-use lib.ListN.{length, drop}
+use lib.Dec.{ltb}
+use lib.ListN.{length}
 use lib.Seq.{sets}
-use Rattle.wire.specs.Choice.{pick}
+use Rattle.wire.specs.Choice.{pick, Check, firstOf}
 use Rattle.wire.specs.Number.{field}
-use Rattle.wire.specs.Header.{typeIn, lengthIn, nak, typeRange, typeReply, typeRangeReply}
+use Rattle.wire.specs.Header.{typeIn, lengthIn}
 use Rattle.framing.specs.declared.Taking.{Taking}
 use Rattle.framing.specs.Framing.{between}
 use Rattle.items.specs.declared.Settings.{Settings}
-use Rattle.items.specs.declared.Judged.{Judged}
-use Rattle.items.specs.Items.{Item, listed, rowOf}
-use Rattle.items.specs.Answer.{Message, itemIn, row, parameters, checks, codeOf, settingsAfter, judgedOf, framed, rangeBody, replyBody, replyTo, replyOf}
+use Rattle.items.specs.Answer.{Message, checks, codeOf, settingsAfter, replyOf}
+use Rattle.answers.specs.declared.Answered.{Answered}
+use Rattle.answers.specs.Replies.{Answering, answerOf, replied}
+use Rattle.answers.specs.Replies.{refused as refusedAnswer}
 use Rattle.station.specs.declared.Station.{Station}
 use Rattle.station.specs.declared.Fed.{Fed}
-use Rattle.station.specs.Feeding.{messageIn, fitted, refused, answered, answering}
-use Rattle.station.proofs.Kept.{accepted, refusals}
+use Rattle.station.specs.Feeding.{messageIn, refused, answered, answering}
+use Rattle.station.proofs.Kept.{otherThan}
 
 -- the header split into type and length is the message's
 pub message-is : (t : Taking) (header type size : ℕ) → header ≡ field 0 2 (t .store .held) → type ≡ typeIn header → size ≡ lengthIn header
     → _≡_ {A = Message} (record { type = type; size = size; held = t .store .held }) (messageIn (t .store))
 message-is t header type size h a b = rw (a, b, h)
 
--- ---- what the code says of the reply
+-- a message's own code is never 20
+never : (cs : List Check) (n m : ℕ) → otherThan m cs → (n ≡ m → ⊥) → firstOf cs n ≡ m → ⊥
+never [] n m o h e = h e
+never (c ∷ cs) n m o h e = go (λ r. never cs n m (o .1) h r) (c .holds) e
+  where
+    go : (firstOf cs n ≡ m → ⊥) → (b : Bool) → pick b (c .code) (firstOf cs n) ≡ m → ⊥
+    go rest true q = o .0 q
+    go rest false q = rest q
 
-pub reply-none : (s : Settings) (m : Message) → codeOf s m ≡ 2 → replyOf s m ≡ []
-unfolding replyOf
-reply-none s m e = rw e
-
-pub reply-nak : (s : Settings) (m : Message) → (codeOf s m ≡ 1 → ⊥) → (codeOf s m ≡ 2 → ⊥) → replyOf s m ≡ nak
-unfolding replyOf
-reply-nak s m a b = rw (ne-eqb (codeOf s m) 1 a, ne-eqb (codeOf s m) 2 b)
-
-pub reply-done : (s : Settings) (m : Message) → codeOf s m ≡ 1 → replyOf s m ≡ replyTo (row m) (m .type) (settingsAfter s m) (parameters m)
-unfolding replyOf
-reply-done s m e = rw e
-
--- an accepted message names a listed item
-pub accepted-listed : (s : Settings) (m : Message) → codeOf s m ≡ 1 → listed (itemIn m) ≡ true
+not-20 : (s : Settings) (m : Message) → codeOf s m ≡ 20 → ⊥
 unfolding codeOf
-accepted-listed s m e = not-false (listed (itemIn m)) (accepted (checks s m) 1 (refusals s m) e .1 .1 .1 .0)
+not-20 s m e =
+    never (checks s m) 1 20 (
+      (λ q. omega arith),
+      (
+        (λ q. omega arith),
+        (
+          (λ q. omega arith),
+          (
+            (λ q. omega arith),
+            (
+              (λ q. omega arith),
+              (
+                (λ q. omega arith),
+                ((λ q. omega arith), ((λ q. omega arith), ((λ q. omega arith), tt))),
+              ),
+            ),
+          ),
+        ),
+      ),
+    )
+    (λ q. omega arith) e
 
--- ---- written where there is room
-
-module _ (s : Station) (t : Taking) (l after reply : List ℕ) (n : ℕ)
-    (is : reply ≡ replyOf (s .settings) (messageIn (t .store)))
-    (count : n ≡ length (fitted (length l) reply))
-    (wrote : after ≡ sets l 0 (fitted (length l) reply)) where
-  fits : (b : Bool) → ltb (length l) (length reply) ≡ b → 0 < length reply → (n ≡ 0 → ⊥) → b ≡ false
-  fits true e more some = absurd (some (count ∙ rw e))
-  fits false e more some = refl
-
-  short : (b : Bool) → ltb (length l) (length reply) ≡ b → 0 < length reply → n ≡ 0 → b ≡ true
-  short true e more none = refl
-  short false e more none =
-      let whole : length (fitted (length l) reply) ≡ length reply = rw e in
-      absurd (omega arith)
-
+module _ (s : Station) (t : Taking) (l after : List ℕ) (r : Answered) (m : Message)
+    (same : m ≡ messageIn (t .store))
+    (told : r ≡ answerOf (s .settings) m (length l) .answered)
+    (wrote : after ≡ sets l 0 (answerOf (s .settings) m (length l) .bytes)) where
   -- no room: 20, and nothing is written
-  pub out-none : 0 < length reply → n ≡ 0
-      → (refused 20 s .fed ≡ answering s t (length l) .fed) × (after ≡ sets l 0 (answering s t (length l) .bytes))
-  out-none more none =
-      let e : ltb (length l) (length reply) ≡ true = short (ltb (length l) (length reply)) refl more none in
-      (rw (← is, e), wrote ∙ rw (← is, e))
+  pub out-short : r .code ≡ 20 → (refused 20 s .fed ≡ answering s t (length l) .fed) × (after ≡ sets l 0 (answering s t (length l) .bytes))
+  unfolding answerOf
+  out-short e = go (ltb (length l) (length (replyOf (s .settings) m))) refl
+    where
+      go : (b : Bool) → ltb (length l) (length (replyOf (s .settings) m)) ≡ b
+          → (refused 20 s .fed ≡ answering s t (length l) .fed) × (after ≡ sets l 0 (answering s t (length l) .bytes))
+      go true q = rw (← same, q) (refl, wrote ∙ rw q)
+      go false q =
+          let whole : r ≡ replied (s .settings) m .answered = told ∙ rw q in
+          absurd (not-20 (s .settings) m (sym (ap (λ (a : Answered). a .code) whole) ∙ e))
 
   -- room: the code, the reply and the settings
-  pub out-some : (j : Judged) → j ≡ judgedOf (s .settings) (messageIn (t .store)) → 0 < length reply → (n ≡ 0 → ⊥)
-      → (_≡_ {A = Fed} (record { code = j .code; consumed = t .count; wrote = n; station = record { settings = j .settings; store = between } })
+  pub out-whole : (r .code ≡ 20 → ⊥)
+      → (_≡_ {A = Fed} (record { code = r .code; consumed = t .count; wrote = r .wrote; station = record { settings = r .settings; store = between } })
       (answering s t (length l) .fed))
       × (after ≡ sets l 0 (answering s t (length l) .bytes))
-  out-some j e more some =
-      let f : ltb (length l) (length reply) ≡ false = fits (ltb (length l) (length reply)) refl more some in
-      let all : n ≡ length reply = count ∙ rw f in
-      (rw (← is, f, e, all), wrote ∙ rw (← is, f))
-
--- an unanswered message: nothing is written, so there is always room
-pub out-nothing : (s : Station) (t : Taking) (l : List ℕ) (j : Judged) → j ≡ judgedOf (s .settings) (messageIn (t .store)) → j .code ≡ 2
-    → (_≡_ {A = Fed} (record { code = 2; consumed = t .count; wrote = 0; station = record { settings = j .settings; store = between } })
-    (answering s t (length l) .fed))
-    × (l ≡ sets l 0 (answering s t (length l) .bytes))
-out-nothing s t l j e two =
-    let code : codeOf (s .settings) (messageIn (t .store)) ≡ 2 = sym (ap (λ (k : Judged). k .code) e) ∙ two in
-    rw (reply-none (s .settings) (messageIn (t .store)) code, le-ltb (length l) 0 zero-le, e, code) (refl, refl)
-
--- the reply that is written is the message's
-pub reply-said : (s : Settings) (t : Taking) (j : Judged) (kind : ℕ) → j ≡ judgedOf s (messageIn (t .store)) → j .code ≡ 1 → kind ≡ messageIn (t .store) .type
-    → replyTo (rowOf (field 2 2 (t .store .held))) kind (j .settings) (drop 4 (t .store .held)) ≡ replyOf s (messageIn (t .store))
-reply-said s t j kind e one k =
-    let code : codeOf s (messageIn (t .store)) ≡ 1 = sym (ap (λ (i : Judged). i .code) e) ∙ one in
-    rw (reply-done s (messageIn (t .store)) code, k, e)
-
--- a reply has at least its header
-pub reply-more : (i : Item) (kind : ℕ) (s : Settings) (p : List ℕ) → 0 < length (replyTo i kind s p)
-reply-more i kind s p = go (eqb kind typeRange)
-  where
-    go : (b : Bool) → 0 < length (pick b (framed typeRangeReply (rangeBody i p)) (framed typeReply (replyBody i s p)))
-    go true = omega arith
-    go false = omega arith
+  unfolding answerOf
+  out-whole n = go (ltb (length l) (length (replyOf (s .settings) m))) refl
+    where
+      go : (b : Bool) → ltb (length l) (length (replyOf (s .settings) m)) ≡ b
+          → (_≡_ {A = Fed} (record { code = r .code; consumed = t .count; wrote = r .wrote; station = record { settings = r .settings; store = between } })
+          (answering s t (length l) .fed))
+          × (after ≡ sets l 0 (answering s t (length l) .bytes))
+      go true q =
+          let short : r ≡ refusedAnswer 20 (s .settings) .answered = told ∙ rw q in
+          absurd (n (ap (λ (a : Answered). a .code) short))
+      go false q =
+          let whole : r ≡ replied (s .settings) m .answered = told ∙ rw q in
+          rw (← same, q, whole) (refl, wrote ∙ rw q)

@@ -2,7 +2,5 @@ pub mod Kept
 pub mod Short
 pub mod Valid
 pub mod Words
-pub mod Values
-pub mod Replies
 pub mod Answers
 pub mod Serving

@@ -24,10 +24,6 @@ pub record Feeding : Type 0 where
   pub fed : Fed
   pub bytes : List ℕ
 
--- what is written of a reply where there is this much room: all of it or nothing
-abbrev pub fitted : ℕ → List ℕ → List ℕ
-fitted room reply = pick (ltb room (length reply)) [] reply
-
 -- "Codes from 20 consume nothing and return the state given."
 abbrev pub refused : ℕ → Station → Feeding
 refused code s = record { fed = record { code = code; consumed = 0; wrote = 0; station = s }; bytes = [] }

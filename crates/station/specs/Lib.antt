@@ -1,4 +1,3 @@
 pub mod Station
 pub mod Feeding
-pub mod Replying
 pub mod Serving

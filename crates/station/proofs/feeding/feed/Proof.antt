@@ -1,6 +1,6 @@
 -- `station::feeding::feed` meets its contract: the box is broken, waits for more bytes, or answers a finished message.
 -- Assumes nothing.
-use Rattle.station.proofs.Valid.{valid-settings, feeding-broken, feeding-open, feeding-done}
+use Rattle.station.proofs.Valid.{feeding-broken, feeding-open, feeding-done}
 use denote.Ref.{now}
 use lib.ListN.{length}
 use borrow.Author.Tests.{not-true, not-false}
@@ -31,7 +31,7 @@ returns-2 c = let a = c .before .before .before .before .before .before .before 
     (refl, refl)
 
 answer-requires : tie.Need-answer-requires
-answer-requires c κs = valid-settings (c .before .before .before .before .before .before .before .before .before .args .s .settings) (c .before .before .before .before .before .before .before .before .before .args .s .store) (sym (c .before .before .before .before .before .before .is-valid .ensures) ∙ not-false _ (c .before .before .before .before .before .if1 .left))
+answer-requires c κs = search needs
 
 same-length : tie.Need-same-length
 same-length c = search needs
