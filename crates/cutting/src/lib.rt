@@ -1,4 +1,11 @@
 // Cutting packets from samples, at the box.
+ghost use mathlib.Core.Path.{_≡_};
+ghost use Prim.Native.Nat.{_+_, _<_};
+ghost use Rattle.wire.specs.Choice.{pick};
+ghost use Rattle.packets.specs.Samples.{allSamples};
+ghost use Rattle.items.specs.Settings.{withCount};
+ghost use lib.Seq.{sets};
+ghost use Rattle.cutting.specs.Cutting.{cuttingOf, refused as refusedBy};
 use station::Station;
 
 // What one call of cutting did: its code, how many bytes of packet it wrote, and the box after it.
@@ -6,4 +13,79 @@ pub struct Cut {
     pub code: u8,
     pub wrote: usize,
     pub station: Station,
+}
+
+// Cuts the next packet of a running capture from I and Q in turn: the packet of the box's mode and size, with the number of
+// its position. Where it refuses, the lent packet is as it was.
+pub fn cut_packet(s: Station, samples: &[i32], packet: &mut [u8]) -> Cut
+    ensures { λ r. do
+      room ← ⟦packet.len()⟧ .entry
+      ⌜ (r ≡ cuttingOf s (now (samples .entry)) room .cut)
+          × (now (packet .exit) ≡ sets (now (packet .entry)) 0 (cuttingOf s (now (samples .entry)) room .bytes)) ⌝ }
+{
+    if !station::is_valid(s) {
+        return refused(21, s);
+    }
+    let settings = s.settings;
+    if !settings.running {
+        return refused(22, s);
+    }
+    let count = settings.count;
+    if 4_000_000_000 <= count {
+        return refused(25, s);
+    }
+    let form = packets::form_for(settings.mode, settings.size);
+    if samples.len() as u64 != 2 * form.pairs {
+        return refused(23, s);
+    }
+    let total = packets::total_of(form);
+    if (packet.len() as u64) < total {
+        return too_short(s, samples);
+    }
+    if !samples::pack(form, samples, packet) {
+        return refused(24, s);
+    }
+    wire::put(packet, 0, 2, wire::header_of(4, total as u16) as u64);
+    wire::put(packet, 2, 2, packets::number_at_position(count) as u64);
+    counted(s, total as usize)
+}
+
+// "Codes from 20 consume nothing and return the state given."
+fn refused(code: u8, s: Station) -> Cut
+    ensures { λ r. ⌜ r ≡ refusedBy code s .cut ⌝ }
+{
+    Cut {
+        code: code,
+        wrote: 0,
+        station: s,
+    }
+}
+
+// No room for the packet: a sample outside 24 bits (24) is looked for before that (20).
+fn too_short(s: Station, samples: &[i32]) -> Cut
+    ensures { λ r. ⌜ r ≡ refusedBy (pick (allSamples (now (samples .entry))) 20 24) s .cut ⌝ }
+{
+    if samples::all_fit(samples) {
+        return refused(20, s);
+    }
+    refused(24, s)
+}
+
+// The box with one packet more.
+fn counted(s: Station, wrote: usize) -> Cut
+    requires { ⌜ s .settings .count < 4000000000 ⌝ }
+    ensures { λ r. ⌜ r ≡ record { code = 1; wrote = wrote; station = record { settings = withCount (s .settings .count + 1) (s .settings); store = s .store } } ⌝ }
+{
+    let mut settings = s.settings;
+    settings.count = settings.count + 1;
+    let store = s.store;
+    let station = Station {
+        settings: settings,
+        store: store,
+    };
+    Cut {
+        code: 1,
+        wrote: wrote,
+        station: station,
+    }
 }

@@ -4,7 +4,6 @@ use Prim.Native.Nat.{ℕ, _*_, _<_}
 use mathlib.Core.Path.{_≡_, refl, sym, _∙_}
 use mathlib.Core.Bool.{Bool, true, false, _&&_, not}
 use mathlib.Core.List.{List, [], _∷_}
-use mathlib.Core.Logic.{_⊎_, inl, inr}
 use native.Mathlib.Omega.{arith}
 use borrow.Author.Tests.{eq-eqb, eqb-true, eqb-false, leb-true, leb-false, not-false}
 use lib.Dec.{eqb, leb, ltb}
@@ -14,15 +13,9 @@ use Rattle.wire.specs.Choice.{pick}
 use Rattle.wire.specs.Header.{typeSet}
 use Rattle.wire.proofs.Laws.{and-both, and-left, and-right, and-rest, pick-keeps}
 use Rattle.packets.specs.declared.Form.{Form}
-use Rattle.packets.specs.Forms.{listed}
 use Rattle.packets.specs.Numbers.{most}
 use Rattle.framing.specs.Framing.{couldBeLeft, taken, finished}
-use Rattle.packets.proofs.Forms.{form-for-listed}
-use Rattle.rates.specs.Rate.{isD}
-use Rattle.tuning.specs.Bands.{inBands}
-use Rattle.tuning.specs.Word.{isClock}
 use Rattle.items.specs.declared.Settings.{Settings}
-use Rattle.items.specs.Settings.{isMode, isSize, isGain, allSerial, inRange}
 use Rattle.items.specs.Items.{Item, items, noItem, rowIn, rowOf, state, stateAfter, runByte, idle}
 use Rattle.items.specs.Answer.{Message, replyOf, codeOf, checks, refusedRunning, settingsAfter, row, parameters, itemIn}
 use Rattle.station.specs.declared.Station.{Station}
@@ -30,37 +23,6 @@ use Rattle.station.specs.Station.{valid}
 use Rattle.station.specs.Feeding.{Feeding, feedingOf, fedBy, messageIn, waiting, answered, refused as refuses}
 use Rattle.cutting.specs.Cutting.{formNow, cutChecks, cutCode, cuttingOf, cutFrom, refused}
 use Rattle.positions.proofs.Tests.{never, absent}
-
--- mode and size as the table has them
-mode-either : (mode : ℕ) → isMode mode ≡ true → (mode ≡ 0x80) ⊎ (mode ≡ 0x00)
-mode-either mode m = go (eqb mode 0x80) refl (eqb mode 0x00) refl
-  where
-    go : (a : Bool) → eqb mode 0x80 ≡ a → (b : Bool) → eqb mode 0x00 ≡ b → (mode ≡ 0x80) ⊎ (mode ≡ 0x00)
-    go true e b f = inl (eqb-true mode 0x80 e)
-    go false e true f = inr (eqb-true mode 0x00 f)
-    go false e false f = never (rw (e, f) at m)
-
-size-either : (size : ℕ) → isSize size ≡ true → (size ≡ 0) ⊎ (size ≡ 1)
-size-either size z = go (eqb size 0) refl
-  where
-    go : (a : Bool) → eqb size 0 ≡ a → (size ≡ 0) ⊎ (size ≡ 1)
-    go true e = inl (eqb-true size 0 e)
-    go false e = inr (omega (arith, leb-true size 1 z, eqb-false size 0 e))
-
--- of tests that all hold these two do
-two-of : (x m g z l : Bool) → x && m && g && z && l ≡ true → (m ≡ true) × (z ≡ true)
-two-of x m g z l e =
-    let upTo : x && m && g && z ≡ true = and-left (x && m && g && z) l e in
-    (and-right x m (and-left (x && m) g (and-left (x && m && g) z upTo)), and-right (x && m && g) z upTo)
-
--- a box that is not broken cuts packets of a listed form
-pub valid-form : (s : Station) → valid s ≡ true → listed (formNow (s .settings)) ≡ true
-unfolding valid inRange
-valid-form s v =
-    let t : Settings = s .settings in
-    let both : (isMode (t .mode) ≡ true) × (isSize (t .size) ≡ true)
-    = two-of (inBands (t .frequency) && leb (t .count) most && isClock (t .clock) && isD (t .divisor)) (isMode (t .mode)) (isGain (t .gain)) (isSize (t .size)) (allSerial (t .serial)) (and-left (inRange t) (couldBeLeft (s .store)) v) in
-    form-for-listed (t .mode) (t .size) (mode-either (t .mode) (both .0)) (size-either (t .size) (both .1))
 
 -- What a cut that is not refused tells: the box is valid, the count below the most, the samples of the form's number.
 pub record Made (s : Station) (samples : List ℤ) : Type 0 where

@@ -19,7 +19,8 @@ use Rattle.positions.specs.Losses.{Fate, arrives, lost, left, bounded, a
 use Rattle.positions.specs.Demand.{ExactPositions, NoTwoAlike}
 use Rattle.positions.proofs.Steps.{position-is-exact}
 use Rattle.positions.proofs.Packets.{packet-whole, packet-number}
-use Rattle.positions.proofs.Boxes.{cut-is, valid-form, Next, feeding-leaves, feeding-starts}
+use Rattle.cutting.proofs.Formed.{valid-form}
+use Rattle.positions.proofs.Boxes.{cut-is, Next, feeding-leaves, feeding-starts}
 use Rattle.positions.proofs.Readings.{At, hasHeard, reads-first, reads-next}
 
 -- the packets of a capture of form f from position n on
