@@ -42,7 +42,7 @@ pub fn form_in(h: Head) -> Form
 pub fn is_allowed(h: Head) -> bool
     ensures { λ r. ⌜ r ≡ allowed h ⌝ }
 {
-    if !wire::within(10, 625, h.divisor as u64) {
+    if !rates::is_d(h.divisor) {
         return false;
     }
     if !tuning::in_bands(h.frequency) {
@@ -78,7 +78,7 @@ pub fn write_head(h: Head, out: &mut [u8]) -> Written
 }
 
 // The values that stand in a head's bytes. Bytes past the end of the slice are not there, and count nothing.
-fn head_in(s: &[u8]) -> Head
+pub fn head_in(s: &[u8]) -> Head
     ensures { λ r. ⌜ r ≡ headIn (now (s .entry)) ⌝ }
 {
     Head {

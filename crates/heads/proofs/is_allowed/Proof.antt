@@ -3,27 +3,24 @@ use mathlib.Core.Path.{_≡_, sym, ap, _∙_}
 use mathlib.Core.Bool.{true}
 use borrow.Author.Needs.{needs}
 use borrow.Author.Tests.{not-true, not-false}
-use Rattle.wire.specs.Choice.{within}
+use Rattle.rates.specs.Rate.{isD}
 use Rattle.packets.specs.Forms.{listed}
 use Rattle.tuning.specs.Bands.{inBands}
 use Rattle.heads.proofs.is_allowed.Statement.{statement}
 use Rattle.heads.proofs.is_allowed.Tie as tie
 
 -- past the first test, past the second
-divided : (c : tie.Else1) → within 10 625 (c .before .before .before .args .h .divisor) ≡ true
-divided c = sym (c .before .within .ensures) ∙ not-false _ (c .if1 .left)
+divided : (c : tie.Else1) → isD (c .before .before .args .h .divisor) ≡ true
+divided c = sym (c .before .is-d .ensures) ∙ not-false _ (c .if1 .left)
 
-tuned : (c : tie.Else2) → inBands (c .before .before .before .before .before .args .h .frequency) ≡ true
+tuned : (c : tie.Else2) → inBands (c .before .before .before .before .args .h .frequency) ≡ true
 tuned c = sym (c .before .in-bands .ensures) ∙ not-false _ (c .if2 .left)
 
-cast-within : tie.Need-cast-within
-cast-within c = search needs
-
-within-requires : tie.Need-within-requires
-within-requires c κs = search needs
+is-d-requires : tie.Need-is-d-requires
+is-d-requires c κs = search needs
 
 returns : tie.Need-returns
-returns c = rw (sym (c .before .within .ensures) ∙ not-true _ (c .if1 .taken))
+returns c = rw (sym (c .before .is-d .ensures) ∙ not-true _ (c .if1 .taken))
 
 in-bands-requires : tie.Need-in-bands-requires
 in-bands-requires c κs = search needs
@@ -46,8 +43,7 @@ pub is-allowed-spec : {M : Type 1} → statement M
 is-allowed-spec =
     tie.close
     (tie.spec
-    cast-within
-    within-requires
+    is-d-requires
     returns
     in-bands-requires
     returns-2

@@ -1,0 +1,219 @@
+-- What the functions over a span need of its definitions.
+use Prim.Native.Nat.{ℕ, _+_, _-_, _≤_, _<_, min}
+use mathlib.Core.Path.{_≡_, refl, sym, ap, subst, _∙_}
+use mathlib.Core.Bool.{Bool, true, false, _&&_, _||_, not}
+use mathlib.Core.List.{List, [], _∷_, _++_}
+use native.Mathlib.Omega.{arith}
+use lib.Dec.{eqb, leb, ltb}
+use lib.ListN.{length, take}
+use lib.Seq.{sets, length-take-le}
+use borrow.Author.Tests.{leb-true, lt-ltb, le-ltb, eqb-true, eq-eqb, ne-eqb}
+use Rattle.wire.specs.Choice.{pick}
+use Rattle.wire.proofs.Laws.{and-left, and-right, or-rest}
+use Rattle.reader.specs.Reading.{last}
+use Rattle.packets.proofs.Forms.{is-listed-form}
+use Rattle.heads.specs.declared.Opened.{Opened}
+use Rattle.heads.specs.declared.Head.{Head}
+use Rattle.heads.specs.Head.{headLength, formIn, allowed, Reading, openedSays, readingOf}
+use Rattle.heads.proofs.Rounds.{form-listed, divisor-small, passed}
+use Rattle.heads.specs.Head.{readCode as headCode}
+use Rattle.spans.specs.declared.Tally.{Tally}
+use Rattle.spans.specs.declared.Span.{Span}
+use Rattle.spans.specs.declared.Due.{Due}
+use Rattle.spans.specs.declared.Told.{Told}
+use Rattle.spans.specs.declared.Eaten.{Eaten}
+use Rattle.spans.specs.declared.Reach.{Reach}
+use Rattle.spans.specs.Lines.{Line, textOf}
+use Rattle.spans.specs.Due.{dueLines, Sized, Telling, telling}
+use Rattle.spans.specs.Hearing.{reaching, Sane}
+use Rattle.spans.specs.Eating.{farthest, inRange, headOk, validSpan, headOf, withTally, lacking, headTaken, headLines, headRead, heardLines, heardSpan, dueNow, Eating, refused, silently, saying, opening, openingBy, listening, listeningBy, eatingOf, lastLines, silentEnd, finishingOf}
+
+-- the number of what was read is the code
+pub code-said : (o : Opened) (s : List ℕ) → openedSays o ≡ readingOf s → openedSays o .code ≡ headCode s
+unfolding readingOf
+code-said o s e = ap (λ (r : Reading). r .code) e
+
+pub range-by : (t : Tally) {a b c d : Bool} → leb (t .begins + t .taken) farthest ≡ a → leb (t .heard) (t .begins) ≡ b → leb (t .captures) (t .begins) ≡ c → leb (t .position) last ≡ d
+    → inRange t ≡ a && b && c && d
+range-by t p q r s = rw (p, q, r, s)
+
+pub valid-by : (s : Span) {a b c : Bool} → s .stopped ≡ a → inRange (s .tally) ≡ b → headOk s ≡ c → validSpan s ≡ a || (b && c)
+unfolding validSpan
+valid-by s p q r = cc
+
+-- a tally in range is sane while a piece is taken
+pub range-sane : (t : Tally) (n : ℕ) → inRange t ≡ true → n < 0x8000_0000_0000_0000 → Sane n t
+range-sane t n e short =
+    let a : Bool = leb (t .begins + t .taken) farthest in
+    let b : Bool = leb (t .heard) (t .begins) in
+    let c : Bool = leb (t .captures) (t .begins) in
+    let d : Bool = leb (t .position) last in
+    let abc = and-left (a && b && c) d e in
+    let ab = and-left (a && b) c abc in
+    record {
+      room = omega (arith, leb-true (t .begins + t .taken) farthest (and-left a b ab));
+      heard = leb-true _ _ (and-right a b ab);
+      captures = leb-true _ _ (and-right (a && b) c abc);
+      position = leb-true _ _ (and-right (a && b && c) d e);
+    }
+
+-- ---- the head
+
+pub lacked : (s : Span) (piece : List ℕ) (k : ℕ) → k ≡ min (headLength - s .taken) (length piece) → k ≡ length (take k piece)
+lacked s piece k is = sym (length-take-le k piece (omega arith))
+
+pub head-taken : (s : Span) (piece held : List ℕ) (k : ℕ) → k ≡ min (headLength - s .taken) (length piece) → held ≡ sets (s .held) (s .taken) (take k piece)
+    → record { stopped = false; taken = s .taken + k; held = held; tally = s .tally } ≡ headTaken s piece
+head-taken s piece held k is stored = rw (stored, is)
+
+-- ---- the lines that are due
+
+pub due-sized : (h : Head) (t : Tally) (ending code offset : ℕ) → allowed h ≡ true → t .position ≤ last → Sized (dueNow h t ending code offset)
+due-sized h t ending code offset ok fits =
+    record { position = fits; pairs = is-listed-form (formIn h) (form-listed h ok) .few; divisor = divisor-small h ok }
+
+-- a record that is another has its lines and its sizes
+pub due-is : {d e : Due} {ls : List Line} → d ≡ e → dueLines e ≡ ls → Sized e → (dueLines d ≡ ls) × Sized d
+due-is p q s = (ap dueLines p ∙ q, subst Sized (sym p) s)
+
+-- ---- what a call answers
+
+-- What `tell` answered for lines, in a slice with so much room: 20, or the lines' text.
+module _ (lines : List Line) (room : ℕ) (told : Told) (is : told ≡ telling (textOf lines) room .told) where
+  short : told .code ≡ 20 → ltb room (length (textOf lines)) ≡ true
+  short no-room = by (ltb room (length (textOf lines))) refl
+    where
+      by : (b : Bool) → ltb room (length (textOf lines)) ≡ b → ltb room (length (textOf lines)) ≡ true
+      by true e = e
+      by false e =
+          let code : told .code ≡ 1 = ap (λ (t : Told). t .code) is ∙ rw e in
+          absurd (omega arith)
+
+  long : (told .code ≡ 20 → ⊥) → ltb room (length (textOf lines)) ≡ false
+  long fits = by (ltb room (length (textOf lines))) refl
+    where
+      by : (b : Bool) → ltb room (length (textOf lines)) ≡ b → ltb room (length (textOf lines)) ≡ false
+      by true e = absurd (fits (ap (λ (t : Told). t .code) is ∙ rw e))
+      by false e = e
+
+  -- with 20 nothing is written
+  pub nothing-told : told .code ≡ 20 → telling (textOf lines) room .bytes ≡ []
+  nothing-told no-room = rw (short no-room)
+
+  pub refused-20 : (s after : Span) (n : ℕ) → told .code ≡ 20 → saying s room n lines after ≡ refused 20 s
+  refused-20 s after n no-room = rw (short no-room)
+
+  -- and else the whole text
+  pub text-told : (told .code ≡ 20 → ⊥) → telling (textOf lines) room .bytes ≡ textOf lines
+  text-told fits = rw (long fits)
+
+  pub said : (s after : Span) (n : ℕ) → (told .code ≡ 20 → ⊥)
+      → saying s room n lines after ≡ record { eaten = record { code = 1; consumed = n; wrote = told .wrote; span = after }; bytes = textOf lines }
+  said s after n fits =
+      let wrote : told .wrote ≡ length (textOf lines) = ap (λ (t : Told). t .wrote) is ∙ rw (long fits) in
+      rw (long fits, wrote)
+
+-- an answer for what something is, is an answer for it
+pub answers : {e : Eaten} (out : List ℕ) {after : List ℕ} {x : Eating} (y : Eating) → x ≡ y → e ≡ y .eaten → after ≡ sets out 0 (y .bytes)
+    → (e ≡ x .eaten) × (after ≡ sets out 0 (x .bytes))
+answers {e} out {after} y same p q = subst (λ (z : Eating). (e ≡ z .eaten) × (after ≡ sets out 0 (z .bytes))) (sym same) (p, q)
+
+pub opening-by : (s : Span) (piece : List ℕ) (room : ℕ) (after : Span) → after ≡ headTaken s piece → opening s piece room ≡ openingBy s room (after .taken - s .taken) after
+unfolding opening
+opening-by s piece room after is =
+    let taken : after .taken ≡ s .taken + lacking s piece = ap (λ (x : Span). x .taken) is in
+    let count : after .taken - s .taken ≡ lacking s piece = omega arith in
+    ap (λ (x : Span). openingBy s room (lacking s piece) x) (sym is) ∙ ap (λ (n : ℕ). openingBy s room n after) (sym count)
+
+-- a head that is not whole
+pub opening-waits : (s after : Span) (room n : ℕ) → after .taken < headLength → openingBy s room n after ≡ silently 0 n after
+opening-waits s after room n h = rw (lt-ltb (after .taken) headLength h)
+
+-- a whole head
+pub opening-says : (s after : Span) (room n code : ℕ) → headLength ≤ after .taken → code ≡ headCode (after .held) → openingBy s room n after ≡ saying s room n (headLines code) (headRead code after)
+opening-says s after room n code h is = rw (le-ltb (after .taken) headLength h, is)
+
+pub listening-by : (s : Span) (piece : List ℕ) (room : ℕ) (r : Reach) → r ≡ reaching 0 (formIn (headOf s)) (s .tally) piece → listening s piece room ≡ listeningBy s room r
+unfolding listening
+listening-by s piece room r is = ap (listeningBy s room) (sym is)
+
+pub listening-waits : (s : Span) (room : ℕ) (r : Reach) → r .code ≡ 0 → listeningBy s room r ≡ silently 0 (r .at) (withTally false s (r .tally))
+listening-waits s room r e = rw (eq-eqb (r .code) 0 e)
+
+pub listening-says : (s : Span) (room : ℕ) (r : Reach) → (r .code ≡ 0 → ⊥) → listeningBy s room r ≡ saying s room (r .at) (heardLines (headOf s) r) (heardSpan s r)
+listening-says s room r e = rw (ne-eqb (r .code) 0 e)
+
+-- The two answers of a call for which lines are due: those of d, told in a slice `out` that is `after` then.
+module _ (s next : Span) (n : ℕ) (lines : List Line) (d : Due) (are : dueLines d ≡ lines) (out after : List ℕ) (told : Told)
+    (did : (told ≡ telling (textOf (dueLines d)) (length out) .told) × (after ≡ sets out 0 (telling (textOf (dueLines d)) (length out) .bytes))) (x : Eating) (is : x ≡ saying s (length out) n lines next) where
+  same-lines : telling (textOf (dueLines d)) (length out) ≡ telling (textOf lines) (length out)
+  same-lines = ap (λ (ls : List Line). telling (textOf ls) (length out)) are
+
+  told-is : told ≡ telling (textOf lines) (length out) .told
+  told-is = did .0 ∙ ap (λ (t : Telling). t .told) same-lines
+
+  after-is : after ≡ sets out 0 (telling (textOf lines) (length out) .bytes)
+  after-is = did .1 ∙ ap (λ (t : Telling). sets out 0 (t .bytes)) same-lines
+
+  pub no-room : (e : Eaten) → e ≡ refused 20 s .eaten → told .code ≡ 20 → (e ≡ x .eaten) × (after ≡ sets out 0 (x .bytes))
+  no-room e same short =
+      answers out (refused 20 s) (is ∙ refused-20 lines (length out) told told-is s next n short) same
+      (after-is ∙ ap (sets out 0) (nothing-told lines (length out) told told-is short))
+
+  pub room : (e : Eaten) → e ≡ record { code = 1; consumed = n; wrote = told .wrote; span = next } → (told .code ≡ 20 → ⊥) → (e ≡ x .eaten) × (after ≡ sets out 0 (x .bytes))
+  room e same fits =
+      answers out (record { eaten = record { code = 1; consumed = n; wrote = told .wrote; span = next }; bytes = textOf lines }) (is ∙ said lines (length out) told told-is s next n fits) same
+      (after-is ∙ ap (sets out 0) (text-told lines (length out) told told-is fits))
+
+-- ---- valid spans
+
+module _ (s : Span) (ok : validSpan s ≡ true) (goes : s .stopped ≡ false) where
+  unbroken : inRange (s .tally) && headOk s ≡ true
+  unbroken = sym (valid-by s goes refl refl) ∙ ok
+
+  pub valid-range : inRange (s .tally) ≡ true
+  valid-range = and-left (inRange (s .tally)) (headOk s) unbroken
+
+  -- the head of a valid span that has all of it is one that may be written
+  pub valid-head : headLength ≤ s .taken → allowed (headOf s) ≡ true
+  valid-head whole =
+      let here : headOk s ≡ true = and-right (inRange (s .tally)) (headOk s) unbroken in
+      let read : eqb (s .taken) headLength && eqb (headCode (s .held)) 1 ≡ true = or-rest (ltb (s .taken) headLength) _ here (le-ltb (s .taken) headLength whole) in
+      passed (s .held) (eqb-true _ _ (and-right (eqb (s .taken) headLength) (eqb (headCode (s .held)) 1) read)) .ok
+
+-- ---- which part of a call
+
+module _ (s : Span) (piece : List ℕ) (room′ : ℕ) where
+  pub eating-broken : validSpan s ≡ false → eatingOf s piece room′ ≡ refused 21 s
+  unfolding eatingOf
+  eating-broken v = rw v
+
+  pub eating-stopped : validSpan s ≡ true → s .stopped ≡ true → eatingOf s piece room′ ≡ silently 2 (length piece) s
+  unfolding eatingOf
+  eating-stopped v p = rw (v, p)
+
+  pub eating-head : validSpan s ≡ true → s .stopped ≡ false → s .taken < headLength → eatingOf s piece room′ ≡ opening s piece room′
+  unfolding eatingOf
+  eating-head v p h = rw (v, p, lt-ltb (s .taken) headLength h)
+
+  pub eating-packets : validSpan s ≡ true → s .stopped ≡ false → headLength ≤ s .taken → eatingOf s piece room′ ≡ listening s piece room′
+  unfolding eatingOf
+  eating-packets v p h = rw (v, p, le-ltb (s .taken) headLength h)
+
+module _ (s : Span) (room′ : ℕ) where
+  pub finishing-broken : validSpan s ≡ false → finishingOf s room′ ≡ silentEnd 21
+  unfolding finishingOf
+  finishing-broken v = rw v
+
+  pub finishing-stopped : validSpan s ≡ true → s .stopped ≡ true → finishingOf s room′ ≡ silentEnd 2
+  unfolding finishingOf
+  finishing-stopped v p = rw (v, p)
+
+  pub finishing-says : validSpan s ≡ true → s .stopped ≡ false → finishingOf s room′ ≡ telling (textOf (lastLines s)) room′
+  unfolding finishingOf
+  finishing-says v p = rw (v, p)
+
+-- as `answers`, for the end
+pub finishes : {e : Told} (out : List ℕ) {after : List ℕ} {x : Telling} (y : Telling) → x ≡ y → (e ≡ y .told) × (after ≡ sets out 0 (y .bytes))
+    → (e ≡ x .told) × (after ≡ sets out 0 (x .bytes))
+finishes {e} out {after} y same did = subst (λ (z : Telling). (e ≡ z .told) × (after ≡ sets out 0 (z .bytes))) (sym same) did

@@ -1,0 +1,9 @@
+pub mod Examples
+pub mod Texts
+pub mod Dues
+pub mod Heard
+pub mod Reaches
+pub mod Runs
+pub mod Goings
+pub mod Eats
+pub mod Within

@@ -1,0 +1,68 @@
+-- A broken span, a stopped one, the last lines.
+use borrow.Author.Needs.{needs}
+use Prim.Native.Nat.{ℕ, _≤_, _<_}
+use mathlib.Core.Path.{_≡_, refl, sym, ap, _∙_}
+use mathlib.Core.Bool.{true, false}
+use native.Mathlib.Omega.{arith}
+use denote.Ref.{now}
+use lib.ListN.{length}
+use borrow.Author.Tests.{not-true, not-false}
+use Rattle.spans.specs.Eating.{validSpan}
+use lib.Seq.{sets}
+use mathlib.Core.List.{List}
+use Rattle.spans.specs.Lines.{Line, textOf}
+use Rattle.spans.specs.Due.{Telling, telling}
+use Rattle.spans.proofs.Eats.{finishes, range-sane, valid-range, valid-head, finishing-broken, finishing-stopped, finishing-says}
+use Rattle.spans.proofs.eating.finish.Statement.{statement}
+use Rattle.spans.proofs.eating.finish.Tie as tie
+
+-- the span is not broken
+valid : (c : tie.Else1) → validSpan (c .before .before .before .args .s) ≡ true
+valid c = sym (c .before .is-valid .ensures) ∙ not-false _ (c .if1 .left)
+
+is-valid-requires : tie.Need-is-valid-requires
+is-valid-requires c κs = search needs
+
+returns : tie.Need-returns
+returns c =
+    let v = c .before in
+    let a = v .before .before .args in
+    finishes (now (a .out)) _ (finishing-broken (a .s) (length (now (a .out))) (sym (v .is-valid .ensures) ∙ not-true _ (c .if1 .taken))) (refl, refl)
+
+returns-2 : tie.Need-returns-2
+returns-2 c =
+    let a = c .before .before .before .before .args in
+    finishes (now (a .out)) _ (finishing-stopped (a .s) (length (now (a .out))) (valid (c .before)) (c .if2 .taken)) (refl, refl)
+
+last-due-requires : tie.Need-last-due-requires
+last-due-requires c κs =
+    let s = c .before .before .before .before .args .s in
+    (range-sane (s .tally) 0 (valid-range s (valid (c .before)) (c .if2 .left)) (omega arith) .position, λ whole. valid-head s (valid (c .before)) (c .if2 .left) whole)
+
+tell-requires : tie.Need-tell-requires
+tell-requires c κs = search needs
+
+same-length : tie.Need-same-length
+same-length c = search needs
+
+returns-3 : tie.Need-returns-3
+returns-3 c =
+    let t = c .before .before in
+    let l = t .before .before in
+    let e = l .before in
+    let a = e .before .before .before .before .args in
+    finishes (now (a .out)) _
+    (finishing-says (a .s) (length (now (a .out))) (valid (e .before)) (e .if2 .left) ∙ ap (λ (ls : List Line). telling (textOf ls) (length (now (a .out)))) (sym (l .last-due .ensures .0)))
+    (t .tell .ensures)
+
+pub finish-spec : {M : Type 1} → statement M
+finish-spec =
+    tie.close
+    (tie.spec
+    is-valid-requires
+    returns
+    returns-2
+    last-due-requires
+    tell-requires
+    same-length
+    returns-3)

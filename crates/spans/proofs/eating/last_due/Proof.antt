@@ -1,0 +1,59 @@
+-- By how many bytes have come, of the head and of the packet.
+use borrow.Author.Needs.{needs}
+use mathlib.Core.Path.{_≡_, ap, _∙_}
+use Prim.Native.Nat.{ℕ}
+use borrow.Author.Tests.{lt-ltb, le-ltb, eq-eqb, ne-eqb}
+use Rattle.heads.specs.declared.Head.{Head}
+use Rattle.spans.specs.Eating.{headOf, dueNow}
+use Rattle.spans.proofs.Eats.{due-sized, due-is}
+use Rattle.spans.proofs.eating.last_due.Statement.{statement}
+use Rattle.spans.proofs.eating.last_due.Tie as tie
+
+head-due-requires : tie.Need-head-due-requires
+head-due-requires c κs = search needs
+
+returns : tie.Need-returns
+returns c = (c .head-due .ensures .0 ∙ rw (lt-ltb _ _ (c .before .if1 .taken)), c .head-due .ensures .1)
+
+slice-aggregate-head-in : tie.Need-slice-aggregate-head-in
+slice-aggregate-head-in c = search needs
+
+head-in-requires : tie.Need-head-in-requires
+head-in-requires c κs = search needs
+
+ended-due-requires : tie.Need-ended-due-requires
+ended-due-requires c κs = search needs
+
+returns-2 : tie.Need-returns-2
+returns-2 c =
+    let tested = c .before in
+    let h = tested .before .before .before in
+    let first = h .before .before .before in
+    let s = first .before .before in
+    let t = s .args .s .tally in
+    due-is (c .ended-due .ensures ∙ ap (λ (x : Head). dueNow x t 2 0 0) (h .head-in .ensures)) (rw (le-ltb _ _ (first .if1 .left), eq-eqb _ 0 (tested .if2 .taken))) (due-sized (headOf (s .args .s)) t _ _ _ (s .pre .1 (first .if1 .left)) (s .pre .0))
+
+ended-due-requires-2 : tie.Need-ended-due-requires-2
+ended-due-requires-2 c κs = search needs
+
+returns-3 : tie.Need-returns-3
+returns-3 c =
+    let tested = c .before in
+    let h = tested .before .before .before in
+    let first = h .before .before .before in
+    let s = first .before .before in
+    let t = s .args .s .tally in
+    due-is (c .ended-due2 .ensures ∙ ap (λ (x : Head). dueNow x t 1 30 (t .begins)) (h .head-in .ensures)) (rw (le-ltb _ _ (first .if1 .left), ne-eqb _ 0 (tested .if2 .left))) (due-sized (headOf (s .args .s)) t _ _ _ (s .pre .1 (first .if1 .left)) (s .pre .0))
+
+pub last-due-spec : {M : Type 1} → statement M
+last-due-spec =
+    tie.close
+    (tie.spec
+    head-due-requires
+    returns
+    slice-aggregate-head-in
+    head-in-requires
+    ended-due-requires
+    returns-2
+    ended-due-requires-2
+    returns-3)

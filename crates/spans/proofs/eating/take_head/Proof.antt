@@ -1,0 +1,52 @@
+-- The bytes that the head lacks are stored behind those that it has.
+use borrow.Author.Needs.{needs}
+use mathlib.Core.Path.{_≡_}
+use native.Mathlib.Omega.{arith}
+use denote.Ref.{now}
+use lib.ListN.{length}
+use Rattle.spans.proofs.Eats.{lacked, head-taken}
+use Rattle.spans.proofs.eating.take_head.Statement.{statement}
+use Rattle.spans.proofs.eating.take_head.Tie as tie
+
+long : (c : tie.Start) → length (c .args .s .held) ≡ 14
+long c = search needs
+
+sub-lesser : tie.Need-sub-lesser
+sub-lesser c = search needs
+
+lesser-requires : tie.Need-lesser-requires
+lesser-requires c κs = search needs
+
+slice-aggregate-copy : tie.Need-slice-aggregate-copy
+slice-aggregate-copy c =
+    let k = c .before .before in
+    lacked (k .before .before .args .s) _ _ (k .lesser .ensures)
+
+slice-aggregate-copy-2 : tie.Need-slice-aggregate-copy-2
+slice-aggregate-copy-2 c = search needs
+
+copy-requires : tie.Need-copy-requires
+copy-requires c κs =
+    let k = c .before .before .before in
+    let a = k .before .before .args in
+    omega (arith, k .lesser .ensures, lacked (a .s) (now (a .piece)) (k .lesser .result) (k .lesser .ensures), long (k .before .before))
+
+add-t7 : tie.Need-add-t7
+add-t7 c = search needs
+
+returns : tie.Need-returns
+returns c =
+    let k = c .before .before .before .before .before .before in
+    head-taken (k .before .before .args .s) _ _ _ (k .lesser .ensures) (c .before .before .copy .ensures)
+
+pub take-head-spec : {M : Type 1} → statement M
+take-head-spec =
+    tie.close
+    (tie.spec
+    sub-lesser
+    lesser-requires
+    slice-aggregate-copy
+    slice-aggregate-copy-2
+    copy-requires
+    add-t7
+    returns)

@@ -1,0 +1,171 @@
+-- A span takes the input in pieces: what one call does with a piece, and what the end of the input brings.
+use Prim.Native.Nat.{ℕ, _+_, _-_, min}
+use mathlib.Core.Bool.{Bool, true, false, _&&_, _||_, not}
+use mathlib.Core.List.{List, [], _∷_, _++_}
+use lib.Dec.{eqb, leb, ltb}
+use lib.ListN.{length, take, replicate}
+use lib.Seq.{sets}
+use Rattle.wire.specs.Choice.{pick}
+use Rattle.reader.specs.Reading.{last}
+use Rattle.heads.specs.declared.Head.{Head}
+use Rattle.heads.specs.Head.{headLength, formIn, headIn}
+use Rattle.heads.specs.Head.{readCode as headCode}
+use Rattle.spans.specs.declared.Tally.{Tally}
+use Rattle.spans.specs.declared.Reach.{Reach}
+use Rattle.spans.specs.declared.Span.{Span}
+use Rattle.spans.specs.declared.Told.{Told}
+use Rattle.spans.specs.declared.Due.{Due}
+use Rattle.spans.specs.declared.Eaten.{Eaten}
+use Rattle.spans.specs.Lines.{Line, textOf, openingLine, captureLine, refusalLine, endLine}
+use Rattle.spans.specs.Due.{Telling, telling}
+use Rattle.spans.specs.Hearing.{accepting, reaching}
+
+-- ---- spans
+
+-- nothing heard, after the head
+abbrev pub freshTally : Tally
+freshTally = record { begins = headLength; taken = 0; header = 0; number = 0; captures = 0; heard = 0; position = 0 }
+
+abbrev pub freshSpan : Span
+freshSpan = record { stopped = false; taken = 0; held = replicate 14 0; tally = freshTally }
+
+-- the last input byte that a span counts up to, 2 ^ 63
+abbrev pub farthest : ℕ
+farthest = 0x8000_0000_0000_0000
+
+-- each count within its range: no more packets or captures than bytes
+abbrev pub inRange : Tally → Bool
+inRange t =
+    leb (t .begins + t .taken) farthest
+    && leb (t .heard) (t .begins)
+    && leb (t .captures) (t .begins)
+    && leb (t .position) last
+
+-- the head is still coming, or is whole and one that is read
+abbrev pub headOk : Span → Bool
+headOk s = ltb (s .taken) headLength || (eqb (s .taken) headLength && eqb (headCode (s .held)) 1)
+
+-- A span is broken where it has not stopped and a count or its head is none that bytes could have left.
+unfoldable pub validSpan : Span → Bool
+validSpan s = s .stopped || (inRange (s .tally) && headOk s)
+
+abbrev pub headOf : Span → Head
+headOf s = headIn (s .held)
+
+-- the span with a tally, that goes on (false) or has stopped (true)
+abbrev pub withTally : Bool → Span → Tally → Span
+withTally stopped s t = record { stopped = stopped; taken = s .taken; held = s .held; tally = t }
+
+-- ---- one call of eating
+
+-- what a call returns, and the bytes that it writes at the start of the lent slice
+pub record Eating : Type 0 where
+  pub eaten : Eaten
+  pub bytes : List ℕ
+
+-- codes from 20 consume nothing and return the state given
+abbrev pub refused : ℕ → Span → Eating
+refused code s = record { eaten = record { code = code; consumed = 0; wrote = 0; span = s }; bytes = [] }
+
+-- 0: waiting, all bytes consumed; 2: stopped, all bytes consumed and none looked at
+abbrev pub silently : ℕ → ℕ → Span → Eating
+silently code n after = record { eaten = record { code = code; consumed = n; wrote = 0; span = after }; bytes = [] }
+
+-- 1: lines are due after n bytes; 20 where the slice has no room for all of them
+abbrev pub saying : Span → ℕ → ℕ → List Line → Span → Eating
+saying s room n lines after =
+    pick (ltb room (length (textOf lines))) (refused 20 s)
+    (record { eaten = record { code = 1; consumed = n; wrote = length (textOf lines); span = after }; bytes = textOf lines })
+
+-- The head: as many bytes as it lacks are taken of a piece.
+abbrev pub lacking : Span → List ℕ → ℕ
+lacking s piece = min (headLength - s .taken) (length piece)
+
+abbrev pub headTaken : Span → List ℕ → Span
+headTaken s piece =
+    record {
+      stopped = false;
+      taken = s .taken + lacking s piece;
+      held = sets (s .held) (s .taken) (take (lacking s piece) piece);
+      tally = s .tally;
+    }
+
+-- the lines of a whole head that reads with a code: it begins at byte 0
+abbrev pub headLines : ℕ → List Line
+headLines code = openingLine ∷ pick (eqb code 1) [] (refusalLine code 0 ∷ [])
+
+-- the span after a whole head that reads with a code: it stops where the head is refused
+abbrev pub headRead : ℕ → Span → Span
+headRead code s = record { stopped = not (eqb code 1); taken = s .taken; held = s .held; tally = s .tally }
+
+-- a span s, after the n bytes that its head lacked of a piece
+abbrev pub openingBy : Span → ℕ → ℕ → Span → Eating
+openingBy s room n after =
+    pick (ltb (after .taken) headLength) (silently 0 n after)
+    (saying s room n (headLines (headCode (after .held))) (headRead (headCode (after .held)) after))
+
+unfoldable pub opening : Span → List ℕ → ℕ → Eating
+opening s piece room = openingBy s room (lacking s piece) (headTaken s piece)
+
+-- the line of the open capture
+abbrev pub endedNow : Head → Tally → List Line
+endedNow h t =
+    pick (eqb (t .heard) 0) []
+    (captureLine (formIn h) (h .divisor) (t .captures) (t .heard) (t .position) ∷ [])
+
+-- Packets: where a line is due, the open capture ends; then a new one begins, or a packet is refused and the span stops.
+abbrev pub heardLines : Head → Reach → List Line
+heardLines h r = endedNow h (r .tally) ++ pick (eqb (r .code) 1) [] (refusalLine (r .code) (r .tally .begins) ∷ [])
+
+abbrev pub heardSpan : Span → Reach → Span
+heardSpan s r = pick (eqb (r .code) 1) (withTally false s (accepting (r .tally))) (withTally true s (r .tally))
+
+abbrev pub listeningBy : Span → ℕ → Reach → Eating
+listeningBy s room r =
+    pick (eqb (r .code) 0) (silently 0 (r .at) (withTally false s (r .tally)))
+    (saying s room (r .at) (heardLines (headOf s) r) (heardSpan s r))
+
+unfoldable pub listening : Span → List ℕ → ℕ → Eating
+listening s piece room = listeningBy s room (reaching 0 (formIn (headOf s)) (s .tally) piece)
+
+unfoldable pub eatingOf : Span → List ℕ → ℕ → Eating
+eatingOf s piece room =
+    pick (not (validSpan s)) (refused 21 s)
+    (pick (s .stopped) (silently 2 (length piece) s)
+    (pick (ltb (s .taken) headLength) (opening s piece room) (listening s piece room)))
+
+-- ---- the end of the input
+
+-- A head or a packet that is cut off is refused with 40 or 30, and else the count of captures ends it all.
+abbrev pub lastLines : Span → List Line
+lastLines s =
+    pick (ltb (s .taken) headLength) (openingLine ∷ refusalLine 40 0 ∷ [])
+    (endedNow (headOf s) (s .tally)
+    ++ pick (eqb (s .tally .taken) 0) (endLine (s .tally .captures) ∷ []) (refusalLine 30 (s .tally .begins) ∷ []))
+
+abbrev pub silentEnd : ℕ → Telling
+silentEnd code = record { told = record { code = code; wrote = 0 }; bytes = [] }
+
+-- 21 for a broken span, 2 for one that has stopped
+unfoldable pub finishingOf : Span → ℕ → Telling
+finishingOf s room =
+    pick (not (validSpan s)) (silentEnd 21)
+    (pick (s .stopped) (silentEnd 2) (telling (textOf (lastLines s)) room))
+
+-- ---- the lines as they are handed on
+
+-- the open capture's line, and a refusal (1) or the end (2) behind it
+abbrev pub dueNow : Head → Tally → ℕ → ℕ → ℕ → Due
+dueNow h t ending code offset =
+    record {
+      opening = false;
+      capture = t .captures;
+      bits = formIn h .bits;
+      pairs = formIn h .pairs;
+      divisor = h .divisor;
+      heard = t .heard;
+      position = t .position;
+      ending = ending;
+      code = code;
+      offset = offset;
+    }

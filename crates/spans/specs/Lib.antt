@@ -1,0 +1,5 @@
+pub mod Lines
+pub mod Report
+pub mod Due
+pub mod Hearing
+pub mod Eating

@@ -1,0 +1,354 @@
+// A span takes its input in pieces.
+ghost use mathlib.Core.Path.{_≡_};
+ghost use Prim.Native.Nat.{_-_, _<_, _≤_, min};
+ghost use mathlib.Core.Bool.{true, false};
+ghost use lib.Dec.{eqb, ltb};
+ghost use lib.ListN.{length};
+ghost use lib.Seq.{sets};
+ghost use Rattle.heads.specs.Head.{headIn, formIn, allowed};
+ghost use Rattle.heads.specs.Head.{readCode as headCode};
+ghost use Rattle.spans.specs.Hearing.{reaching, Sane};
+ghost use Rattle.spans.specs.Eating.{freshSpan, inRange, headOk, validSpan, headOf, headTaken, headLines, heardLines, lastLines, dueNow, refused, headRead, withTally, heardSpan, opening, listening, eatingOf, finishingOf};
+ghost use Rattle.reader.specs.Reading.{last};
+ghost use Rattle.spans.specs.Due.{dueLines, Sized};
+use crate::Due;
+use crate::Eaten;
+use crate::Reach;
+use crate::Span;
+use crate::Tally;
+use crate::Told;
+use crate::hearing::accept;
+use crate::hearing::hear;
+use crate::lines::tell;
+use crate::text::copy;
+use heads::Head;
+use heads::Opened;
+
+// A span before its first byte.
+pub fn fresh() -> Span
+    ensures { λ r. ⌜ r ≡ freshSpan ⌝ }
+{
+    Span {
+        stopped: false,
+        taken: 0,
+        held: [0; 14],
+        tally: Tally {
+            begins: 14,
+            taken: 0,
+            header: 0,
+            number: 0,
+            captures: 0,
+            heard: 0,
+            position: 0,
+        },
+    }
+}
+
+// The code with which a head reads.
+fn head_code(s: &[u8]) -> u8
+    ensures { λ r. ⌜ r ≡ headCode (now (s .entry)) ⌝ }
+{
+    let o = heads::read_head(s);
+    match o {
+        Opened::Head(_) => 1,
+        Opened::NotAHead => 40,
+        Opened::OtherVersion => 41,
+    }
+}
+
+// Whether each count is within its range.
+fn in_range(t: Tally) -> bool
+    ensures { λ r. ⌜ r ≡ inRange t ⌝ }
+{
+    if 0x8000_0000_0000_0000 < t.begins {
+        return false;
+    }
+    if 0x8000_0000_0000_0000 - t.begins < t.taken {
+        return false;
+    }
+    if t.begins < t.heard {
+        return false;
+    }
+    if t.begins < t.captures {
+        return false;
+    }
+    t.position <= 3_999_999_999
+}
+
+// Whether the head is still coming, or is whole and one that is read.
+fn head_ok(s: Span) -> bool
+    ensures { λ r. ⌜ r ≡ headOk s ⌝ }
+{
+    if s.taken < 14 {
+        return true;
+    }
+    if s.taken != 14 {
+        return false;
+    }
+    let held = s.held;
+    head_code(&held) == 1
+}
+
+// Whether a span is one that bytes could have left.
+fn is_valid(s: Span) -> bool
+    ensures { λ r. ⌜ r ≡ validSpan s ⌝ }
+{
+    if s.stopped {
+        return true;
+    }
+    if !in_range(s.tally) {
+        return false;
+    }
+    head_ok(s)
+}
+
+// The lesser of two counts.
+fn lesser(a: usize, b: usize) -> usize
+    ensures { λ r. ⌜ r ≡ min a b ⌝ }
+{
+    if a < b { a } else { b }
+}
+
+// The span with the bytes that its head lacks taken of a piece.
+fn take_head(s: Span, piece: &[u8]) -> Span
+    requires { ⌜ s .taken < 14 ⌝ }
+    ensures { λ r. ⌜ r ≡ headTaken s (now (piece .entry)) ⌝ }
+{
+    let taken = s.taken;
+    let k = lesser(14 - taken, piece.len());
+    let mut held = s.held;
+    copy(&piece[..k], &mut held, taken);
+    let tally = s.tally;
+    Span {
+        stopped: false,
+        taken: taken + k,
+        held,
+        tally,
+    }
+}
+
+// What a code from 20 answers: nothing is consumed, and the span is the one given.
+fn refuse(code: u8, s: Span) -> Eaten
+    ensures { λ r. ⌜ r ≡ refused code s .eaten ⌝ }
+{
+    Eaten {
+        code,
+        consumed: 0,
+        wrote: 0,
+        span: s,
+    }
+}
+
+// The lines after a whole head that reads with a code.
+fn head_due(code: u8) -> Due
+    ensures { λ r. ⌜ (dueLines r ≡ headLines code) × Sized r ⌝ }
+{
+    if code == 1 {
+        return Due {
+            opening: true,
+            capture: 0,
+            bits: 0,
+            pairs: 0,
+            divisor: 0,
+            heard: 0,
+            position: 0,
+            ending: 0,
+            code: 0,
+            offset: 0,
+        };
+    }
+    Due {
+        opening: true,
+        capture: 0,
+        bits: 0,
+        pairs: 0,
+        divisor: 0,
+        heard: 0,
+        position: 0,
+        ending: 1,
+        code: code as u64,
+        offset: 0,
+    }
+}
+
+// The line of the open capture, and a refusal (1) or the end (2) behind it.
+fn ended_due(h: Head, t: Tally, ending: u8, code: u64, offset: u64) -> Due
+    ensures { λ r. ⌜ r ≡ dueNow h t ending code offset ⌝ }
+{
+    let f = heads::form_in(h);
+    Due {
+        opening: false,
+        capture: t.captures,
+        bits: f.bits,
+        pairs: f.pairs,
+        divisor: h.divisor as u64,
+        heard: t.heard,
+        position: t.position,
+        ending,
+        code,
+        offset,
+    }
+}
+
+// The lines that are due where hearing a piece was cut short.
+fn heard_due(h: Head, r: Reach) -> Due
+    requires { ⌜ (allowed h ≡ true) × (r .tally .position ≤ last) ⌝ }
+    ensures { λ d. ⌜ (dueLines d ≡ heardLines h r) × Sized d ⌝ }
+{
+    let t = r.tally;
+    if r.code == 1 {
+        return ended_due(h, t, 0, 0, 0);
+    }
+    ended_due(h, t, 1, r.code as u64, t.begins)
+}
+
+// The lines that the end of the input brings.
+fn last_due(s: Span) -> Due
+    requires { ⌜ (s .tally .position ≤ last) × (14 ≤ s .taken → allowed (headOf s) ≡ true) ⌝ }
+    ensures { λ d. ⌜ (dueLines d ≡ lastLines s) × Sized d ⌝ }
+{
+    if s.taken < 14 {
+        return head_due(40);
+    }
+    let held = s.held;
+    let h = heads::head_in(&held);
+    let t = s.tally;
+    if t.taken == 0 {
+        return ended_due(h, t, 2, 0, 0);
+    }
+    ended_due(h, t, 1, 30, t.begins)
+}
+
+// The span after a whole head that reads with a code.
+fn read_span(code: u8, s: Span) -> Span
+    ensures { λ r. ⌜ r ≡ headRead code s ⌝ }
+{
+    let held = s.held;
+    let tally = s.tally;
+    Span {
+        stopped: code != 1,
+        taken: s.taken,
+        held,
+        tally,
+    }
+}
+
+// The head's part of a piece.
+fn open(s: Span, piece: &[u8], out: &mut [u8]) -> Eaten
+    requires { ⌜ s .taken < 14 ⌝ }
+    ensures { λ r. ⌜ (r ≡ opening s (now (piece .entry)) (length (now (out .entry))) .eaten) × (now (out .exit) ≡ sets (now (out .entry)) 0 (opening s (now (piece .entry)) (length (now (out .entry))) .bytes)) ⌝ }
+{
+    let after = take_head(s, piece);
+    let k = after.taken - s.taken;
+    if after.taken < 14 {
+        return Eaten {
+            code: 0,
+            consumed: k,
+            wrote: 0,
+            span: after,
+        };
+    }
+    let held = after.held;
+    let code = head_code(&held);
+    let told = tell(head_due(code), out);
+    if told.code == 20 {
+        return refuse(20, s);
+    }
+    Eaten {
+        code: 1,
+        consumed: k,
+        wrote: told.wrote,
+        span: read_span(code, after),
+    }
+}
+
+// The span with a tally, that goes on or has stopped.
+fn with_tally(stopped: bool, s: Span, t: Tally) -> Span
+    ensures { λ r. ⌜ r ≡ withTally stopped s t ⌝ }
+{
+    let held = s.held;
+    Span {
+        stopped,
+        taken: s.taken,
+        held,
+        tally: t,
+    }
+}
+
+// The span after the lines where hearing a piece was cut short.
+fn heard_span(s: Span, r: Reach) -> Span
+    requires { ⌜ (r .code ≡ 1 → Sane 0 (r .tally) × (0 < r .tally .taken)) ⌝ }
+    ensures { λ o. ⌜ o ≡ heardSpan s r ⌝ }
+{
+    let t = r.tally;
+    if r.code == 1 {
+        return with_tally(false, s, accept(t));
+    }
+    with_tally(true, s, t)
+}
+
+// The packets' part of a piece.
+fn listen(s: Span, piece: &[u8], out: &mut [u8]) -> Eaten
+    requires { ⌜ (allowed (headOf s) ≡ true) × Sane (length (now piece)) (s .tally) ⌝ }
+    ensures { λ r. ⌜ (r ≡ listening s (now (piece .entry)) (length (now (out .entry))) .eaten) × (now (out .exit) ≡ sets (now (out .entry)) 0 (listening s (now (piece .entry)) (length (now (out .entry))) .bytes)) ⌝ }
+{
+    let held = s.held;
+    let h = heads::head_in(&held);
+    let r = hear(heads::form_in(h), s.tally, piece);
+    if r.code == 0 {
+        return Eaten {
+            code: 0,
+            consumed: r.at,
+            wrote: 0,
+            span: with_tally(false, s, r.tally),
+        };
+    }
+    let told = tell(heard_due(h, r), out);
+    if told.code == 20 {
+        return refuse(20, s);
+    }
+    Eaten {
+        code: 1,
+        consumed: r.at,
+        wrote: told.wrote,
+        span: heard_span(s, r),
+    }
+}
+
+// Takes a piece of the input, until lines are due or the piece is used up, and writes those lines at the start of out: 256
+// bytes are room enough. Code 0: the piece is used up, and more is waited for; 1: lines were written, and the rest of the
+// piece is to be handed over again; 2: the span stopped before, and needs no more bytes. Nothing happens with 21, where the
+// span is broken, and then with 20, where out has no room for the lines.
+pub fn eat(s: Span, piece: &[u8], out: &mut [u8]) -> Eaten
+    ensures { λ r. ⌜ (r ≡ eatingOf s (now (piece .entry)) (length (now (out .entry))) .eaten) × (now (out .exit) ≡ sets (now (out .entry)) 0 (eatingOf s (now (piece .entry)) (length (now (out .entry))) .bytes)) ⌝ }
+{
+    if !is_valid(s) {
+        return refuse(21, s);
+    }
+    if s.stopped {
+        return Eaten {
+            code: 2,
+            consumed: piece.len(),
+            wrote: 0,
+            span: s,
+        };
+    }
+    if s.taken < 14 {
+        return open(s, piece, out);
+    }
+    listen(s, piece, out)
+}
+
+// Writes the lines that the end of the input brings. Code 1: lines were written; 2: the span stopped before, and none are
+// due. Nothing happens with 21, where the span is broken, and then with 20, where out has no room for the lines.
+pub fn finish(s: Span, out: &mut [u8]) -> Told
+    ensures { λ r. ⌜ (r ≡ finishingOf s (length (now (out .entry))) .told) × (now (out .exit) ≡ sets (now (out .entry)) 0 (finishingOf s (length (now (out .entry))) .bytes)) ⌝ }
+{
+    if !is_valid(s) {
+        return Told { code: 21, wrote: 0 };
+    }
+    if s.stopped {
+        return Told { code: 2, wrote: 0 };
+    }
+    tell(last_due(s), out)
+}
