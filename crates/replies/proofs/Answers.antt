@@ -1,0 +1,108 @@
+-- What a call of the reader answers; and that its answer says all.
+use Prim.Native.Nat.{ℕ}
+use mathlib.Core.Path.{_≡_, refl, sym, ap, _∙_}
+use mathlib.Core.Bool.{Bool, true, false, _||_, not}
+use mathlib.Core.List.{List, [], _∷_}
+use lib.Dec.{eqb}
+use lib.IntN.{ℤ, pos, negsuc}
+use lib.ListN.{length, getD}
+use Rattle.wire.specs.Choice.{pick, check, firstOf}
+use Rattle.wishes.specs.declared.Wish.{Wish}
+use Rattle.wishes.specs.Wishes.{allowed}
+use Rattle.replies.specs.declared.Reply.{Reply}
+use Rattle.replies.specs.declared.Reply.the-variants.{Nak, Name, Serial, Interface, Version, Status, State, Frequency, FrequencyRange, Gain, Clock, Rate, PacketSize, NotAllowed, NotAReply}
+use Rattle.replies.specs.Awaited.{awaited, numberIn}
+use Rattle.replies.specs.Reading.{isNak, isReply, readCode, valueRead, Told, told, refused, toldOf, replyRead}
+
+-- the case that is read tells what reading answers
+pub told-read : (w : Wish) (bs : List ℕ) → told (replyRead w bs) ≡ toldOf w bs
+unfolding replyRead toldOf readCode
+told-read w bs = by (allowed w) (isNak bs) (isReply w bs)
+  where
+    v : Reply
+    v = awaited w .says (numberIn w bs)
+
+    code : Bool → Bool → Bool → ℕ
+    code a n r = firstOf (check 16 (not a) ∷ check 28 (not (n || r)) ∷ []) 1
+
+    by : (a n r : Bool)
+        → told (pick a (pick n Nak (pick r v NotAReply)) NotAllowed) ≡ pick (eqb (code a n r) 1) (told (pick n Nak v)) (refused (code a n r))
+    by false n r = refl
+    by true true r = refl
+    by true false true = refl
+    by true false false = refl
+
+module _ (w : Wish) (bs : List ℕ) where
+  pub read-refused : allowed w ≡ false → told NotAllowed ≡ toldOf w bs
+  unfolding replyRead
+  read-refused e =
+      let is : NotAllowed ≡ replyRead w bs = rw e in
+      ap told is ∙ told-read w bs
+
+  pub read-nak : allowed w ≡ true → isNak bs ≡ true → told Nak ≡ toldOf w bs
+  unfolding replyRead
+  read-nak e n =
+      let is : Nak ≡ replyRead w bs = rw (e, n) in
+      ap told is ∙ told-read w bs
+
+  pub read-value : (r : Reply) → allowed w ≡ true → isNak bs ≡ false → r ≡ valueRead w bs → told r ≡ toldOf w bs
+  unfolding replyRead
+  read-value r e n is =
+      let last : valueRead w bs ≡ replyRead w bs = rw (e, n) in
+      ap told (is ∙ last) ∙ told-read w bs
+
+-- ---- two answers that tell the same are the same
+
+natural : ℤ → ℕ
+natural (pos n) = n
+natural (negsuc n) = 0
+
+value : List ℤ → ℕ → ℕ
+value vs k = natural (getD vs k (pos 0))
+
+-- the reply of an item with these values
+about : ℕ → List ℤ → Reply
+about item vs =
+    pick (eqb item 0x0000) Nak
+    (pick (eqb item 0x0001) Name
+    (pick (eqb item 0x0002) (Serial (value vs 0))
+    (pick (eqb item 0x0003) (Interface (value vs 0))
+    (pick (eqb item 0x0004) (Version (value vs 0) (value vs 1))
+    (pick (eqb item 0x0005) (Status (eqb (value vs 0) 0x0C))
+    (pick (eqb item 0x0018) (State (record { run = value vs 0; mode = value vs 1 }))
+    (pick (eqb item 0x0020) (pick (eqb (length vs) 1) (Frequency (value vs 0)) FrequencyRange)
+    (pick (eqb item 0x0038) (Gain (getD vs 0 (pos 0)))
+    (pick (eqb item 0x00B0) (Clock (value vs 0))
+    (pick (eqb item 0x00B8) (Rate (value vs 0)) (PacketSize (value vs 0))))))))))))
+
+back : Told → Reply
+back t = pick (eqb (t .code) 16) NotAllowed (pick (eqb (t .code) 28) NotAReply (about (t .item) (t .values)))
+
+status-back : (t : Bool) → eqb (pick t 0x0C 0x0B) 0x0C ≡ t
+status-back true = refl
+status-back false = refl
+
+back-told : (r : Reply) → back (told r) ≡ r
+unfolding back about value natural
+back-told Nak = refl
+back-told Name = refl
+back-told (Serial n) = refl
+back-told (Interface n) = refl
+back-told (Version id n) = refl
+back-told (Status running) = ap Status (status-back running)
+back-told (State f) = refl
+back-told (Frequency hz) = refl
+back-told FrequencyRange = refl
+back-told (Gain g) = refl
+back-told (Clock hz) = refl
+back-told (Rate hz) = refl
+back-told (PacketSize n) = refl
+back-told NotAllowed = refl
+back-told NotAReply = refl
+
+pub told-one : (a b : Reply) → told a ≡ told b → a ≡ b
+told-one a b e = sym (back-told a) ∙ ap back e ∙ back-told b
+
+-- so the promise of the reader determines the case
+pub read-one : (w : Wish) (bs : List ℕ) (r : Reply) → told r ≡ toldOf w bs → r ≡ replyRead w bs
+read-one w bs r e = told-one r (replyRead w bs) (e ∙ sym (told-read w bs))

@@ -1,0 +1,436 @@
+-- "exactly those further replies that some valid box could give to it": what a valid box says to a wish is read as what it
+-- says, and of every reply that is accepted there is a valid box that gives it.
+use Prim.Native.Nat.{ℕ, zero, suc, _+_, _/_, _%_, _^_, _<_}
+use mathlib.Core.Path.{_≡_, refl, sym, ap, subst, _∙_}
+use mathlib.Core.Bool.{Bool, true, false, _&&_, _||_, not}
+use mathlib.Core.List.{List, [], _∷_, _++_}
+use mathlib.Core.Logic.{_⊎_, _↔_, inl, inr}
+use native.Mathlib.Omega.{arith}
+use lib.Dec.{eqb, ltb}
+use lib.ListN.{length, getD, replicate}
+use borrow.Author.Tests.{eqb-true, eq-eqb, lt-ltb, ltb-true, not-false}
+use Rattle.wire.specs.Choice.{pick, oneOf, within}
+use Rattle.wire.specs.Number.{number, bytes}
+use Rattle.wire.specs.Signed.{coded}
+use Rattle.wire.specs.Header.{nak, typeRange}
+use Rattle.wire.proofs.Laws.{and-left, and-right, and-both, or-left, or-right, within-low, within-high, pick-true}
+use Rattle.wire.proofs.Numbers.{bytes-number, number-bytes, number-below}
+use Rattle.rates.specs.Rate.{rateOf, nearestOf, isD}
+use Rattle.rates.specs.Table.{dOf}
+use Rattle.rates.proofs.Rates.{d-of-rate, d-of-found}
+use Rattle.tuning.specs.Bands.{bands, rangeBytes}
+use Rattle.items.specs.declared.Settings.{Settings}
+use Rattle.items.specs.Settings.{isMode, isSerialByte, allSerial, inRange, freshOf, withFrequency, withClock, withDivisor, withRunning, withMode, withGain, withSize, withCount}
+use Rattle.items.specs.Items.{versionTable, run, idle, achievedRate}
+use Rattle.items.specs.Answer.{settingsAfter, replyOf, replyTo, framed, parameters}
+use Rattle.station.proofs.Kept.{Ranges, ranges, message-keeps, serial-kept}
+use Rattle.wishes.specs.declared.StateFields.{StateFields}
+use Rattle.wishes.specs.declared.Wish.{Wish}
+use Rattle.wishes.specs.declared.Wish.the-variants.{AskName, AskSerial, AskInterface, AskVersion, AskStatus, SetState, AskState, SetFrequency, AskFrequency, AskFrequencyRange, SetGain, AskGain, SetClock, AskClock, SetRate, AskRate, SetPacketSize, AskPacketSize}
+use Rattle.wishes.specs.Wishes.{asking, allowed, granted, notNow, messageOf, asMessage}
+use Rattle.wishes.proofs.Allowed.{by-or, one-has, state-has}
+use Rattle.wishes.proofs.Understood.{code-of-wish, row-of-wish, settings-of-wish}
+use Rattle.replies.specs.declared.Reply.the-variants.{Nak, Status, State}
+use Rattle.replies.specs.Awaited.{awaited, isSerial, idleShown, runShown, stateShown, saysState, nameBytes, replyType, replyBytes, numberIn}
+use Rattle.replies.specs.Reading.{isReply, isNak, readCode, replyRead}
+use Rattle.replies.specs.Saying.{saysOf, saidBy}
+use Rattle.replies.proofs.Layouts.{AreBytes}
+use Rattle.replies.proofs.Same.{same-eq, eq-same}
+use Rattle.replies.proofs.Recognised.{version-has, reply-read, reply-is-reply, is-reply-bytes, code-accepted, accepted-code}
+
+-- ---- the value that a box shows
+
+-- the value's bytes in a box's reply
+abbrev shown : Wish → Settings → List ℕ
+shown w s =
+    pick (eqb (asking w .kind) typeRange) (0x02 ∷ rangeBytes bands) (asking w .item .value s (parameters (asMessage w)))
+
+-- the number that they hold
+abbrev numberOf : Wish → Settings → ℕ
+numberOf AskName s = number nameBytes
+numberOf AskSerial s = number (s .serial)
+numberOf AskInterface s = 105
+numberOf (AskVersion id) s = number (getD versionTable id [])
+numberOf AskStatus s = pick (s .running) 0x0C 0x0B
+numberOf (SetState f) s = stateShown (pick (s .running) run idle) (s .mode)
+numberOf AskState s = stateShown (pick (s .running) run idle) (s .mode)
+numberOf (SetFrequency hz) s = s .frequency
+numberOf AskFrequency s = s .frequency
+numberOf AskFrequencyRange s = number (0x02 ∷ rangeBytes bands)
+numberOf (SetGain g) s = s .gain
+numberOf AskGain s = s .gain
+numberOf (SetClock hz) s = s .clock
+numberOf AskClock s = s .clock
+numberOf (SetRate hz) s = rateOf (s .divisor)
+numberOf AskRate s = rateOf (s .divisor)
+numberOf (SetPacketSize n) s = s .size
+numberOf AskPacketSize s = s .size
+
+-- a reply around a value's bytes
+abbrev around : Wish → List ℕ → List ℕ
+around w v =
+    framed (replyType (asking w .kind)) (bytes 2 (asking w .item .code) ++ (bytes (asking w .echo .width) (asking w .echo .value) ++ v))
+
+-- the box lays its reply out as the harvester waits for it
+reply-around : (w : Wish) (s : Settings) → replyTo (asking w .item) (asking w .kind) s (parameters (asMessage w)) ≡ around w (shown w s)
+unfolding messageOf
+reply-around AskName s = refl
+reply-around AskSerial s = refl
+reply-around AskInterface s = refl
+reply-around (AskVersion id) s = refl
+reply-around AskStatus s = refl
+reply-around (SetState f) s = refl
+reply-around AskState s = refl
+reply-around (SetFrequency hz) s = refl
+reply-around AskFrequency s = refl
+reply-around AskFrequencyRange s = refl
+reply-around (SetGain g) s = refl
+reply-around AskGain s = refl
+reply-around (SetClock hz) s = refl
+reply-around AskClock s = refl
+reply-around (SetRate hz) s = refl
+reply-around AskRate s = refl
+reply-around (SetPacketSize n) s = refl
+reply-around AskPacketSize s = refl
+
+-- A serial's characters are bytes.
+serial-byte : (b : ℕ) → isSerialByte b ≡ true → b < 256
+serial-byte b = by-or (within 0x41 0x5A b) (within 0x30 0x39 b) (λ (up : within 0x41 0x5A b ≡ true). omega (arith, within-high 0x41 0x5A b up)) (λ (down : within 0x30 0x39 b ≡ true). omega (arith, within-high 0x30 0x39 b down))
+
+serial-bytes : (l : List ℕ) → allSerial l ≡ true → AreBytes l
+serial-bytes [] e k = omega arith
+serial-bytes (b ∷ l) e zero = serial-byte b (and-left (isSerialByte b) (allSerial l) e)
+serial-bytes (b ∷ l) e (suc k) = serial-bytes l (and-right (isSerialByte b) (allSerial l) e) k
+
+-- a byte more than is needed is zero
+bytes-zero : (n v : ℕ) → v < 256 ^ n → bytes (suc n) v ≡ bytes n v ++ 0 ∷ []
+bytes-zero zero v h = let none : v % 256 ≡ 0 = omega arith in rw none
+bytes-zero (suc n) v h = ap (λ (l : List ℕ). v % 256 ∷ l) (bytes-zero n (v / 256) (omega arith))
+
+serial-back : (l : List ℕ) → allSerial l ≡ true → length l ≡ 8 → bytes 8 (number l) ≡ l
+serial-back l e eight = rw eight at (bytes-number l (serial-bytes l e))
+
+serial-fits : (l : List ℕ) → allSerial l ≡ true → length l ≡ 8 → number l < 256 ^ 8
+serial-fits l e eight = rw eight at (number-below l (serial-bytes l e))
+
+serial-shown : (l : List ℕ) → allSerial l ≡ true → length l ≡ 8 → l ++ 0 ∷ [] ≡ bytes 9 (number l)
+serial-shown l e eight = sym (bytes-zero 8 (number l) (serial-fits l e eight) ∙ ap (λ (m : List ℕ). m ++ 0 ∷ []) (serial-back l e eight))
+
+-- what holds of the states that a box can be in
+box-has : (P : Bool → ℕ → Type 0) → P false 0x80 → P false 0x00 → P true 0x80 → P true 0x00 → (t : Bool) (m : ℕ) → isMode m ≡ true → P t m
+box-has P a b c d false m e = one-has (P false) m (0x80 ∷ 0x00 ∷ []) (a, (b, tt)) e
+box-has P a b c d true m e = one-has (P true) m (0x80 ∷ 0x00 ∷ []) (c, (d, tt)) e
+
+state-bytes : (t : Bool) (m : ℕ) → isMode m ≡ true → 0x80 ∷ pick t run idle ∷ m ∷ 0x00 ∷ [] ≡ bytes 4 (stateShown (pick t run idle) m)
+state-bytes = box-has (λ t m. 0x80 ∷ pick t run idle ∷ m ∷ 0x00 ∷ [] ≡ bytes 4 (stateShown (pick t run idle) m)) refl refl refl refl
+
+status-bytes : (t : Bool) → pick t 0x0C 0x0B ∷ [] ≡ bytes 1 (pick t 0x0C 0x0B)
+status-bytes false = refl
+status-bytes true = refl
+
+rate-shown : (d : ℕ) → isD d ≡ true → bytes 4 (achievedRate d) ≡ bytes 4 (rateOf d)
+rate-shown d is = ap (bytes 4) (pick-true (isD d) (rateOf d) 0 is)
+
+-- the bytes are those of the number
+shown-number : (w : Wish) (s : Settings) → allowed w ≡ true → Ranges s → length (s .serial) ≡ 8 → shown w s ≡ bytes (awaited w .width) (numberOf w s)
+unfolding messageOf
+shown-number AskName s e r eight = refl
+shown-number AskSerial s e r eight = serial-shown (s .serial) (r .serial) eight
+shown-number AskInterface s e r eight = refl
+shown-number (AskVersion id) s e r eight = version-has (λ id. shown (AskVersion id) s ≡ bytes 2 (numberOf (AskVersion id) s)) refl refl refl refl id e
+shown-number AskStatus s e r eight = status-bytes (s .running)
+shown-number (SetState f) s e r eight = state-bytes (s .running) (s .mode) (r .mode)
+shown-number AskState s e r eight = state-bytes (s .running) (s .mode) (r .mode)
+shown-number (SetFrequency hz) s e r eight = refl
+shown-number AskFrequency s e r eight = refl
+shown-number AskFrequencyRange s e r eight = refl
+shown-number (SetGain g) s e r eight = refl
+shown-number AskGain s e r eight = refl
+shown-number (SetClock hz) s e r eight = refl
+shown-number AskClock s e r eight = refl
+shown-number (SetRate hz) s e r eight = rate-shown (s .divisor) (r .divisor)
+shown-number AskRate s e r eight = rate-shown (s .divisor) (r .divisor)
+shown-number (SetPacketSize n) s e r eight = refl
+shown-number AskPacketSize s e r eight = refl
+
+status-could : (t : Bool) → oneOf (pick t 0x0C 0x0B) (0x0B ∷ 0x0C ∷ []) ≡ true
+status-could false = refl
+status-could true = refl
+
+status-said : (t : Bool) → Status (eqb (pick t 0x0C 0x0B) 0x0C) ≡ Status t
+status-said false = refl
+status-said true = refl
+
+state-said : (t : Bool) (m : ℕ) → isMode m ≡ true → saysState (stateShown (pick t run idle) m) ≡ State (record { run = pick t run idle; mode = m })
+state-said = box-has (λ t m. saysState (stateShown (pick t run idle) m) ≡ State (record { run = pick t run idle; mode = m })) refl refl refl refl
+
+some-d : (d : ℕ) → isD d ≡ true → 0 < d
+some-d d is = omega (arith, within-low 10 625 d is)
+
+-- a box that starts, or runs already in this mode, is running in this mode
+started : (m : ℕ) (s : Settings) → s .running && not (eqb m (s .mode)) ≡ false
+    → let x = pick (s .running) s (withCount 0 (withMode m (withRunning true s))) in (x .running ≡ true) × (x .mode ≡ m)
+started m s h = go (s .running) refl h
+  where
+    new : Settings
+    new = withCount 0 (withMode m (withRunning true s))
+
+    go : (t : Bool) → s .running ≡ t → t && not (eqb m (s .mode)) ≡ false → (pick t s new .running ≡ true) × (pick t s new .mode ≡ m)
+    go true q h = (q, sym (eqb-true m (s .mode) (not-false (eqb m (s .mode)) h)))
+    go false q h = (refl, refl)
+
+idle-could : (m : ℕ) → isMode m ≡ true → oneOf (stateShown idle m) idleShown ≡ true
+idle-could m = one-has (λ (m : ℕ). oneOf (stateShown idle m) idleShown ≡ true) m (0x80 ∷ 0x00 ∷ []) (refl, (refl, tt))
+
+run-could : (m : ℕ) (s : Settings) → s .running && not (eqb m (s .mode)) ≡ false
+    → let x = pick (s .running) s (withCount 0 (withMode m (withRunning true s))) in eqb (stateShown (pick (x .running) run idle) (x .mode)) (stateShown run m) ≡ true
+run-could m s h = rw (started m s h .0, started m s h .1) (eq-eqb (stateShown run m) (stateShown run m) refl)
+
+serial-could : (l : List ℕ) → allSerial l ≡ true → length l ≡ 8 → isSerial (number l) ≡ true
+serial-could l e eight =
+    and-both (allSerial (bytes 8 (number l))) (ltb (number l) (256 ^ 8)) (ap allSerial (serial-back l e eight) ∙ e)
+    (lt-ltb (number l) (256 ^ 8) (serial-fits l e eight))
+
+-- a valid box could give the value that a valid box shows
+could-shown : (w : Wish) (s : Settings) → allowed w ≡ true → Ranges s → length (s .serial) ≡ 8 → notNow w s ≡ false
+    → awaited w .could (numberOf w (granted w s)) ≡ true
+could-shown AskName s e r eight now = refl
+could-shown AskSerial s e r eight now = serial-could (s .serial) (r .serial) eight
+could-shown AskInterface s e r eight now = refl
+could-shown (AskVersion id) s e r eight now = eq-eqb (number (getD versionTable id [])) (number (getD versionTable id [])) refl
+could-shown AskStatus s e r eight now = status-could (s .running)
+could-shown (SetState f) s e r eight now = state-has (λ f. notNow (SetState f) s ≡ false → awaited (SetState f) .could (numberOf (SetState f) (granted (SetState f) s)) ≡ true) (λ m now. idle-could (s .mode) (r .mode)) (run-could 0x80 s) (run-could 0x00 s) f e now
+could-shown AskState s e r eight now = box-has (λ t m. oneOf (stateShown (pick t run idle) m) (idleShown ++ runShown) ≡ true) refl refl refl refl (s .running) (s .mode) (r .mode)
+could-shown (SetFrequency hz) s e r eight now = eq-eqb hz hz refl
+could-shown AskFrequency s e r eight now = r .frequency
+could-shown AskFrequencyRange s e r eight now = refl
+could-shown (SetGain g) s e r eight now = eq-eqb (coded 8 g) (coded 8 g) refl
+could-shown AskGain s e r eight now = r .gain
+could-shown (SetClock hz) s e r eight now = eq-eqb hz hz refl
+could-shown AskClock s e r eight now = r .clock
+could-shown (SetRate hz) s e r eight now = eq-eqb (rateOf (nearestOf hz)) (rateOf (nearestOf hz)) refl
+could-shown AskRate s e r eight now = lt-ltb 0 (dOf (rateOf (s .divisor))) (rw (d-of-rate (s .divisor) (r .divisor)) (some-d (s .divisor) (r .divisor)))
+could-shown (SetPacketSize n) s e r eight now = eq-eqb n n refl
+could-shown AskPacketSize s e r eight now = r .size
+
+-- and it says what the box says
+says-shown : (w : Wish) (s : Settings) → Ranges s → awaited w .says (numberOf w s) ≡ saysOf w s
+says-shown AskName s r = refl
+says-shown AskSerial s r = refl
+says-shown AskInterface s r = refl
+says-shown (AskVersion id) s r = refl
+says-shown AskStatus s r = status-said (s .running)
+says-shown (SetState f) s r = state-said (s .running) (s .mode) (r .mode)
+says-shown AskState s r = state-said (s .running) (s .mode) (r .mode)
+says-shown (SetFrequency hz) s r = refl
+says-shown AskFrequency s r = refl
+says-shown AskFrequencyRange s r = refl
+says-shown (SetGain g) s r = refl
+says-shown AskGain s r = refl
+says-shown (SetClock hz) s r = refl
+says-shown AskClock s r = refl
+says-shown (SetRate hz) s r = refl
+says-shown AskRate s r = refl
+says-shown (SetPacketSize n) s r = refl
+says-shown AskPacketSize s r = refl
+
+-- ---- what a valid box says is read
+
+module _ (w : Wish) (s : Settings) (e : allowed w ≡ true) (valid : inRange s ≡ true) (eight : length (s .serial) ≡ 8) where
+  -- where the box cannot grant the wish now
+  refused-nak : notNow w s ≡ true → replyOf s (asMessage w) ≡ nak
+  unfolding replyOf
+  refused-nak later = rw (code-of-wish w s e, later)
+
+  module _ (now : notNow w s ≡ false) where
+    after : settingsAfter s (asMessage w) ≡ granted w s
+    after = settings-of-wish w s e ∙ rw now
+
+    granted-valid : inRange (granted w s) ≡ true
+    granted-valid = rw after at (message-keeps s (asMessage w) valid)
+
+    granted-eight : length (granted w s .serial) ≡ 8
+    granted-eight = ap (λ (t : Settings). length (t .serial)) (sym after) ∙ ap length (serial-kept s (asMessage w)) ∙ eight
+
+    reply-shown : replyOf s (asMessage w) ≡ replyBytes w (numberOf w (granted w s))
+    unfolding replyOf replyBytes
+    reply-shown =
+        rw (code-of-wish w s e, now, row-of-wish w, after)
+        (reply-around w (granted w s) ∙ ap (around w) (shown-number w (granted w s) e (ranges (granted w s) granted-valid) granted-eight))
+
+  -- what the box says is accepted
+  box-reply-accepted : isNak (replyOf s (asMessage w)) || isReply w (replyOf s (asMessage w)) ≡ true
+  box-reply-accepted = go (notNow w s) refl
+    where
+      go : (t : Bool) → notNow w s ≡ t → isNak (replyOf s (asMessage w)) || isReply w (replyOf s (asMessage w)) ≡ true
+      go true later = rw (refused-nak later)
+      go false now =
+          rw (reply-shown now)
+          (or-right (isNak (replyBytes w (numberOf w (granted w s)))) (isReply w (replyBytes w (numberOf w (granted w s))))
+          (reply-is-reply w (numberOf w (granted w s)) e (could-shown w s e (ranges s valid) eight now)))
+
+  -- and read as what it says
+  pub box-reply-is-read : replyRead w (replyOf s (asMessage w)) ≡ saidBy w s
+  unfolding replyRead
+  box-reply-is-read = go (notNow w s) refl
+    where
+      go : (t : Bool) → notNow w s ≡ t → replyRead w (replyOf s (asMessage w)) ≡ pick t Nak (saysOf w (granted w s))
+      go true later = rw (refused-nak later, e)
+      go false now =
+          rw (reply-shown now)
+          (reply-read w (numberOf w (granted w s)) e (could-shown w s e (ranges s valid) eight now) ∙ says-shown w (granted w s) (ranges (granted w s) (granted-valid now)))
+
+-- ---- what is read, a valid box says
+
+abbrev mode-in : ℕ → Type 0
+mode-in n = isMode (getD (bytes 4 n) 2 0) ≡ true
+
+abbrev fresh : Settings
+fresh = freshOf (replicate 8 0x30)
+
+-- a valid box, fresh but for the value that a reply holds
+abbrev boxWith : Wish → ℕ → Settings
+boxWith AskName n = fresh
+boxWith AskSerial n = freshOf (bytes 8 n)
+boxWith AskInterface n = fresh
+boxWith (AskVersion id) n = fresh
+boxWith AskStatus n = withRunning (eqb n 0x0C) fresh
+boxWith (SetState f) n = withMode (getD (bytes 4 n) 2 0) fresh
+boxWith AskState n = withMode (getD (bytes 4 n) 2 0) (withRunning (eqb (getD (bytes 4 n) 1 0) run) fresh)
+boxWith (SetFrequency hz) n = fresh
+boxWith AskFrequency n = withFrequency n fresh
+boxWith AskFrequencyRange n = fresh
+boxWith (SetGain g) n = fresh
+boxWith AskGain n = withGain n fresh
+boxWith (SetClock hz) n = fresh
+boxWith AskClock n = withClock n fresh
+boxWith (SetRate hz) n = fresh
+boxWith AskRate n = withDivisor (dOf n) fresh
+boxWith (SetPacketSize m) n = fresh
+boxWith AskPacketSize n = withSize n fresh
+
+run-mode : (m n : ℕ) → mode-in (stateShown run m) → eqb n (stateShown run m) ≡ true → mode-in n
+run-mode m n h is = rw (eqb-true n (stateShown run m) is) h
+
+-- the mode that a state's reply holds
+state-mode : (f : StateFields) (n : ℕ) → allowed (SetState f) ≡ true → awaited (SetState f) .could n ≡ true → mode-in n
+state-mode f n e h =
+    state-has (λ f. awaited (SetState f) .could n ≡ true → mode-in n) (λ m. one-has mode-in n idleShown (refl, (refl, tt)))
+    (run-mode 0x80 n refl) (run-mode 0x00 n refl) f e h
+
+box-valid : (w : Wish) (n : ℕ) → allowed w ≡ true → awaited w .could n ≡ true → inRange (boxWith w n) ≡ true
+unfolding inRange
+box-valid AskName n e h = refl
+box-valid AskSerial n e h = rw (and-left (allSerial (bytes 8 n)) (ltb n (256 ^ 8)) h)
+box-valid AskInterface n e h = refl
+box-valid (AskVersion id) n e h = refl
+box-valid AskStatus n e h = refl
+box-valid (SetState f) n e h = rw (state-mode f n e h)
+box-valid AskState n e h = rw (one-has mode-in n (idleShown ++ runShown) (refl, (refl, (refl, (refl, tt)))) h)
+box-valid (SetFrequency hz) n e h = refl
+box-valid AskFrequency n e h = rw h
+box-valid AskFrequencyRange n e h = refl
+box-valid (SetGain g) n e h = refl
+box-valid AskGain n e h = rw h
+box-valid (SetClock hz) n e h = refl
+box-valid AskClock n e h = rw h
+box-valid (SetRate hz) n e h = refl
+box-valid AskRate n e h = rw (d-of-found n (ltb-true 0 (dOf n) h) .0)
+box-valid (SetPacketSize m) n e h = refl
+box-valid AskPacketSize n e h = rw h
+
+box-eight : (w : Wish) (n : ℕ) → length (boxWith w n .serial) ≡ 8
+box-eight AskName n = refl
+box-eight AskSerial n = refl
+box-eight AskInterface n = refl
+box-eight (AskVersion id) n = refl
+box-eight AskStatus n = refl
+box-eight (SetState f) n = refl
+box-eight AskState n = refl
+box-eight (SetFrequency hz) n = refl
+box-eight AskFrequency n = refl
+box-eight AskFrequencyRange n = refl
+box-eight (SetGain g) n = refl
+box-eight AskGain n = refl
+box-eight (SetClock hz) n = refl
+box-eight AskClock n = refl
+box-eight (SetRate hz) n = refl
+box-eight AskRate n = refl
+box-eight (SetPacketSize m) n = refl
+box-eight AskPacketSize n = refl
+
+box-now : (w : Wish) (n : ℕ) → notNow w (boxWith w n) ≡ false
+box-now AskName n = refl
+box-now AskSerial n = refl
+box-now AskInterface n = refl
+box-now (AskVersion id) n = refl
+box-now AskStatus n = refl
+box-now (SetState f) n = refl
+box-now AskState n = refl
+box-now (SetFrequency hz) n = refl
+box-now AskFrequency n = refl
+box-now AskFrequencyRange n = refl
+box-now (SetGain g) n = refl
+box-now AskGain n = refl
+box-now (SetClock hz) n = refl
+box-now AskClock n = refl
+box-now (SetRate hz) n = refl
+box-now AskRate n = refl
+box-now (SetPacketSize m) n = refl
+box-now AskPacketSize n = refl
+
+-- and it shows the value
+box-shows : (w : Wish) (n : ℕ) → allowed w ≡ true → awaited w .could n ≡ true → numberOf w (granted w (boxWith w n)) ≡ n
+box-shows AskName n e h = sym (eqb-true n (number nameBytes) h)
+box-shows AskSerial n e h = number-bytes 8 n (ltb-true n (256 ^ 8) (and-right (allSerial (bytes 8 n)) (ltb n (256 ^ 8)) h))
+box-shows AskInterface n e h = sym (eqb-true n 105 h)
+box-shows (AskVersion id) n e h = sym (eqb-true n (number (getD versionTable id [])) h)
+box-shows AskStatus n e h = one-has (λ n. pick (eqb n 0x0C) 0x0C 0x0B ≡ n) n (0x0B ∷ 0x0C ∷ []) (refl, (refl, tt)) h
+box-shows (SetState f) n e h = state-has (λ f. awaited (SetState f) .could n ≡ true → numberOf (SetState f) (granted (SetState f) (boxWith (SetState f) n)) ≡ n) (λ m. one-has (λ n. stateShown idle (getD (bytes 4 n) 2 0) ≡ n) n idleShown (refl, (refl, tt))) (λ is. sym (eqb-true n (stateShown run 0x80) is)) (λ is. sym (eqb-true n (stateShown run 0x00) is)) f e h
+box-shows AskState n e h = one-has (λ n. stateShown (pick (eqb (getD (bytes 4 n) 1 0) run) run idle) (getD (bytes 4 n) 2 0) ≡ n) n (idleShown ++ runShown) (refl, (refl, (refl, (refl, tt)))) h
+box-shows (SetFrequency hz) n e h = sym (eqb-true n hz h)
+box-shows AskFrequency n e h = refl
+box-shows AskFrequencyRange n e h = sym (eqb-true n (number (0x02 ∷ rangeBytes bands)) h)
+box-shows (SetGain g) n e h = sym (eqb-true n (coded 8 g) h)
+box-shows AskGain n e h = refl
+box-shows (SetClock hz) n e h = sym (eqb-true n hz h)
+box-shows AskClock n e h = refl
+box-shows (SetRate hz) n e h = sym (eqb-true n (rateOf (nearestOf hz)) h)
+box-shows AskRate n e h = d-of-found n (ltb-true 0 (dOf n) h) .1
+box-shows (SetPacketSize m) n e h = sym (eqb-true n m h)
+box-shows AskPacketSize n e h = refl
+
+-- a valid box gives these bytes to the wish
+pub record Given (w : Wish) (bs : List ℕ) : Type 0 where
+  pub settings : Settings
+  pub valid : inRange settings ≡ true
+  pub eight : length (settings .serial) ≡ 8
+  pub gives : replyOf settings (asMessage w) ≡ bs
+
+pub read-has-box : (w : Wish) (bs : List ℕ) → allowed w ≡ true → isReply w bs ≡ true → Given w bs
+read-has-box w bs e h =
+    let n = numberIn w bs in
+    let could = is-reply-bytes w bs h .0 in
+    let s = boxWith w n in
+    let valid = box-valid w n e could in
+    record {
+      settings = s;
+      valid = valid;
+      eight = box-eight w n;
+      gives = reply-shown w s e valid (box-eight w n) (box-now w n) ∙ ap (replyBytes w) (box-shows w n e could) ∙ sym (is-reply-bytes w bs h .1);
+    }
+
+-- "it accepts NAK for any other, and exactly those further replies that some valid box could give to it"
+pub exactly : (w : Wish) (bs : List ℕ) → allowed w ≡ true → (readCode w bs ≡ 1) ↔ ((bs ≡ nak) ⊎ Given w bs)
+exactly w bs e = (into, from)
+  where
+    into : readCode w bs ≡ 1 → (bs ≡ nak) ⊎ Given w bs
+    into h =
+        by-or (isNak bs) (isReply w bs) (λ (is : isNak bs ≡ true). inl (same-eq bs nak is))
+        (λ (is : isReply w bs ≡ true). inr (read-has-box w bs e is)) (code-accepted w bs e h)
+
+    from : (bs ≡ nak) ⊎ Given w bs → readCode w bs ≡ 1
+    from (inl is) = accepted-code w bs e (or-left (isNak bs) (isReply w bs) (eq-same bs nak is))
+    from (inr g) =
+        subst (λ (l : List ℕ). readCode w l ≡ 1) (g .gives)
+        (accepted-code w (replyOf (g .settings) (asMessage w)) e (box-reply-accepted w (g .settings) e (g .valid) (g .eight)))

@@ -1,0 +1,192 @@
+-- A reply with a value that a valid box could give is read as that value.
+use Prim.Native.Nat.{ℕ, zero, suc, _+_, _^_, _≤_, _<_}
+use mathlib.Core.Path.{_≡_, refl, sym, ap, subst, _∙_}
+use mathlib.Core.Bool.{Bool, true, false, _||_, not}
+use mathlib.Core.List.{List, [], _∷_, _++_}
+use native.Mathlib.Nat.{lt-of-lt-of-le}
+use native.Mathlib.Omega.{arith}
+use lib.Dec.{eqb, ltb, leb, lit<, lit≤}
+use lib.ListN.{length, getD, replicate}
+use lib.Seq.{sets}
+use borrow.Author.Tests.{eq-eqb, eqb-true, eqb-false, ltb-true, leb-true}
+use Rattle.wire.specs.Choice.{pick}
+use Rattle.wire.specs.Number.{number, bytes}
+use Rattle.wire.specs.Signed.{coded}
+use Rattle.wire.specs.Header.{nak, headerOf}
+use Rattle.wire.proofs.Laws.{true-not-false, pick-false, and-left, and-right, within-high}
+use Rattle.rates.specs.Rate.{rateOf, nearestOf, mayAsk, isD}
+use Rattle.rates.specs.Table.{dOf}
+use Rattle.rates.proofs.Rates.{rate-asked, nearest-d, d-of-found}
+use Rattle.tuning.specs.Bands.{bands, rangeBytes}
+use Rattle.items.specs.Items.{versionTable}
+use Rattle.items.specs.Settings.{allSerial}
+use Rattle.wishes.specs.declared.Wish.{Wish}
+use Rattle.wishes.specs.declared.Wish.the-variants.{AskName, AskSerial, AskInterface, AskVersion, AskStatus, SetState, AskState, SetFrequency, AskFrequency, AskFrequencyRange, SetGain, AskGain, SetClock, AskClock, SetRate, AskRate, SetPacketSize, AskPacketSize}
+use Rattle.wishes.specs.Wishes.{asking, allowed, laid}
+use Rattle.wishes.proofs.Allowed.{one-has, state-has, bands-high, gain-below, value-fits}
+use Rattle.wishes.proofs.Laying.{length-laid}
+use Rattle.replies.specs.declared.Reply.the-variants.{FrequencyRange, NotAReply}
+use Rattle.replies.specs.Awaited.{awaited, idleShown, runShown, stateShown, nameBytes, replyLayout, replyBytes, numberIn}
+use Rattle.replies.specs.Reading.{same, isNak, isReply, readCode, valueRead, replyRead}
+use Rattle.replies.proofs.Layouts.{Laid, laid-parts}
+use Rattle.replies.proofs.Same.{same-eq, same-refl, ne-same}
+
+pub code-below : (w : Wish) → asking w .item .code < 65536
+code-below AskName = omega arith
+code-below AskSerial = omega arith
+code-below AskInterface = omega arith
+code-below (AskVersion id) = omega arith
+code-below AskStatus = omega arith
+code-below (SetState f) = omega arith
+code-below AskState = omega arith
+code-below (SetFrequency hz) = omega arith
+code-below AskFrequency = omega arith
+code-below AskFrequencyRange = omega arith
+code-below (SetGain g) = omega arith
+code-below AskGain = omega arith
+code-below (SetClock hz) = omega arith
+code-below AskClock = omega arith
+code-below (SetRate hz) = omega arith
+code-below AskRate = omega arith
+code-below (SetPacketSize n) = omega arith
+code-below AskPacketSize = omega arith
+
+pub echo-fits : (w : Wish) → allowed w ≡ true → asking w .echo .value < 256 ^ asking w .echo .width
+echo-fits AskName e = omega arith
+echo-fits AskSerial e = omega arith
+echo-fits AskInterface e = omega arith
+echo-fits (AskVersion id) e = omega (arith, leb-true id 3 e)
+echo-fits AskStatus e = omega arith
+echo-fits (SetState f) e = omega arith
+echo-fits AskState e = omega arith
+echo-fits (SetFrequency hz) e = omega arith
+echo-fits AskFrequency e = omega arith
+echo-fits AskFrequencyRange e = omega arith
+echo-fits (SetGain g) e = omega arith
+echo-fits AskGain e = omega arith
+echo-fits (SetClock hz) e = omega arith
+echo-fits AskClock e = omega arith
+echo-fits (SetRate hz) e = omega arith
+echo-fits AskRate e = omega arith
+echo-fits (SetPacketSize n) e = omega arith
+echo-fits AskPacketSize e = omega arith
+
+-- what holds of each version's id
+pub version-has : (P : ℕ → Type 0) → P 0 → P 1 → P 2 → P 3 → (id : ℕ) → leb id 3 ≡ true → P id
+version-has P a b c d zero e = a
+version-has P a b c d (suc zero) e = b
+version-has P a b c d (suc (suc zero)) e = c
+version-has P a b c d (suc (suc (suc zero))) e = d
+version-has P a b c d (suc (suc (suc (suc n)))) e = absurd (over (leb-true (suc (suc (suc (suc n)))) 3 e))
+  where
+    over : suc (suc (suc (suc n))) ≤ 3 → ⊥
+    over h = omega arith
+
+rate-below : (hz : ℕ) → mayAsk hz ≡ true → hz < 256 ^ 4
+rate-below hz e = omega (arith, within-high 32_000 2_000_000 hz e)
+
+-- the achieved rate of the nearest D
+pub rate-achieved : (hz d a : ℕ) → mayAsk hz ≡ true → d ≡ pick (mayAsk hz) (nearestOf hz) 0 → a ≡ pick (isD d) (rateOf d) 0 → a ≡ rateOf (nearestOf hz)
+rate-achieved hz d a e near got =
+    let found : d ≡ nearestOf hz = near ∙ rw e in
+    got ∙ rw (found, nearest-d hz e)
+
+-- a value that a valid box could give fits its field
+pub could-fits : (w : Wish) (n : ℕ) → allowed w ≡ true → awaited w .could n ≡ true → n < 256 ^ awaited w .width
+could-fits AskName n e h = rw (eqb-true n (number nameBytes) h) (lit< tt)
+could-fits AskSerial n e h = lt-of-lt-of-le (ltb-true n (256 ^ 8) (and-right (allSerial (bytes 8 n)) (ltb n (256 ^ 8)) h)) (lit≤ tt)
+could-fits AskInterface n e h = rw (eqb-true n 105 h) (lit< tt)
+could-fits (AskVersion id) n e h = rw (eqb-true n (number (getD versionTable id [])) h) (version-has (λ id. number (getD versionTable id []) < 65536) (lit< tt) (lit< tt) (lit< tt) (lit< tt) id e)
+could-fits AskStatus n e h = one-has (λ n. n < 256) n (0x0B ∷ 0x0C ∷ []) (lit< tt, (lit< tt, tt)) h
+could-fits (SetState f) n e h = state-has (λ f. awaited (SetState f) .could n ≡ true → n < 256 ^ 4) (λ m. one-has (λ n. n < 256 ^ 4) n idleShown (lit< tt, (lit< tt, tt))) (shown 0x80 (lit< tt)) (shown 0x00 (lit< tt)) f e h
+  where
+    shown : (m : ℕ) → stateShown 2 m < 256 ^ 4 → eqb n (stateShown 2 m) ≡ true → n < 256 ^ 4
+    shown m small is = rw (eqb-true n (stateShown 2 m) is) small
+could-fits AskState n e h = one-has (λ n. n < 256 ^ 4) n (idleShown ++ runShown) (lit< tt, (lit< tt, (lit< tt, (lit< tt, tt)))) h
+could-fits (SetFrequency hz) n e h = rw (eqb-true n hz h) (value-fits (SetFrequency hz) e)
+could-fits AskFrequency n e h = omega (arith, bands-high n h)
+could-fits AskFrequencyRange n e h = rw (eqb-true n (number (0x02 ∷ rangeBytes bands)) h) (lit< tt)
+could-fits (SetGain g) n e h = rw (eqb-true n (coded 8 g) h) (value-fits (SetGain g) e)
+could-fits AskGain n e h = gain-below n h
+could-fits (SetClock hz) n e h = rw (eqb-true n hz h) (value-fits (SetClock hz) e)
+could-fits AskClock n e h = omega (arith, within-high 79_992_000 80_008_000 n h)
+could-fits (SetRate hz) n e h = rw (eqb-true n (rateOf (nearestOf hz)) h) (rate-below (rateOf (nearestOf hz)) (rate-asked (nearestOf hz) (nearest-d hz e)))
+could-fits AskRate n e h = let d = d-of-found n (ltb-true 0 (dOf n) h) in rate-below n (subst (λ (r : ℕ). mayAsk r ≡ true) (d .1) (rate-asked (dOf n) (d .0)))
+could-fits (SetPacketSize m) n e h = rw (eqb-true n m h) (value-fits (SetPacketSize m) e)
+could-fits AskPacketSize n e h = omega (arith, leb-true n 1 h)
+
+-- the reply with a value, part by part
+pub reply-parts : (w : Wish) (n : ℕ) → allowed w ≡ true → n < 256 ^ awaited w .width → Laid (replyLayout w n) (replyBytes w n)
+unfolding replyBytes
+reply-parts w n e small = laid-parts (replyLayout w n) (code-below w) (echo-fits w e) small
+
+pub reply-is-reply : (w : Wish) (n : ℕ) → allowed w ≡ true → awaited w .could n ≡ true → isReply w (replyBytes w n) ≡ true
+unfolding isReply
+reply-is-reply w n e h = rw (reply-parts w n e (could-fits w n e h) .value, h) (same-refl (replyBytes w n))
+
+-- a reply is longer than NAK
+pub reply-no-nak : (w : Wish) (n : ℕ) → isNak (replyBytes w n) ≡ false
+unfolding replyBytes
+reply-no-nak w n = ne-same (replyBytes w n) nak (λ is. absurd (two (ap length is)))
+  where
+    two : length (laid (replyLayout w n)) ≡ 2 → ⊥
+    two is = omega (arith, length-laid (replyLayout w n))
+
+pub reply-read : (w : Wish) (n : ℕ) → allowed w ≡ true → awaited w .could n ≡ true → replyRead w (replyBytes w n) ≡ awaited w .says n
+unfolding replyRead
+reply-read w n e h =
+    rw (e, reply-no-nak w n, reply-is-reply w n e h, reply-parts w n e (could-fits w n e h) .value)
+
+-- and a reply that is accepted is the reply with the value in it
+pub is-reply-bytes : (w : Wish) (bs : List ℕ) → isReply w bs ≡ true → (awaited w .could (numberIn w bs) ≡ true) × (bs ≡ replyBytes w (numberIn w bs))
+unfolding isReply
+is-reply-bytes w bs e =
+    let n = numberIn w bs in
+    (and-left (awaited w .could n) (same bs (replyBytes w n)) e, same-eq bs (replyBytes w n) (and-right (awaited w .could n) (same bs (replyBytes w n)) e))
+
+-- ---- the reply to the wish for the range
+
+abbrev pub rangeNumber : ℕ
+rangeNumber = number (0x02 ∷ rangeBytes bands)
+
+-- header, item code with channel and count, and both bands, each written where the one before ends
+pub range-written : (l₁ l₂ l₃ : List ℕ) (h : ℕ) → h ≡ headerOf 2 36 → l₁ ≡ sets (replicate 36 0) 0 (bytes 2 h) → l₂ ≡ sets l₁ 2 (bytes 4 0x0200_0020)
+    → l₃ ≡ sets l₂ 6 (rangeBytes bands) → l₃ ≡ replyBytes AskFrequencyRange rangeNumber
+unfolding replyBytes
+range-written l₁ l₂ l₃ h is first second third = rw (third, second, first, is)
+
+-- one reply alone is accepted
+pub range-read : (bs l : List ℕ) (t : Bool) → l ≡ replyBytes AskFrequencyRange rangeNumber → (t ≡ true → bs ≡ l) → (bs ≡ l → t ≡ true)
+    → pick t FrequencyRange NotAReply ≡ valueRead AskFrequencyRange bs
+range-read bs l true is to from =
+    rw (to refl ∙ is, reply-is-reply AskFrequencyRange rangeNumber refl (eq-eqb rangeNumber rangeNumber refl))
+range-read bs l false is to from = sym (pick-false (isReply AskFrequencyRange bs) FrequencyRange NotAReply (go (isReply AskFrequencyRange bs) refl))
+  where
+    go : (t : Bool) → isReply AskFrequencyRange bs ≡ t → t ≡ false
+    go true e =
+        let parts = is-reply-bytes AskFrequencyRange bs e in
+        let n : numberIn AskFrequencyRange bs ≡ rangeNumber = eqb-true (numberIn AskFrequencyRange bs) rangeNumber (parts .0) in
+        absurd (true-not-false (sym (from (parts .1 ∙ ap (replyBytes AskFrequencyRange) n ∙ sym is))))
+    go false e = refl
+
+-- ---- the code of a wish that is allowed
+
+pub code-is : (w : Wish) (bs : List ℕ) → allowed w ≡ true → readCode w bs ≡ pick (isNak bs || isReply w bs) 1 28
+unfolding readCode
+code-is w bs e = rw e (by (isNak bs || isReply w bs))
+  where
+    by : (t : Bool) → _≡_ {A = ℕ} (pick (not t) 28 1) (pick t 1 28)
+    by true = refl
+    by false = refl
+
+pub accepted-code : (w : Wish) (bs : List ℕ) → allowed w ≡ true → isNak bs || isReply w bs ≡ true → readCode w bs ≡ 1
+accepted-code w bs e h = code-is w bs e ∙ rw h
+
+pub code-accepted : (w : Wish) (bs : List ℕ) → allowed w ≡ true → readCode w bs ≡ 1 → isNak bs || isReply w bs ≡ true
+code-accepted w bs e h = go (isNak bs || isReply w bs) refl
+  where
+    go : (t : Bool) → isNak bs || isReply w bs ≡ t → t ≡ true
+    go true q = refl
+    go false q =
+        let wrong : _≡_ {A = ℕ} 28 1 = sym (code-is w bs e ∙ rw q) ∙ h in
+        absurd (eqb-false 28 1 refl wrong)

@@ -1,0 +1,145 @@
+-- In an arm that several wishes share, only their places in the enum are known: what each place has.
+use Prim.Native.Nat.{ℕ, _≤_}
+use mathlib.Core.Path.{_≡_, refl, sym, _∙_}
+use mathlib.Core.Bool.{true, false}
+use mathlib.Core.List.{List, [], _∷_}
+use native.Mathlib.Omega.{arith}
+use types.Run.{OneOf}
+use denote.Enum.Declared.{tagOf}
+use lib.Dec.{eqb}
+use lib.ListN.{getD}
+use Rattle.wire.specs.Choice.{pick, oneOf}
+use Rattle.wire.specs.Signed.{signed}
+use Rattle.wire.proofs.Laws.{true-not-false, pick-false}
+use Rattle.items.proofs.Keys.{allIn, matched}
+use Rattle.wishes.proofs.Wish.{the-type}
+use Rattle.wishes.specs.declared.Wish.{Wish}
+use Rattle.wishes.specs.declared.Wish.the-variants.{AskName, AskSerial, AskInterface, AskVersion, AskStatus, SetState, AskState, SetFrequency, AskFrequency, AskFrequencyRange, SetGain, AskGain, SetClock, AskClock, SetRate, AskRate, SetPacketSize, AskPacketSize}
+use Rattle.wishes.specs.Wishes.{asking}
+use Rattle.wishes.proofs.Allowed.{each, one-has}
+use Rattle.replies.specs.declared.Reply.{Reply}
+use Rattle.replies.specs.declared.Reply.the-variants.{Name, Serial, Interface, Status, Frequency, FrequencyRange, Gain, Clock, Rate, PacketSize, NotAReply}
+use Rattle.replies.specs.Awaited.{awaited, saysState}
+
+abbrev pub place : Wish → ℕ
+place w = tagOf the-type w
+
+-- what each key of an arm has, the wish of the arm has
+pub in-arm : (P : ℕ → Type 0) (keys : List ℕ) (w : Wish) → allIn keys keys ≡ true → each P keys → OneOf keys (place w) → P (place w)
+in-arm P keys w t all h = one-has P (place w) keys all (matched keys keys (place w) t h)
+
+-- the value's width at each place
+unfoldable pub widths : List ℕ
+widths = 7 ∷ 9 ∷ 2 ∷ 2 ∷ 1 ∷ 4 ∷ 4 ∷ 5 ∷ 5 ∷ 31 ∷ 1 ∷ 1 ∷ 4 ∷ 4 ∷ 4 ∷ 4 ∷ 1 ∷ 1 ∷ []
+
+pub width-at : (w : Wish) → awaited w .width ≡ getD widths (place w) 0
+unfolding widths
+width-at AskName = refl
+width-at AskSerial = refl
+width-at AskInterface = refl
+width-at (AskVersion id) = refl
+width-at AskStatus = refl
+width-at (SetState f) = refl
+width-at AskState = refl
+width-at (SetFrequency hz) = refl
+width-at AskFrequency = refl
+width-at AskFrequencyRange = refl
+width-at (SetGain g) = refl
+width-at AskGain = refl
+width-at (SetClock hz) = refl
+width-at AskClock = refl
+width-at (SetRate hz) = refl
+width-at AskRate = refl
+width-at (SetPacketSize m) = refl
+width-at AskPacketSize = refl
+
+-- in an arm whose wishes all have one width
+pub width-in : (v : ℕ) (keys : List ℕ) (w : Wish) → allIn keys keys ≡ true → each (λ k. getD widths k 0 ≡ v) keys → OneOf keys (place w) → v ≡ awaited w .width
+width-in v keys w t all h = sym (width-at w ∙ in-arm (λ k. getD widths k 0 ≡ v) keys w t all h)
+
+-- what a value says at each place; to the wish for a version (3) with its id
+unfoldable pub sayings : ℕ → List Reply
+sayings n =
+    Name ∷ Serial n ∷ Interface n ∷ NotAReply ∷ Status (eqb n 0x0C) ∷ saysState n ∷ saysState n ∷ Frequency n ∷ Frequency n
+    ∷ FrequencyRange ∷ Gain (signed 8 n) ∷ Gain (signed 8 n) ∷ Clock n ∷ Clock n ∷ Rate n ∷ Rate n ∷ PacketSize n ∷ PacketSize n ∷ []
+
+pub saying-at : (w : Wish) (n : ℕ) → awaited w .says n ≡ pick (eqb (place w) 3) (awaited w .says n) (getD (sayings n) (place w) NotAReply)
+unfolding sayings
+saying-at AskName n = refl
+saying-at AskSerial n = refl
+saying-at AskInterface n = refl
+saying-at (AskVersion id) n = refl
+saying-at AskStatus n = refl
+saying-at (SetState f) n = refl
+saying-at AskState n = refl
+saying-at (SetFrequency hz) n = refl
+saying-at AskFrequency n = refl
+saying-at AskFrequencyRange n = refl
+saying-at (SetGain g) n = refl
+saying-at AskGain n = refl
+saying-at (SetClock hz) n = refl
+saying-at AskClock n = refl
+saying-at (SetRate hz) n = refl
+saying-at AskRate n = refl
+saying-at (SetPacketSize m) n = refl
+saying-at AskPacketSize n = refl
+
+-- in an arm of `says` whose wishes all say the same
+pub says-in : (n : ℕ) (r : Reply) (keys : List ℕ) (w : Wish) → allIn keys keys ≡ true
+    → each (λ k. (eqb k 3 ≡ false) × (getD (sayings n) k NotAReply ≡ r)) keys → OneOf keys (place w) → r ≡ awaited w .says n
+says-in n r keys w t all h =
+    let p = in-arm (λ k. (eqb k 3 ≡ false) × (getD (sayings n) k NotAReply ≡ r)) keys w t all h in
+    sym (saying-at w n ∙ pick-false (eqb (place w) 3) (awaited w .says n) (getD (sayings n) (place w) NotAReply) (p .0) ∙ p .1)
+
+-- the places of the sets that are answered with the value sent, and of the range, whose value is longer than any of these
+unfoldable pub echoed : List ℕ
+echoed = 7 ∷ 9 ∷ 10 ∷ 12 ∷ 16 ∷ []
+
+pub echoes : (w : Wish) (n : ℕ) → oneOf (place w) echoed ≡ true → awaited w .width ≤ 9 → eqb n (asking w .value .value) ≡ awaited w .could n
+unfolding echoed
+echoes AskName n h short = absurd (true-not-false (sym h))
+echoes AskSerial n h short = absurd (true-not-false (sym h))
+echoes AskInterface n h short = absurd (true-not-false (sym h))
+echoes (AskVersion id) n h short = absurd (true-not-false (sym h))
+echoes AskStatus n h short = absurd (true-not-false (sym h))
+echoes (SetState f) n h short = absurd (true-not-false (sym h))
+echoes AskState n h short = absurd (true-not-false (sym h))
+echoes (SetFrequency hz) n h short = refl
+echoes AskFrequency n h short = absurd (true-not-false (sym h))
+echoes AskFrequencyRange n h short = absurd (long short)
+  where
+    long : 31 ≤ 9 → ⊥
+    long h = omega arith
+echoes (SetGain g) n h short = refl
+echoes AskGain n h short = absurd (true-not-false (sym h))
+echoes (SetClock hz) n h short = refl
+echoes AskClock n h short = absurd (true-not-false (sym h))
+echoes (SetRate hz) n h short = absurd (true-not-false (sym h))
+echoes AskRate n h short = absurd (true-not-false (sym h))
+echoes (SetPacketSize m) n h short = refl
+echoes AskPacketSize n h short = absurd (true-not-false (sym h))
+
+-- every place but the range's
+unfoldable pub unranged : List ℕ
+unranged = 0 ∷ 1 ∷ 2 ∷ 3 ∷ 4 ∷ 5 ∷ 6 ∷ 7 ∷ 8 ∷ 10 ∷ 11 ∷ 12 ∷ 13 ∷ 14 ∷ 15 ∷ 16 ∷ 17 ∷ []
+
+pub unranged-short : (w : Wish) → oneOf (place w) unranged ≡ true → awaited w .width ≤ 9
+unfolding unranged
+unranged-short AskName h = omega arith
+unranged-short AskSerial h = omega arith
+unranged-short AskInterface h = omega arith
+unranged-short (AskVersion id) h = omega arith
+unranged-short AskStatus h = omega arith
+unranged-short (SetState f) h = omega arith
+unranged-short AskState h = omega arith
+unranged-short (SetFrequency hz) h = omega arith
+unranged-short AskFrequency h = omega arith
+unranged-short AskFrequencyRange h = absurd (true-not-false (sym h))
+unranged-short (SetGain g) h = omega arith
+unranged-short AskGain h = omega arith
+unranged-short (SetClock hz) h = omega arith
+unranged-short AskClock h = omega arith
+unranged-short (SetRate hz) h = omega arith
+unranged-short AskRate h = omega arith
+unranged-short (SetPacketSize m) h = omega arith
+unranged-short AskPacketSize h = omega arith

@@ -1,0 +1,73 @@
+-- 16 is checked first, then NAK; the range has its own reader, every other wish the common one.
+use mathlib.Core.Path.{_≡_, refl, sym, ap, _∙_}
+use mathlib.Core.Bool.{true, false}
+use borrow.Author.Needs.{needs}
+use borrow.Author.Tests.{not-true, not-false}
+use Rattle.items.proofs.Keys.{matched}
+use Rattle.wishes.specs.declared.Wish.{Wish}
+use Rattle.wishes.specs.Wishes.{allowed}
+use Rattle.replies.specs.Reading.{isNak, valueRead}
+use Rattle.replies.proofs.Tags.{unranged, unranged-short}
+use Rattle.replies.proofs.Answers.{read-refused, read-nak, read-value}
+use Rattle.replies.proofs.read.Statement.{statement}
+use Rattle.replies.proofs.read.Tie as tie
+
+allowed-here : (c : tie.Else1) → allowed (c .before .before .before .args .w) ≡ true
+allowed-here c = sym (c .before .allows .ensures) ∙ not-false (c .before .allows .result) (c .if1 .left)
+
+no-nak : (c : tie.Else2) → isNak (c .before .before .before .before .before .args .bytes .now) ≡ false
+no-nak c = sym (c .before .is-nak .ensures) ∙ c .if2 .left
+
+allows-requires : tie.Need-allows-requires
+allows-requires c κs = search needs
+
+returns : tie.Need-returns
+returns c =
+    let a = c .before .before .before .args in
+    read-refused (a .w) (a .bytes .now) (sym (c .before .allows .ensures) ∙ not-true (c .before .allows .result) (c .if1 .taken))
+
+is-nak-requires : tie.Need-is-nak-requires
+is-nak-requires c κs = search needs
+
+returns-2 : tie.Need-returns-2
+returns-2 c =
+    let a = c .before .before .before .before .before .args in
+    read-nak (a .w) (a .bytes .now) (allowed-here (c .before .before)) (sym (c .before .is-nak .ensures) ∙ c .if2 .taken)
+
+enum-told : tie.Need-enum-told
+enum-told c = search needs
+
+read-range-requires : tie.Need-read-range-requires
+read-range-requires c κs = search needs
+
+returns-3 : tie.Need-returns-3
+returns-3 c =
+    let m = c .before .before .before in
+    let a = m .before .before .before .before .before .args in
+    read-value (a .w) (a .bytes .now) _ (allowed-here (m .before .before)) (no-nak m)
+    (c .read-range .ensures ∙ ap (λ (w : Wish). valueRead w (a .bytes .now)) (sym (c .before .enum-told .given .1)))
+
+read-value-requires : tie.Need-read-value-requires
+unfolding unranged
+read-value-requires c κs =
+    (allowed-here (c .before .before .before), unranged-short (c .before .before .before .before .before .before .args .w) (matched unranged unranged _ refl (c .match .keys2)))
+
+returns-4 : tie.Need-returns-4
+returns-4 c =
+    let m = c .before .before in
+    let a = m .before .before .before .before .before .args in
+    read-value (a .w) (a .bytes .now) _ (allowed-here (m .before .before)) (no-nak m) (c .read-value .ensures)
+
+pub read-spec : {M : Type 1} → statement M
+read-spec =
+    tie.close
+    (tie.spec
+    allows-requires
+    returns
+    is-nak-requires
+    returns-2
+    enum-told
+    read-range-requires
+    returns-3
+    read-value-requires
+    returns-4)

@@ -1,0 +1,119 @@
+-- The replies that some valid box could give to a wish. "Replies have the item's set layout with the current value; the
+-- channel byte or id is echoed."
+use Prim.Native.Nat.{ℕ, _+_, _^_}
+use mathlib.Core.Bool.{Bool, _&&_}
+use mathlib.Core.List.{List, [], _∷_, _++_}
+use lib.Dec.{eqb, ltb}
+use lib.ListN.{getD}
+use Rattle.wire.specs.Choice.{pick, oneOf}
+use Rattle.wire.specs.Number.{bytes, number, field}
+use Rattle.wire.specs.Signed.{coded, signed}
+use Rattle.wire.specs.Header.{typeRange, typeReply, typeRangeReply}
+use Rattle.rates.specs.Rate.{rateOf, nearestOf}
+use Rattle.rates.specs.Table.{dOf}
+use Rattle.tuning.specs.Bands.{bands, inBands, rangeBytes}
+use Rattle.tuning.specs.Word.{isClock}
+use Rattle.items.specs.Settings.{isGain, isSize, allSerial}
+use Rattle.items.specs.Items.{versionTable, idle, run}
+use Rattle.wishes.specs.declared.StateFields.{StateFields}
+use Rattle.wishes.specs.declared.Layout.{Layout}
+use Rattle.wishes.specs.declared.Wish.{Wish}
+use Rattle.wishes.specs.declared.Wish.the-variants.{AskName, AskSerial, AskInterface, AskVersion, AskStatus, SetState, AskState, SetFrequency, AskFrequency, AskFrequencyRange, SetGain, AskGain, SetClock, AskClock, SetRate, AskRate, SetPacketSize, AskPacketSize}
+use Rattle.wishes.specs.Wishes.{asking, laid}
+use Rattle.replies.specs.declared.Reply.{Reply}
+use Rattle.replies.specs.declared.Reply.the-variants.{Name, Serial, Interface, Version, Status, State, Frequency, FrequencyRange, Gain, Clock, Rate, PacketSize}
+
+-- What a wish waits for: a value, as a number in so many bytes; which values a valid box could give; and what each says.
+pub record Awaited : Type 0 where
+  pub width : ℕ
+  pub could : ℕ → Bool
+  pub says : ℕ → Reply
+
+abbrev pub value : ℕ → (ℕ → Bool) → (ℕ → Reply) → Awaited
+value width could says = record { width = width; could = could; says = says }
+
+-- 0001 name: "NetSDR" and a zero byte
+abbrev pub nameBytes : List ℕ
+nameBytes = 0x4E ∷ 0x65 ∷ 0x74 ∷ 0x53 ∷ 0x44 ∷ 0x52 ∷ 0x00 ∷ []
+
+-- 0002 serial: eight characters and a zero byte
+abbrev pub isSerial : ℕ → Bool
+isSerial n = allSerial (bytes 8 n) && ltb n (256 ^ 8)
+
+-- 0005 status: 0B idle, 0C running
+abbrev pub isStatus : ℕ → Bool
+isStatus n = oneOf n (0x0B ∷ 0x0C ∷ [])
+
+-- 0018 state: "Replies hold 80, run byte, mode, 00."
+abbrev pub stateShown : ℕ → ℕ → ℕ
+stateShown run mode = number (0x80 ∷ run ∷ mode ∷ 0x00 ∷ [])
+
+abbrev pub saysState : ℕ → Reply
+saysState n = State (record { run = getD (bytes 4 n) 1 0; mode = getD (bytes 4 n) 2 0 })
+
+-- idle keeps the mode, which may be either
+abbrev pub idleShown : List ℕ
+idleShown = stateShown idle 0x80 ∷ stateShown idle 0x00 ∷ []
+
+abbrev pub runShown : List ℕ
+runShown = stateShown run 0x80 ∷ stateShown run 0x00 ∷ []
+
+abbrev pub isState : ℕ → Bool
+isState n = oneOf n (idleShown ++ runShown)
+
+-- a set to idle is answered with the mode that was kept, a set to run with the mode that was set
+abbrev pub stateCould : StateFields → ℕ → Bool
+stateCould f n = pick (eqb (f .run) idle) (oneOf n idleShown) (eqb n (stateShown run (f .mode)))
+
+-- 0004 versions: the two bytes of an id
+abbrev pub versionNumber : ℕ → ℕ
+versionNumber id = number (getD versionTable id [])
+
+-- 00B8 rate: one of the 616 achieved rates
+abbrev pub isRate : ℕ → Bool
+isRate hz = ltb 0 (dOf hz)
+
+-- The table of replies. A set is answered with the value set, a request with any value that the item may have; a rate with
+-- the achieved rate of its D.
+abbrev pub awaited : Wish → Awaited
+awaited AskName = value 7 (λ n. eqb n (number nameBytes)) (λ n. Name)
+awaited AskSerial = value 9 isSerial Serial
+awaited AskInterface = value 2 (λ n. eqb n 105) Interface
+awaited (AskVersion id) = value 2 (λ n. eqb n (versionNumber id)) (Version id)
+awaited AskStatus = value 1 isStatus (λ n. Status (eqb n 0x0C))
+awaited (SetState f) = value 4 (stateCould f) saysState
+awaited AskState = value 4 isState saysState
+awaited (SetFrequency hz) = value 5 (λ n. eqb n hz) Frequency
+awaited AskFrequency = value 5 inBands Frequency
+awaited AskFrequencyRange = value 31 (λ n. eqb n (number (0x02 ∷ rangeBytes bands))) (λ n. FrequencyRange)
+awaited (SetGain g) = value 1 (λ n. eqb n (coded 8 g)) (λ n. Gain (signed 8 n))
+awaited AskGain = value 1 isGain (λ n. Gain (signed 8 n))
+awaited (SetClock hz) = value 4 (λ n. eqb n hz) Clock
+awaited AskClock = value 4 isClock Clock
+awaited (SetRate hz) = value 4 (λ n. eqb n (rateOf (nearestOf hz))) Rate
+awaited AskRate = value 4 isRate Rate
+awaited (SetPacketSize n) = value 1 (λ m. eqb m n) PacketSize
+awaited AskPacketSize = value 1 isSize PacketSize
+
+-- "From the box: 0 reply, 2 range reply"
+abbrev pub replyType : ℕ → ℕ
+replyType kind = pick (eqb kind typeRange) typeRangeReply typeReply
+
+-- how the reply to a wish is laid out that gives a value
+abbrev pub replyLayout : Wish → ℕ → Layout
+replyLayout w n =
+    record {
+      kind = replyType (asking w .kind);
+      item = asking w .item .code;
+      echoed = asking w .echo .width;
+      echo = asking w .echo .value;
+      width = awaited w .width;
+      value = n;
+    }
+
+unfoldable pub replyBytes : Wish → ℕ → List ℕ
+replyBytes w n = laid (replyLayout w n)
+
+-- the number that stands in the value's place
+abbrev pub numberIn : Wish → List ℕ → ℕ
+numberIn w bs = field (4 + asking w .echo .width) (awaited w .width) bs

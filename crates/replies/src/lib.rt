@@ -1,0 +1,269 @@
+// The harvester's reply reader: given a wish and the bytes that came, what a box said to it.
+ghost use mathlib.Core.Path.{_≡_};
+ghost use mathlib.Core.Bool.{true};
+ghost use Prim.Native.Nat.{_^_, _≤_, _<_};
+ghost use Rattle.wire.specs.Signed.{signed};
+ghost use Rattle.wishes.specs.Wishes.{asking, allowed};
+ghost use Rattle.replies.specs.Awaited.{awaited, isSerial, isStatus, isState, stateCould, saysState, versionNumber};
+ghost use Rattle.replies.specs.declared.Reply.the-variants.{State};
+ghost use Rattle.replies.specs.Reading.{isNak, valueRead, hasParts, told, toldOf};
+use wishes::Layout;
+use wishes::StateFields;
+use wishes::Wish;
+
+// What a reply says. A serial is the number in its eight characters, least significant first; a version is its id and the
+// two bytes after it; a status is whether the box is running; frequencies, clock and rate are in Hz.
+pub enum Reply {
+    // the box refused
+    Nak,
+    Name,
+    Serial(u64),
+    Interface(u16),
+    Version(u8, u16),
+    Status(bool),
+    State(StateFields),
+    Frequency(u64),
+    // both bands
+    FrequencyRange,
+    Gain(i8),
+    Clock(u32),
+    Rate(u32),
+    PacketSize(u8),
+    // a wish that the writer would refuse (16)
+    NotAllowed,
+    // the bytes are not a reply to this wish (28)
+    NotAReply,
+}
+
+// "NetSDR" and a zero byte.
+const NAME: u64 = 0x00_52_44_53_74_65_4E;
+
+// How many bytes the value has in a reply to a wish.
+fn width_of(w: Wish) -> usize
+    ensures { λ r. ⌜ r ≡ awaited w .width ⌝ }
+{
+    match w {
+        Wish::AskName => 7,
+        Wish::AskSerial => 9,
+        Wish::AskInterface | Wish::AskVersion(_) => 2,
+        Wish::SetFrequency(_) | Wish::AskFrequency => 5,
+        Wish::AskFrequencyRange => 31,
+        Wish::AskStatus | Wish::SetGain(_) | Wish::AskGain => 1,
+        Wish::SetPacketSize(_) | Wish::AskPacketSize => 1,
+        _ => 4,
+    }
+}
+
+// The two bytes of a version, as one number.
+fn version_number(id: u8) -> u64
+    ensures { λ r. ⌜ r ≡ versionNumber id ⌝ }
+{
+    match id {
+        0 => 0x0064,
+        1 => 0x006B,
+        2 => 0x0066,
+        3 => 0x0701,
+        _ => 0,
+    }
+}
+
+// The eight low bytes of the number are A-Z, 0-9.
+fn is_serial(n: u64) -> bool
+    ensures { λ r. ⌜ r ≡ isSerial n ⌝ }
+{
+    let mut rest = n;
+    let mut i: usize = 0;
+    while i < 8 {
+        if !items::ranges::is_serial_byte((rest % 256) as u8) {
+            return false;
+        }
+        rest = rest / 256;
+        i += 1;
+    }
+    true
+}
+
+// 0B idle, 0C running.
+fn is_status(n: u64) -> bool
+    ensures { λ r. ⌜ r ≡ isStatus n ⌝ }
+{
+    if n == 0x0B {
+        return true;
+    }
+    if n == 0x0C {
+        return true;
+    }
+    false
+}
+
+// 80, a run byte, a mode and 00, idle or running.
+fn is_state(n: u64) -> bool
+    ensures { λ r. ⌜ r ≡ isState n ⌝ }
+{
+    match n {
+        0x0080_0180 | 0x0000_0180 | 0x0080_0280 | 0x0000_0280 => true,
+        _ => false,
+    }
+}
+
+// What a box can say to a state that was set: idle in either mode, which it kept, or what was sent.
+fn state_could(fields: StateFields, n: u64) -> bool
+    ensures { λ r. ⌜ r ≡ stateCould fields n ⌝ }
+{
+    if fields.run == 1 {
+        return match n {
+            0x0080_0180 | 0x0000_0180 => true,
+            _ => false,
+        };
+    }
+    n == 0x0280 + 65536 * fields.mode as u64
+}
+
+// A valid box could give the value n to the wish, whose own value was sent as `sent`: a set is answered with the value set,
+// but for a rate, which is achieved, and for idle, which keeps the mode.
+fn could_say(w: Wish, sent: u64, n: u64) -> bool
+    requires { ⌜ (allowed w ≡ true) × (sent ≡ asking w .value .value) × (awaited w .width ≤ 9) × (n < 256 ^ awaited w .width) ⌝ }
+    ensures { λ r. ⌜ r ≡ awaited w .could n ⌝ }
+{
+    match w {
+        Wish::AskName => n == NAME,
+        Wish::AskSerial => is_serial(n),
+        Wish::AskInterface => n == 105,
+        Wish::AskVersion(id) => n == version_number(id),
+        Wish::AskStatus => is_status(n),
+        Wish::SetState(fields) => state_could(fields, n),
+        Wish::AskState => is_state(n),
+        Wish::AskFrequency => tuning::in_bands(n),
+        Wish::AskGain => items::ranges::is_gain(n as u8),
+        Wish::AskClock => tuning::is_clock(n as u32),
+        Wish::SetRate(hz) => n == rates::achieved(rates::nearest(hz)) as u64,
+        Wish::AskRate => 0 < rates::d_of(n as u32),
+        Wish::AskPacketSize => items::ranges::is_size(n as u8),
+        _ => n == sent,
+    }
+}
+
+// The number that a signed byte stands for.
+fn signed_byte(byte: u8) -> i8
+    ensures { λ r. ⌜ r ≡ signed 8 byte ⌝ }
+{
+    if byte < 128 {
+        return byte as i8;
+    }
+    (byte as i16 - 256) as i8
+}
+
+// Run byte and mode are the second and third of four bytes.
+fn state_in(n: u64) -> StateFields
+    ensures { λ r. ⌜ State r ≡ saysState n ⌝ }
+{
+    StateFields {
+        run: (n / 256 % 256) as u8,
+        mode: (n / 65536 % 256) as u8,
+    }
+}
+
+// What the value n says to the wish.
+fn says(w: Wish, n: u64) -> Reply
+    requires { ⌜ n < 256 ^ awaited w .width ⌝ }
+    ensures { λ r. ⌜ r ≡ awaited w .says n ⌝ }
+{
+    match w {
+        Wish::AskName => Reply::Name,
+        Wish::AskSerial => Reply::Serial(n),
+        Wish::AskInterface => Reply::Interface(n as u16),
+        Wish::AskVersion(id) => Reply::Version(id, n as u16),
+        Wish::AskStatus => Reply::Status(n == 0x0C),
+        Wish::SetState(_) | Wish::AskState => Reply::State(state_in(n)),
+        Wish::SetFrequency(_) | Wish::AskFrequency => Reply::Frequency(n),
+        Wish::AskFrequencyRange => Reply::FrequencyRange,
+        Wish::SetGain(_) | Wish::AskGain => Reply::Gain(signed_byte(n as u8)),
+        Wish::SetClock(_) | Wish::AskClock => Reply::Clock(n as u32),
+        Wish::SetRate(_) | Wish::AskRate => Reply::Rate(n as u32),
+        Wish::SetPacketSize(_) | Wish::AskPacketSize => Reply::PacketSize(n as u8),
+    }
+}
+
+// The bytes have the length, header, item code and echo of a layout.
+fn has_parts(bytes: &[u8], a: Layout) -> bool
+    requires { ⌜ (a .echoed ≤ 1) × (a .width ≤ 31) ⌝ }
+    ensures { λ r. ⌜ r ≡ hasParts a (now (bytes .entry)) ⌝ }
+{
+    let total = 4 + a.echoed + a.width;
+    if bytes.len() != total {
+        return false;
+    }
+    if wire::number_at(bytes, 0, 2) != wire::header_of(a.kind, total as u16) as u64 {
+        return false;
+    }
+    if wire::number_at(bytes, 2, 2) != a.item as u64 {
+        return false;
+    }
+    wire::number_at(bytes, 4, a.echoed) == a.echo as u64
+}
+
+// A reply to a wish other than the one for the range, of which the value has at most eight bytes: a serial's ninth is zero,
+// and past every other value nothing is left.
+fn read_value(w: Wish, bytes: &[u8]) -> Reply
+    requires { ⌜ (allowed w ≡ true) × (awaited w .width ≤ 9) ⌝ }
+    ensures { λ r. ⌜ r ≡ valueRead w (now (bytes .entry)) ⌝ }
+{
+    let asked = wishes::layout_of(w);
+    let a = Layout {
+        kind: 0,
+        item: asked.item,
+        echoed: asked.echoed,
+        echo: asked.echo,
+        width: width_of(w),
+        value: 0,
+    };
+    if !has_parts(bytes, a) {
+        return Reply::NotAReply;
+    }
+    let at = 4 + asked.echoed;
+    if wire::number_at(bytes, at + 8, 1) != 0 {
+        return Reply::NotAReply;
+    }
+    let n = wire::number_at(bytes, at, 8);
+    if could_say(w, asked.value, n) {
+        return says(w, n);
+    }
+    Reply::NotAReply
+}
+
+// The one reply to the wish for the range, with both bands.
+fn read_range(bytes: &[u8]) -> Reply
+    ensures { λ r. ⌜ r ≡ valueRead Wish.AskFrequencyRange (now (bytes .entry)) ⌝ }
+{
+    let mut range = [0u8; 36];
+    wire::put(&mut range, 0, 2, wire::header_of(2, 36) as u64);
+    wire::put(&mut range, 2, 4, 0x0200_0020);
+    tuning::put_range(&mut range, 6);
+    if check::same(bytes, &range) {
+        return Reply::FrequencyRange;
+    }
+    Reply::NotAReply
+}
+
+// NAK is the bytes 02 00.
+fn is_nak(bytes: &[u8]) -> bool
+    ensures { λ r. ⌜ r ≡ isNak (now (bytes .entry)) ⌝ }
+{
+    check::same(bytes, b"\x02\x00")
+}
+
+// What the bytes say to the wish.
+pub fn read(w: Wish, bytes: &[u8]) -> Reply
+    ensures { λ r. ⌜ told r ≡ toldOf w (now (bytes .entry)) ⌝ }
+{
+    if !wishes::allows(w) {
+        return Reply::NotAllowed;
+    }
+    if is_nak(bytes) {
+        return Reply::Nak;
+    }
+    if let Wish::AskFrequencyRange = w {
+        return read_range(bytes);
+    }
+    read_value(w, bytes)
+}
