@@ -68,7 +68,8 @@ fn start(s: Settings, first: u8, mode: u8) -> Judged
             settings: s,
         };
     }
-    if s.running {
+    let already = s.running;
+    if already {
         if mode != s.mode {
             return Judged {
                 code: 17,
@@ -95,14 +96,16 @@ fn set_gain(s: Settings, p: &[u8]) -> Judged
     requires { ⌜ 2 ≤ length (now p) ⌝ }
     ensures { λ r. ⌜ r ≡ setBy gain s (now (p .entry)) ⌝ }
 {
-    if !set_channel(p[0]) {
+    let byte = p[1];
+    let to_channel = set_channel(p[0]);
+    let to_gain = ranges::is_gain(byte);
+    if !to_channel {
         return Judged {
             code: 15,
             settings: s,
         };
     }
-    let byte = p[1];
-    if !ranges::is_gain(byte) {
+    if !to_gain {
         return Judged {
             code: 16,
             settings: s,
@@ -202,13 +205,15 @@ fn set_rate(s: Settings, p: &[u8]) -> Judged
     ensures { λ r. ⌜ r ≡ setBy rate s (now (p .entry)) ⌝ }
 {
     let asked = wire::number_at(p, 1, 4) as u32;
-    if !rates::may_ask(asked) {
+    let allowed = rates::may_ask(asked);
+    let running = s.running;
+    if !allowed {
         return Judged {
             code: 16,
             settings: s,
         };
     }
-    if s.running {
+    if running {
         return Judged {
             code: 17,
             settings: s,
