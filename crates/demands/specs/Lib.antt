@@ -1,3 +1,5 @@
 pub mod Starred
+pub mod Asked
+pub mod Packed
 pub mod Reached
 pub mod Shown

@@ -14,6 +14,7 @@ use Rattle.wire.specs.Header.{typeSet}
 use Rattle.wire.proofs.Laws.{and-both, and-left, and-right, and-rest, pick-keeps}
 use Rattle.packets.specs.declared.Form.{Form}
 use Rattle.packets.specs.Numbers.{most}
+use Rattle.packets.specs.Samples.{allSamples}
 use Rattle.framing.specs.Framing.{couldBeLeft, taken, finished}
 use Rattle.items.specs.declared.Settings.{Settings}
 use Rattle.items.specs.Items.{Item, items, noItem, rowIn, rowOf, state, stateAfter, runByte, idle}
@@ -30,6 +31,7 @@ pub record Made (s : Station) (samples : List ℤ) : Type 0 where
   pub running : s .settings .running ≡ true
   pub below : s .settings .count < most
   pub enough : length samples ≡ 2 * formNow (s .settings) .pairs
+  pub fits : allSamples samples ≡ true
 
 made : (s : Station) (samples : List ℤ) (room : ℕ) → cutCode s samples room ≡ 1 → Made s samples
 unfolding cutCode
@@ -40,6 +42,7 @@ made s samples room e =
       running = not-false (s .settings .running) (clear .1 .0);
       below = leb-false most (s .settings .count) (clear .1 .1 .0);
       enough = eqb-true _ _ (not-false _ (clear .1 .1 .1 .0));
+      fits = not-false (allSamples samples) (clear .1 .1 .1 .1 .0);
     }
 
 -- the answer of a cut whose code is 1
