@@ -6,6 +6,8 @@ use mathlib.Core.List.{List, [], _∷_}
 use lib.Dec.{eqb}
 use lib.IntN.{ℤ, pos, negsuc}
 use lib.ListN.{replicate}
+use Rattle.wire.specs.Number.{field}
+use Rattle.wire.specs.Header.{nak}
 use Rattle.wire.specs.Signed.{signed}
 use Rattle.rates.specs.Rate.{nearestOf, rateOf, mayAsk}
 use Rattle.tuning.specs.Word.{wordOf}
@@ -45,7 +47,11 @@ pub data Example : Type 0 where
   tunes : List ℕ → ℕ → Example
   -- a frequency at a clock has a tuning word
   hasWord : ℕ → ℕ → ℕ → Example
-  -- a message gets a code
+  -- a message has this frequency in its five bytes
+  asksFor : List ℕ → ℕ → Example
+  -- a message is unanswered
+  unanswered : List ℕ → Example
+  -- a message gets a code, and NAK
   getsCode : List ℕ → ℕ → Example
   -- a message is echoed, and the gain is then this
   gains : List ℕ → ℤ → Example
@@ -64,7 +70,9 @@ abbrev pub holds : Example → Bool
 holds (gives message reply) = eqb (does message .fed .code) 1 && sameBytes (does message .bytes) reply
 holds (tunes message hz) = sameBytes (does message .bytes) message && eqb (settingsBy message .frequency) hz
 holds (hasWord hz clock word) = eqb (wordOf hz clock) word
-holds (getsCode message code) = eqb (does message .fed .code) code
+holds (asksFor message hz) = eqb (field 5 5 message) hz
+holds (unanswered message) = eqb (does message .fed .code) 2 && sameBytes (does message .bytes) []
+holds (getsCode message code) = eqb (does message .fed .code) code && sameBytes (does message .bytes) nak
 holds (gains message db) = sameBytes (does message .bytes) message && sameInteger (signed 8 (settingsBy message .gain)) db
 holds (givesRate hz d achieved) = mayAsk hz && eqb (nearestOf hz) d && eqb (rateOf d) achieved
 holds (refusesRate hz) = not (mayAsk hz)
@@ -78,7 +86,10 @@ starred =
     ∷ tunes (0x0A ∷ 0x00 ∷ 0x20 ∷ 0x00 ∷ 0x00 ∷ 0x90 ∷ 0xC6 ∷ 0xD5 ∷ 0x00 ∷ 0x00 ∷ []) 14_010_000
     ∷ hasWord 14_010_000 80_000_000 752_156_148
     ∷ hasWord 145_000_000 80_000_000 805_306_368
+    ∷ asksFor (0x0A ∷ 0x00 ∷ 0x20 ∷ 0x00 ∷ 0x00 ∷ 0x90 ∷ 0xC6 ∷ 0xD5 ∷ 0x00 ∷ 0x01 ∷ []) 4_308_977_296
     ∷ getsCode (0x0A ∷ 0x00 ∷ 0x20 ∷ 0x00 ∷ 0x00 ∷ 0x90 ∷ 0xC6 ∷ 0xD5 ∷ 0x00 ∷ 0x01 ∷ []) 16
+    ∷ tunes (0x0A ∷ 0x00 ∷ 0x20 ∷ 0x00 ∷ 0x00 ∷ 0x80 ∷ 0xCC ∷ 0x06 ∷ 0x02 ∷ 0x00 ∷ []) 34_000_000
+    ∷ getsCode (0x0A ∷ 0x00 ∷ 0x20 ∷ 0x00 ∷ 0x00 ∷ 0x81 ∷ 0xCC ∷ 0x06 ∷ 0x02 ∷ 0x00 ∷ []) 16
     ∷ gains (0x06 ∷ 0x00 ∷ 0x38 ∷ 0x00 ∷ 0x00 ∷ 0xEC ∷ []) (negsuc 19)
     ∷ getsCode (0x06 ∷ 0x00 ∷ 0x38 ∷ 0x00 ∷ 0x00 ∷ 0xF0 ∷ []) 16
     ∷ givesRate 55_556 360 55_556
@@ -88,7 +99,7 @@ starred =
     ∷ refusesRate 31_999
     ∷ refusesRate 2_000_001
     ∷ getsCode (0x04 ∷ 0x20 ∷ 0x09 ∷ 0x00 ∷ []) 12
-    ∷ getsCode (0x03 ∷ 0x60 ∷ 0x00 ∷ []) 2
+    ∷ unanswered (0x03 ∷ 0x60 ∷ 0x00 ∷ [])
     ∷ getsCode (0x03 ∷ 0x60 ∷ 0x04 ∷ []) 11
     ∷ hasNumber 65_535 65_535
     ∷ hasNumber 65_536 1
