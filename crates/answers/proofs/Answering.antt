@@ -1,23 +1,22 @@
 -- How what is judged and what is written make the answer to a message.
-use Prim.Native.Nat.{ℕ, suc, _+_, _<_}
-use mathlib.Core.Path.{_≡_, refl, sym, ap, subst, _∙_}
+use Prim.Native.Nat.{ℕ, _<_}
+use mathlib.Core.Path.{_≡_, refl, sym, ap, _∙_}
 use mathlib.Core.Bool.{Bool, true, false}
-use mathlib.Core.List.{List, [], _∷_, _++_}
+use mathlib.Core.List.{List, [], _∷_}
 use native.Mathlib.Omega.{arith}
 use lib.Dec.{eqb, ltb, lit<}
-use lib.ListN.{length, getD, take, drop, length-drop}
+use lib.ListN.{length, getD, take, length-drop}
 use lib.Seq.{sets, getD-drop}
 use borrow.Author.Tests.{le-ltb, ne-eqb}
 use Rattle.wire.specs.Choice.{pick}
 use Rattle.wire.specs.Number.{bytes}
 use Rattle.wire.specs.Header.{nak, typeRange, typeReply, typeRangeReply}
-use Rattle.tuning.specs.Bands.{bands, rangeBytes}
 use Rattle.items.specs.declared.Settings.{Settings}
-use Rattle.items.specs.Items.{Item, items, rowOf}
+use Rattle.items.specs.Items.{Item, rowOf}
 use Rattle.items.specs.Answer.{Message, itemIn, row, parameters, codeOf, settingsAfter, replyOf, replyTo, replyBody, rangeBody, framed}
-use Rattle.items.proofs.Rows.{allHave, found}
+use Rattle.items.proofs.Rows.{found}
 use Rattle.answers.specs.declared.Answered.{Answered}
-use Rattle.answers.specs.Replies.{countIn, bytesIn, due, answerOf, refused, replied}
+use Rattle.answers.specs.Replies.{countIn, bytesIn, due, answerOf}
 
 -- ---- a reply has of the parameters only the first byte
 

@@ -1,14 +1,14 @@
 -- A reply that is laid out with an item's value is the reply that the item's row asks for.
 use Prim.Native.Nat.{ℕ, suc, _+_}
-use mathlib.Core.Path.{_≡_, refl, sym, ap, _∙_}
+use mathlib.Core.Path.{_≡_, refl}
 use mathlib.Core.Bool.{Bool, true, false}
-use mathlib.Core.List.{List, [], _∷_, _++_}
+use mathlib.Core.List.{[], _∷_}
 use native.Mathlib.Omega.{arith}
-use lib.ListN.{length, take}
+use lib.ListN.{length}
 use borrow.Author.Tests.{ne-eqb}
 use Rattle.wire.specs.Choice.{pick}
 use Rattle.wire.specs.Number.{bytes}
-use Rattle.wire.specs.Header.{headerOf, typeReply}
+use Rattle.wire.specs.Header.{typeReply}
 use Rattle.wire.proofs.Numbers.{length-bytes}
 use Rattle.layouts.specs.Layouts.{laid}
 use Rattle.items.specs.declared.Settings.{Settings}

@@ -1,25 +1,25 @@
 -- Demand 1: no sequence of messages, cuts and refusals takes a fresh box out of its ranges.
 -- Assumes nothing.
-use Prim.Native.Nat.{ℕ, _+_, _*_, _<_, _≤_}
+use Prim.Native.Nat.{ℕ, _+_}
 use native.Mathlib.Omega.{arith}
-use borrow.Author.Tests.{le-leb, leb-false, lt-ltb, le-ltb, ltb-true, ltb-false, eqb-true}
-use mathlib.Core.Path.{_≡_, refl, sym, ap, _∙_}
+use borrow.Author.Tests.{le-leb, leb-false, eqb-true}
+use mathlib.Core.Path.{_≡_, refl, sym, _∙_}
 use mathlib.Core.Bool.{Bool, true, false, not}
-use mathlib.Core.List.{List, [], _∷_}
+use mathlib.Core.List.{List}
 use lib.Dec.{eqb, leb, ltb}
 use lib.IntN.{ℤ}
 use lib.ListN.{length}
-use Rattle.wire.specs.Choice.{pick, Check, firstOf}
+use Rattle.wire.specs.Choice.{pick}
 use Rattle.packets.specs.Numbers.{most}
-use Rattle.framing.specs.declared.Taking.{Taking}
 use Rattle.framing.specs.Framing.{taken, finished, between}
 use Rattle.items.specs.declared.Settings.{Settings}
 use Rattle.items.specs.Settings.{inRange, freshOf, allSerial, withCount}
 use Rattle.items.specs.Answer.{replyOf, settingsAfter}
 use Rattle.station.specs.declared.Station.{Station}
 use Rattle.station.specs.Station.{valid, freshStation}
-use Rattle.station.specs.Feeding.{feedingOf, messageIn, refused, waiting, answered, fedBy}
-use Rattle.station.proofs.Kept.{Ranges, ranges, in-range, message-keeps, accepted, otherThan}
+use Rattle.station.specs.Feeding.{feedingOf, messageIn, refused, waiting, answered}
+use Rattle.items.proofs.Judging.{accepted, otherThan}
+use Rattle.station.proofs.Kept.{ranges, in-range, message-keeps}
 use Rattle.framing.proofs.Cutting.{told, taken-left}
 use Rattle.framing.proofs.Leaving.{between-left}
 use Rattle.station.proofs.Valid.{valid-settings, valid-store, valid-both}

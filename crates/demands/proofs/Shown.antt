@@ -19,13 +19,15 @@ use Rattle.rates.proofs.Rates.{nearest-d}
 use Rattle.framing.specs.Framing.{allBytes}
 use Rattle.items.specs.declared.Settings.{Settings}
 use Rattle.items.specs.Settings.{withRunning, withCount, withMode, isMode}
-use Rattle.items.specs.Items.{Offer, total, dash, Item, items, noItem, listedIn, rowIn, rowOf, runByte, modeByte, idle, run, frequency, gain, clock, rate, packetSize, state, status, listed}
+use Rattle.items.specs.Items.{Offer, total, dash, Item, items, noItem, rowIn, rowOf, runByte, modeByte, idle, run, frequency, gain, clock, rate, packetSize, state, status, listed}
 use Rattle.items.specs.Table.{offerFor, offered, isDash, isTotal}
-use Rattle.items.specs.Answer.{Message, itemIn, row, parameters, valueAllowed, refusedRunning, itemCode, checks, codeOf, settingsAfter, replyOf}
+use Rattle.items.specs.Answer.{Message, itemIn, row, parameters, valueAllowed, refusedRunning, itemCode, codeOf, settingsAfter, replyOf}
 use Rattle.items.proofs.Classes.{fitting, unnamed}
 use Rattle.items.proofs.Judging.{by-item}
 use Rattle.station.specs.Feeding.{answered}
-use Rattle.station.proofs.Kept.{allFail, accepted, refusals, left-alone}
+use Rattle.items.proofs.Rows.{row-code}
+use Rattle.items.proofs.Judging.{passed}
+use Rattle.station.proofs.Kept.{left-alone}
 use Rattle.demands.specs.Shown.{shownBy, valueSet, Held, showing, touches, changes, afterAll, noneChanges}
 
 -- ---- what holds of each line of the table with its code, and of no item, holds of a code and its line
@@ -210,10 +212,6 @@ show = (
 
 -- ---- what an accepted message passed
 
-passed : (s : Settings) (m : Message) → codeOf s m ≡ 1 → allFail (checks s m)
-unfolding codeOf
-passed s m h = accepted (checks s m) 1 (refusals s m) h
-
 module _ (s : Settings) (m : Message) (h : codeOf s m ≡ 1) where
   is-listed : listed (itemIn m) ≡ true
   is-listed = not-false _ (passed s m h .1 .1 .1 .0)
@@ -228,20 +226,6 @@ module _ (s : Settings) (m : Message) (h : codeOf s m ≡ 1) where
   is-free = passed s m h .1 .1 .1 .1 .1 .1 .1 .1 .0
 
 -- ---- replies
-
--- the line that is looked up has the code
-listed-row : (is : List Item) (code : ℕ) → listedIn is code ≡ true → rowIn is code .code ≡ code
-listed-row [] code h = absurd (true-not-false (sym h))
-listed-row (i ∷ is) code h = go (eqb code (i .code)) refl h (listed-row is code)
-  where
-    go : (b : Bool) → eqb code (i .code) ≡ b → b || listedIn is code ≡ true → (listedIn is code ≡ true → rowIn is code .code ≡ code)
-        → pick b i (rowIn is code) .code ≡ code
-    go true q h rest = sym (eqb-true code (i .code) q)
-    go false q h rest = rest h
-
-row-code : (code : ℕ) → listed code ≡ true → rowOf code .code ≡ code
-unfolding listed rowOf
-row-code code h = listed-row items code h
 
 -- an accepted message that asks for no range is answered with the value that its item has then
 answers : (s : Settings) (m : Message) → codeOf s m ≡ 1 → eqb (m .type) typeRange ≡ false

@@ -1,17 +1,16 @@
 -- How the codes of a message's header, of the table and of the item make the message's code.
 use Prim.Native.Nat.{ℕ}
-use mathlib.Core.Path.{_≡_, refl, sym, ap, _∙_}
-use mathlib.Core.Bool.{Bool, true, false, _&&_, and-true, and-false}
+use mathlib.Core.Path.{_≡_, refl, _∙_}
+use mathlib.Core.Bool.{Bool, true, false, and-true, and-false}
 use mathlib.Core.List.{List, [], _∷_, _++_}
 use native.Mathlib.Omega.{arith}
 use lib.Dec.{eqb}
 use lib.ListN.{getD}
 use borrow.Author.Tests.{ne-eqb, not-false}
-use Rattle.wire.specs.Choice.{pick, Check, check, firstOf}
+use Rattle.wire.specs.Choice.{pick, Check, firstOf}
 use Rattle.wire.specs.Header.{typeSet, typeRequest}
 use Rattle.items.specs.declared.Settings.{Settings}
-use Rattle.items.specs.declared.Judged.{Judged}
-use Rattle.items.specs.Items.{Channels, noChannel, anyChannel, zeroAndAll, Item, versions, frequency, gain, name, serial, interface, status, state, clock, rate, packetSize, listed, rowIn, rowOf}
+use Rattle.items.specs.Items.{Channels, noChannel, anyChannel, zeroAndAll, Item, versions, name, serial, interface, status, state, clock, rate, packetSize, listed, rowOf}
 use Rattle.items.specs.Header.{headerChecks}
 use Rattle.items.specs.Table.{tableChecks}
 use Rattle.items.specs.Answer.{Message, channelAllowed, itemIn, row, parameters, itemChecks, itemCode, askedBy, setBy, checks, codeOf, settingsAfter, judgedOf}

@@ -1,12 +1,12 @@
 -- What one finished message does: its code, its reply, and the settings after it.
-use Prim.Native.Nat.{ℕ, _+_, _*_}
-use mathlib.Core.Bool.{Bool, true, false, _&&_, _||_, not}
+use Prim.Native.Nat.{ℕ, _+_}
+use mathlib.Core.Bool.{Bool, true, _&&_, not}
 use mathlib.Core.List.{List, [], _∷_, _++_}
-use lib.Dec.{eqb, leb, ltb}
+use lib.Dec.{eqb}
 use lib.ListN.{length, getD, take, drop}
 use Rattle.wire.specs.Choice.{pick, Check, check, firstOf, oneOf}
 use Rattle.wire.specs.Number.{bytes, field}
-use Rattle.wire.specs.Header.{headerOf, nak, typeSet, typeRequest, typeRange, typeAcknowledgement, typeData, typeReply, typeRangeReply}
+use Rattle.wire.specs.Header.{headerOf, nak, typeSet, typeRequest, typeRange, typeReply, typeRangeReply}
 use Rattle.tuning.specs.Bands.{bands, rangeBytes}
 use Rattle.items.specs.declared.Settings.{Settings}
 use Rattle.items.specs.declared.Judged.{Judged}

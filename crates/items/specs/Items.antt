@@ -1,6 +1,6 @@
 -- The table of items. "Lengths are totals; a dash means not offered (14)." A row has what the table and the paragraphs
 -- below it say of one item; what every item shares stands in Answer.antt.
-use Prim.Native.Nat.{ℕ, _+_, _*_}
+use Prim.Native.Nat.{ℕ, _+_}
 use mathlib.Core.Bool.{Bool, true, false, _&&_, _||_, not}
 use mathlib.Core.List.{List, [], _∷_, _++_}
 use lib.Dec.{eqb, leb}

@@ -6,7 +6,6 @@ use mathlib.Core.List.{List}
 use lib.ListN.{getD}
 use Rattle.wire.specs.Header.{typeSet}
 use Rattle.items.specs.declared.Settings.{Settings}
-use Rattle.items.specs.declared.Judged.{Judged}
 use Rattle.items.specs.Items.{Item}
 use Rattle.items.specs.Answer.{setBy, channelAllowed}
 

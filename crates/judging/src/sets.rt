@@ -1,7 +1,7 @@
 // What a set of each item does. The readers are handed the message's parameters, its bytes from the fifth on.
 ghost use mathlib.Core.Path.{_≡_};
 ghost use mathlib.Core.List.{[], _∷_};
-ghost use Prim.Native.Nat.{_≤_, _<_};
+ghost use Prim.Native.Nat.{_≤_};
 ghost use lib.ListN.{length};
 ghost use Rattle.wire.specs.Header.{typeSet};
 ghost use Rattle.items.specs.Items.{zeroAndAll, state, frequency, gain, clock, rate, packetSize, rowOf};

@@ -21,7 +21,7 @@ use Rattle.answers.specs.Replies.{refused as refusedAnswer}
 use Rattle.station.specs.declared.Station.{Station}
 use Rattle.station.specs.declared.Fed.{Fed}
 use Rattle.station.specs.Feeding.{messageIn, refused, answered, answering}
-use Rattle.station.proofs.Kept.{otherThan}
+use Rattle.items.proofs.Judging.{otherThan}
 
 -- the header split into type and length is the message's
 pub message-is : (t : Taking) (header type size : ℕ) → header ≡ field 0 2 (t .store .held) → type ≡ typeIn header → size ≡ lengthIn header

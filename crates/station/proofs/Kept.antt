@@ -1,26 +1,27 @@
 -- No message takes a setting out of its range, and a message that is not an accepted set leaves every setting.
 -- Assumes nothing.
-use Prim.Native.Nat.{ℕ, zero, suc, _+_, _*_, _≤_}
-use native.Mathlib.Nat.{le-refl, le-trans}
-use native.Mathlib.Omega.{arith}
-use mathlib.Core.Path.{_≡_, refl, sym, ap, _∙_}
+use Prim.Native.Nat.{ℕ}
+use mathlib.Core.Path.{_≡_, refl, _∙_}
 use mathlib.Core.Bool.{Bool, true, false, _&&_, _||_}
-use mathlib.Core.List.{List, [], _∷_}
-use lib.Dec.{eqb, leb, ltb}
-use lib.ListN.{getD, length}
-use borrow.Author.Tests.{le-leb, ne-eqb, eqb-true, not-false}
-use Rattle.wire.specs.Choice.{pick, Check, check, firstOf}
+use mathlib.Core.List.{List}
+use lib.Dec.{eqb, leb}
+use lib.ListN.{getD}
+use borrow.Author.Tests.{ne-eqb, eqb-true, not-false}
+use Rattle.wire.specs.Choice.{pick}
 use Rattle.wire.specs.Number.{field}
-use Rattle.wire.proofs.Laws.{and-left, and-right, and-not-left, is-within}
-use Rattle.rates.specs.Rate.{isD, miss, nearerOf, nearestUpTo, nearestOf}
+use Rattle.wire.proofs.Laws.{and-left, and-right, and-not-left}
+use Rattle.rates.specs.Rate.{isD}
+use Rattle.rates.proofs.Rates.{nearest-d}
 use Rattle.tuning.specs.Bands.{inBands}
 use Rattle.tuning.specs.Word.{isClock}
 use Rattle.packets.specs.Numbers.{most}
 use Rattle.items.specs.declared.Settings.{Settings}
 use Rattle.items.specs.Settings.{inRange, isMode, isGain, isSize, allSerial, withRunning, withCount, withMode}
-use Rattle.items.specs.Items.{Item, items, frequency, gain, clock, rate, packetSize, state, noItem, rowIn, rowOf, stateAfter, mayState, runByte, modeByte, idle, run}
+use Rattle.items.specs.Items.{Item, items, frequency, gain, clock, rate, packetSize, state, stateAfter, mayState, runByte, modeByte, idle, run}
 use Rattle.wire.specs.Header.{typeSet}
-use Rattle.items.specs.Answer.{Message, itemIn, checks, valueAllowed, codeOf, settingsAfter, row, parameters}
+use Rattle.items.specs.Answer.{Message, itemIn, valueAllowed, codeOf, settingsAfter, row, parameters}
+use Rattle.items.proofs.Rows.{allHave, found}
+use Rattle.items.proofs.Judging.{passed}
 
 -- every setting lies within its range, one by one
 pub record Ranges (s : Settings) : Type 0 where
@@ -66,25 +67,6 @@ pub in-range : (s : Settings) → Ranges s → inRange s ≡ true
 unfolding inRange
 in-range s r = rw (r .frequency, r .count, r .clock, r .divisor, r .mode, r .gain, r .size, r .serial)
 
--- ---- the nearest D is a D
-
-nearer-between : (low high rate d e : ℕ) → low ≤ d → d ≤ high → low ≤ e → e ≤ high → (low ≤ nearerOf rate d e) × (nearerOf rate d e ≤ high)
-nearer-between low high rate d e p q r s = go (ltb (miss rate e * d) (miss rate d * e))
-  where
-    go : (t : Bool) → (low ≤ pick t e d) × (pick t e d ≤ high)
-    go true = (r, s)
-    go false = (p, q)
-
-nearest-between : (rate n : ℕ) → (10 ≤ nearestUpTo rate n) × (nearestUpTo rate n ≤ 10 + n)
-unfolding nearestUpTo
-nearest-between rate zero = (le-refl 10, le-refl 10)
-nearest-between rate (suc n) =
-    let h = nearest-between rate n in
-    nearer-between 10 (10 + suc n) rate (nearestUpTo rate n) (11 + n) (h .0) (omega (arith, h .1)) (omega arith) (omega arith)
-
-nearest-isD : (rate : ℕ) → isD (nearestOf rate) ≡ true
-nearest-isD rate = is-within 10 625 (nearestOf rate) (nearest-between rate 615 .0) (nearest-between rate 615 .1)
-
 -- ---- an item keeps every setting in its range
 
 abbrev Keeps : Item → Type 0
@@ -112,24 +94,7 @@ size-keeps : Keeps packetSize
 size-keeps s p r h = record { frequency = r .frequency; count = r .count; clock = r .clock; divisor = r .divisor; mode = r .mode; gain = r .gain; size = h; serial = r .serial }
 
 rate-keeps : Keeps rate
-rate-keeps s p r h = record { frequency = r .frequency; count = r .count; clock = r .clock; divisor = nearest-isD (field 1 4 p); mode = r .mode; gain = r .gain; size = r .size; serial = r .serial }
-
--- what holds of each line of a table, and of no item, holds of the line that is looked up
-abbrev pub allHave : (Item → Type 0) → List Item → Type 0
-allHave P [] = Unit {0}
-allHave P (i ∷ is) = P i × allHave P is
-
-pub row-has : (P : Item → Type 0) → P noItem → (is : List Item) (code : ℕ) → allHave P is → P (rowIn is code)
-row-has P none [] code h = none
-row-has P none (i ∷ is) code h = go (eqb code (i .code)) (row-has P none is code (h .1))
-  where
-    go : (b : Bool) → P (rowIn is code) → P (pick b i (rowIn is code))
-    go true rest = h .0
-    go false rest = rest
-
-pub found : (P : Item → Type 0) → P noItem → allHave P items → (code : ℕ) → P (rowOf code)
-unfolding rowOf
-found P none h code = row-has P none items code h
+rate-keeps s p r h = record { frequency = r .frequency; count = r .count; clock = r .clock; divisor = nearest-d (field 1 4 p) h; mode = r .mode; gain = r .gain; size = r .size; serial = r .serial }
 
 stays : (s : Settings) (p : List ℕ) → Ranges s → true ≡ true → Ranges s
 stays s p r t = r
@@ -167,52 +132,10 @@ items-keep = (
   ),
 )
 
--- ---- an accepted message passed every check
-
-abbrev pub allFail : List Check → Type 0
-allFail [] = Unit {0}
-allFail (c ∷ cs) = (c .holds ≡ false) × allFail cs
-
-abbrev pub otherThan : ℕ → List Check → Type 0
-otherThan n [] = Unit {0}
-otherThan n (c ∷ cs) = (c .code ≡ n → ⊥) × otherThan n cs
-
-pub accepted : (cs : List Check) (n : ℕ) → otherThan n cs → firstOf cs n ≡ n → allFail cs
-accepted [] n o h = tt
-accepted (c ∷ cs) n o h = go (λ e. accepted cs n (o .1) e) (c .holds) refl h
-  where
-    go : (firstOf cs n ≡ n → allFail cs) → (b : Bool) → c .holds ≡ b → pick b (c .code) (firstOf cs n) ≡ n
-        → (c .holds ≡ false) × allFail cs
-    go rest true q e = absurd (o .0 e)
-    go rest false q e = (q, rest e)
-
-pub refusals : (s : Settings) (m : Message) → otherThan 1 (checks s m)
-refusals s m = (
-  (λ e. omega arith),
-  (
-    (λ e. omega arith),
-    (
-      (λ e. omega arith),
-      (
-        (λ e. omega arith),
-        (
-          (λ e. omega arith),
-          (
-            (λ e. omega arith),
-            ((λ e. omega arith), ((λ e. omega arith), ((λ e. omega arith), tt))),
-          ),
-        ),
-      ),
-    ),
-  ),
-)
-
 -- an accepted set has a value that is allowed
 settable-if : (s : Settings) (m : Message) → codeOf s m ≡ 1 → eqb (m .type) typeSet ≡ true → row m .settable (parameters m) ≡ true
-unfolding codeOf
 settable-if s m h t =
-    let passed = accepted (checks s m) 1 (refusals s m) h in
-    let value : valueAllowed (row m) (m .type) (parameters m) ≡ true = not-false _ (passed .1 .1 .1 .1 .1 .1 .1 .0) in
+    let value : valueAllowed (row m) (m .type) (parameters m) ≡ true = not-false _ (passed s m h .1 .1 .1 .1 .1 .1 .1 .0) in
     rw t at value
 
 -- ---- what a message does to the settings

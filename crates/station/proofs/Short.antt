@@ -1,21 +1,20 @@
 -- A reply has at most 64 bytes, whatever the message.
 -- Assumes nothing.
-use Prim.Native.Nat.{ℕ, zero, suc, _+_, _≤_, min}
-use native.Mathlib.Nat.{le-refl, le-trans}
+use Prim.Native.Nat.{ℕ, zero, suc, _+_, _≤_}
+use native.Mathlib.Nat.{le-refl}
 use native.Mathlib.Omega.{arith}
-use mathlib.Core.Path.{_≡_, refl, sym, ap, _∙_}
+use mathlib.Core.Path.{_≡_, ap, _∙_}
 use mathlib.Core.Bool.{Bool, true, false}
 use mathlib.Core.List.{List, [], _∷_, _++_}
 use lib.Dec.{eqb, lit≤}
 use lib.ListN.{length, getD, take, length-append, length-take}
 use Rattle.wire.specs.Choice.{pick}
-use Rattle.wire.specs.Number.{bytes}
-use Rattle.wire.specs.Header.{headerOf, nak, typeRange, typeReply, typeRangeReply}
-use Rattle.tuning.specs.Bands.{bands, rangeBytes}
+use Rattle.wire.specs.Header.{nak, typeRange, typeReply, typeRangeReply}
 use Rattle.items.specs.declared.Settings.{Settings}
 use Rattle.items.specs.Items.{Item, items, rowOf, versionTable}
 use Rattle.items.specs.Answer.{Message, itemIn, codeOf, settingsAfter, row, parameters, replyBody, rangeBody, framed, replyTo, replyOf}
-use Rattle.station.proofs.Kept.{allHave, found, serial-kept}
+use Rattle.items.proofs.Rows.{allHave, found}
+use Rattle.station.proofs.Kept.{serial-kept}
 
 -- an item's value and what it echoes are short
 abbrev Small : Item → Type 0

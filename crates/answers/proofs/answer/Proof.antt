@@ -1,13 +1,12 @@
 -- What is judged gives the code and the settings, and what is written the reply.
 use Prim.Native.Nat.{_<_}
-use mathlib.Core.Path.{_≡_, refl, sym, ap, subst, _∙_}
+use mathlib.Core.Path.{_≡_, sym, ap, _∙_}
 use Prim.Native.Nat.{ℕ}
 use mathlib.Core.List.{List}
 use denote.Ref.{now}
 use lib.ListN.{length, getD}
 use Rattle.items.specs.declared.Judged.{Judged}
-use Rattle.items.specs.Items.{rowOf}
-use Rattle.items.specs.Answer.{Message, codeOf, settingsAfter, itemIn, replyOf}
+use Rattle.items.specs.Answer.{Message, codeOf, settingsAfter, replyOf}
 use Rattle.items.proofs.Judging.{accepted-row}
 use Rattle.answers.specs.Replies.{due}
 use Rattle.answers.proofs.Answering.{due-reply, some-due, answers-nothing, answers-short, answers-whole}

@@ -1,8 +1,7 @@
 -- The head, the echoed byte and the value, each where the one before ends.
-use Prim.Native.Nat.{_≤_}
-use mathlib.Core.Path.{_≡_, _∙_}
+use mathlib.Core.Path.{_∙_}
 use native.Mathlib.Omega.{arith}
-use lib.ListN.{length, length-set}
+use lib.ListN.{length-set}
 use denote.Ref.{now}
 use Rattle.layouts.proofs.Sizes.{least, greatest, echoing}
 use Rattle.layouts.proofs.Writing.{too-short, put-echoed, put-plain}

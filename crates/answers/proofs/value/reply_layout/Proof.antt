@@ -1,5 +1,5 @@
 -- Each arm lays out its row's value.
-use mathlib.Core.Path.{_≡_, refl, sym, ap, _∙_}
+use mathlib.Core.Path.{refl, sym, ap, _∙_}
 use Rattle.wire.specs.Number.{bytes}
 use Rattle.layouts.specs.Layouts.{laid}
 use Rattle.items.specs.Items.{rowOf}

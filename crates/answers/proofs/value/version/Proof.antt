@@ -1,5 +1,5 @@
 -- Each id has its line of the table.
-use mathlib.Core.Path.{_≡_, refl, ap, _∙_}
+use mathlib.Core.Path.{refl, ap, _∙_}
 use Rattle.layouts.specs.Layouts.{laid}
 use Rattle.answers.proofs.Values.{no-version}
 use borrow.Author.Needs.{needs}

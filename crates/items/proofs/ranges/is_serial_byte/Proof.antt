@@ -1,6 +1,5 @@
 -- Each arm lies in one of the definition's two ranges, or outside both.
-use mathlib.Core.Path.{_≡_, sym}
-use mathlib.Core.Bool.{true, false}
+use mathlib.Core.Path.{sym}
 use native.Mathlib.Omega.{arith}
 use Rattle.wire.specs.Choice.{within}
 use Rattle.wire.proofs.Laws.{is-within, below-within, above-within, or-left, or-right, or-neither}

@@ -1,7 +1,6 @@
 -- What the enum tells is what the table says, and that gives the code.
 use borrow.Author.Needs.{needs}
-use mathlib.Core.Path.{_≡_, sym, _∙_, ap}
-use Prim.Native.Nat.{ℕ}
+use mathlib.Core.Path.{_≡_, _∙_, ap}
 use borrow.Author.Tests.{eq-eqb, ne-eqb}
 use Rattle.wire.specs.Choice.{firstOf}
 use Rattle.items.specs.Table.{Told, tell, tableChecks}

@@ -1,6 +1,6 @@
 -- The clock is tested as the definition has it; four bytes fit 32 bits.
-use mathlib.Core.Path.{_≡_, refl, sym, _∙_}
-use mathlib.Core.Bool.{true, false, and-false}
+use mathlib.Core.Path.{refl, sym, _∙_}
+use mathlib.Core.Bool.{and-false}
 use borrow.Author.Tests.{not-true, not-false}
 use denote.Ref.{now}
 use native.Mathlib.Omega.{arith}

@@ -1,6 +1,6 @@
 -- The channel and the bands are tested as the definition has them.
-use mathlib.Core.Path.{_≡_, refl, sym, _∙_}
-use mathlib.Core.Bool.{true, false, and-false}
+use mathlib.Core.Path.{sym, _∙_}
+use mathlib.Core.Bool.{true, and-false}
 use borrow.Author.Tests.{not-true, not-false}
 use denote.Ref.{now}
 use Rattle.items.specs.Items.{frequency}

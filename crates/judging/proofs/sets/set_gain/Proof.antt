@@ -1,5 +1,5 @@
 -- The channel is refused first (15), then the gain (16).
-use mathlib.Core.Path.{_≡_, sym, _∙_}
+use mathlib.Core.Path.{sym, _∙_}
 use mathlib.Core.Bool.{true, and-false}
 use borrow.Author.Tests.{not-true, not-false}
 use denote.Ref.{now}

@@ -1,6 +1,6 @@
 -- The rate is tested first (16), then whether the box is running (17); four bytes fit 32 bits.
 use mathlib.Core.Path.{_≡_, refl, sym, _∙_}
-use mathlib.Core.Bool.{true, false, and-true}
+use mathlib.Core.Bool.{true, and-true}
 use borrow.Author.Tests.{not-true, not-false}
 use denote.Ref.{now}
 use native.Mathlib.Omega.{arith}

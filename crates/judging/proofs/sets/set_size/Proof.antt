@@ -1,6 +1,6 @@
 -- The size is tested first (16), then whether the box is running (17).
 use mathlib.Core.Path.{_≡_, refl, sym, _∙_}
-use mathlib.Core.Bool.{true, false}
+use mathlib.Core.Bool.{true}
 use borrow.Author.Tests.{not-true, not-false}
 use denote.Ref.{now}
 use Rattle.items.specs.Items.{packetSize}

@@ -1,7 +1,7 @@
 -- The tests stand in the definition's order: first byte and mode (16), then the running mode (17).
 use borrow.Author.Needs.{needs}
 use mathlib.Core.Path.{_≡_, sym, _∙_}
-use mathlib.Core.Bool.{Bool, true, false}
+use mathlib.Core.Bool.{true, false}
 use borrow.Author.Tests.{ne-eqb, eq-eqb, not-true, not-false}
 use Rattle.items.specs.Settings.{isMode}
 use Rattle.judging.proofs.sets.start.Statement.{statement}
