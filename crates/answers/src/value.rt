@@ -16,7 +16,8 @@ use layouts::Layout;
 // "NetSDR" and a zero byte, the first character in the low byte.
 const NAME: u64 = 0x0052_4453_7465_4E;
 
-// The reply for an item with its current value, and the channel byte or id that it echoes. No item has no value.
+// The reply for an item with its current value, and the channel byte or id that it echoes. What is no item has an empty
+// value.
 pub(crate) fn reply_layout(s: Settings, item: u16, echo: u8) -> Layout
     requires { ⌜ rowOf item .code ≡ item ⌝ }
     ensures { λ r. ⌜ laid r ≡ framed typeReply (replyBody (rowOf item) s (echo ∷ [])) ⌝ }

@@ -1,4 +1,4 @@
-// Packets and numbers of document 01: the four forms, the number at each position, and the samples' bytes.
+// Packets and numbers of document 01: the four forms, and the number at each position. (Crate samples has the loops.)
 ghost use mathlib.Core.Path.{_≡_};
 ghost use Prim.Native.Nat.{_<_};
 ghost use lib.ListN.{getD};

@@ -44,7 +44,7 @@ pub fn silent() -> Reader
     }
 }
 
-// Whether the reader is one that reading leaves, or a silent one: "other states are broken".
+// Whether the reader is silent, or holds a position that a capture can have and a listed form: "other states are broken".
 pub fn is_sound(r: Reader) -> bool
     ensures { λ ok. ⌜ ok ≡ sound r ⌝ }
 {

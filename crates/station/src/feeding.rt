@@ -9,8 +9,8 @@ use crate::Station;
 use framing::Taking;
 use items::Settings;
 
-// Takes the host's bytes up to the end of one message, and answers it. However the bytes are cut, calling again with
-// those that are left comes to the same replies and the same box.
+// Takes the host's bytes up to the end of one message, and answers it. Of a valid box, with room for 64 bytes, calling
+// again with the bytes that are left comes to the same replies and the same box however they are cut (Serving).
 pub fn feed(s: Station, host: &[u8], reply: &mut [u8]) -> Fed
     ensures { λ r. do
       room ← ⟦reply.len()⟧ .entry
