@@ -29,18 +29,13 @@ all-serial-requires c κs = search needs
 returns : tie.Need-returns
 unfolding inRange
 returns c =
-    let size = c .before in
-    let gain = size .before in
-    let mode = gain .before in
-    let divisor = mode .before in
-    let clock = divisor .before in
     rw (
-      clock .before .before .in-bands .ensures,
-      clock .is-clock .ensures,
-      divisor .is-d .ensures,
-      mode .is-mode .ensures,
-      gain .is-gain .ensures,
-      size .is-size .ensures,
+      c .before .before .before .before .before .before .before .in-bands .ensures,
+      c .before .before .before .before .before .is-clock .ensures,
+      c .before .before .before .before .is-d .ensures,
+      c .before .before .before .is-mode .ensures,
+      c .before .before .is-gain .ensures,
+      c .before .is-size .ensures,
       c .all-serial .ensures,
     )
     refl
