@@ -63,7 +63,7 @@ used-up f t piece at h = rw (drop-of-length-le piece h)
 
 -- ---- where a line is due
 
-taken-some : (t : Tally) (b : ℕ) → 0 < taking t b .taken
+pub taken-some : (t : Tally) (b : ℕ) → 0 < taking t b .taken
 unfolding taking
 taken-some t b = omega arith
 

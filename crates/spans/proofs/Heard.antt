@@ -39,6 +39,19 @@ pub came-by : (n : ℕ) (f : Form) (t : Tally) {code : ℕ} {close : Bool} → h
 unfolding cameTo
 came-by n f t p q = cc
 
+-- a code is at most 33
+pub heard-small : (f : Form) (t : Tally) → heardCode f t ≤ 33
+unfolding heardCode
+heard-small f t =
+    pick-keeps (λ (n : ℕ). n ≤ 33) (ltb (t .taken) 2) _ _ (λ e. omega arith)
+    (λ e.
+    pick-keeps (λ (n : ℕ). n ≤ 33) (not (listed (formNow t))) _ _ (λ e. omega arith)
+    (λ e.
+    pick-keeps (λ (n : ℕ). n ≤ 33) (ltb (t .taken) (totalOf (formNow t))) _ _ (λ e. omega arith)
+    (λ e.
+    pick-keeps (λ (n : ℕ). n ≤ 33) (not (sameForm (formNow t) f)) _ _ (λ e. omega arith)
+    (λ e. pick-keeps (λ (n : ℕ). n ≤ 33) (orphan t) _ _ (λ e. omega arith) (λ e. pick-keeps (λ (n : ℕ). n ≤ 33) (ltb last (positionNow t)) _ _ (λ e. omega arith) (λ e. omega arith))))))
+
 -- what `total_of` answers for a listed form
 pub total-is : (f g : Form) (n : ℕ) → n ≡ pick (listed g) (totalOf g) 0 → g ≡ f → listed f ≡ true → n ≡ totalOf f
 total-is f g n is same ok = is ∙ ap (λ (x : Form). pick (listed x) (totalOf x) 0) same ∙ rw ok

@@ -7,3 +7,7 @@ pub mod Runs
 pub mod Goings
 pub mod Eats
 pub mod Within
+pub mod Telling
+pub mod Rooms
+pub mod Going
+pub mod Cuts

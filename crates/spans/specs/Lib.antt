@@ -3,3 +3,4 @@ pub mod Report
 pub mod Due
 pub mod Hearing
 pub mod Eating
+pub mod Pieces

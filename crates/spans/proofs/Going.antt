@@ -1,0 +1,130 @@
+-- Spans that some bytes have left: they are valid, each call leaves another such span, and the lines of a call fit 256 bytes.
+use Prim.Native.Nat.{ℕ, zero, suc, _+_, _-_, _^_, _≤_, _<_, min}
+use mathlib.Core.Path.{_≡_, refl, sym, ap, subst, _∙_}
+use mathlib.Core.Bool.{Bool, true, false, _&&_, _||_, not}
+use mathlib.Core.List.{List, [], _∷_, _++_}
+use native.Mathlib.Decide.{decLt}
+use native.Mathlib.Omega.{arith}
+use lib.Dec.{eqb, leb, ltb}
+use lib.ListN.{length, take, drop}
+use lib.Seq.{sets, length-sets}
+use borrow.Author.Tests.{lt-ltb, le-ltb, le-leb, eq-eqb, ltb-true, ltb-false}
+use Rattle.wire.specs.Choice.{pick}
+use Rattle.wire.proofs.Laws.{pick-keeps, or-right, or-left, and-both}
+use Rattle.packets.specs.declared.Form.{Form}
+use Rattle.reader.specs.Reading.{last}
+use Rattle.heads.specs.declared.Head.{Head}
+use Rattle.heads.specs.Head.{headLength, formIn, allowed}
+use Rattle.heads.specs.Head.{readCode as headCode}
+use Rattle.heads.proofs.Rounds.{passed}
+use Rattle.spans.specs.declared.Tally.{Tally}
+use Rattle.spans.specs.declared.Reach.{Reach}
+use Rattle.spans.specs.declared.Span.{Span}
+use Rattle.spans.specs.Hearing.{taking, accepting, positionNow, heardCode, closes, cameTo, reaching, Sane}
+use Rattle.spans.specs.Eating.{freshTally, freshSpan, farthest, inRange, headOk, validSpan, headOf, lacking, headTaken}
+use Rattle.spans.proofs.Heard.{Accepted, accepted, sane-accepting, sane-taking, sane-came, sane-less}
+use Rattle.spans.proofs.Goings.{taken-some, Is-due, reach-due}
+use Rattle.spans.proofs.Reaches.{came-at}
+use Rattle.spans.proofs.Eats.{range-by, valid-by}
+use Rattle.spans.proofs.Rooms.{Short}
+
+-- ---- spans that bytes have left
+
+-- the counts of a tally: no more packets or captures than bytes
+pub record Counted (t : Tally) : Type 0 where
+  pub heard : t .heard ≤ t .begins
+  pub captures : t .captures ≤ t .begins
+  pub position : t .position ≤ last
+
+-- A span that has not stopped, after so many bytes of input.
+pub record Going (s : Span) (used : ℕ) : Type 0 where
+  pub long : length (s .held) ≡ 14
+  pub head : s .taken < headLength → (s .taken ≡ used) × (s .tally ≡ freshTally)
+  pub packets : headLength ≤ s .taken → (s .taken ≡ headLength) × (headCode (s .held) ≡ 1) × (s .tally .begins + s .tally .taken ≡ used)
+  pub counted : Counted (s .tally)
+
+pub fresh-counted : Counted freshTally
+fresh-counted = record { heard = omega arith; captures = omega arith; position = omega arith }
+
+pub fresh-going : Going freshSpan 0
+fresh-going = record { long = refl; head = λ h. (refl, refl); packets = λ h. absurd (omega arith); counted = fresh-counted }
+
+module _ (s : Span) (used : ℕ) (g : Going s used) (near : used ≤ farthest) where
+  near-end : s .tally .begins + s .tally .taken ≤ farthest
+  near-end = elim (decLt (s .taken) headLength) [ yes h ↦ opened (g .head h .1) | no h ↦ omega (arith, g .packets (omega arith) .2) ]
+    where
+      opened : s .tally ≡ freshTally → s .tally .begins + s .tally .taken ≤ farthest
+      opened e = omega (arith, ap (λ (t : Tally). t .begins) e, ap (λ (t : Tally). t .taken) e)
+
+  going-range : inRange (s .tally) ≡ true
+  going-range =
+      range-by (s .tally) (le-leb (s .tally .begins + s .tally .taken) farthest near-end) (le-leb _ _ (g .counted .heard)) (le-leb _ _ (g .counted .captures)) (le-leb _ _ (g .counted .position))
+
+  going-head : headOk s ≡ true
+  going-head = elim (decLt (s .taken) headLength) [ yes h ↦ or-left _ _ (lt-ltb _ _ h) | no h ↦ whole (g .packets (omega arith)) ]
+    where
+      whole : (s .taken ≡ headLength) × (headCode (s .held) ≡ 1) × (s .tally .begins + s .tally .taken ≡ used) → headOk s ≡ true
+      whole p = or-right (ltb (s .taken) headLength) _ (and-both _ _ (eq-eqb _ _ (p .0)) (eq-eqb _ _ (p .1)))
+
+  pub going-valid : s .stopped ≡ false → validSpan s ≡ true
+  going-valid e = valid-by s e going-range going-head
+
+  -- its lines are short
+  pub going-short : headLength ≤ s .taken → Short (headOf s) (s .tally)
+  going-short whole =
+      record {
+        ok = passed (s .held) (g .packets whole .1) .ok;
+        position = g .counted .position;
+        captures = omega (arith, g .counted .captures, near-end);
+        heard = omega (arith, g .counted .heard, near-end);
+        begins = omega (arith, near-end);
+      }
+
+pub stopped-valid : (s : Span) → s .stopped ≡ true → validSpan s ≡ true
+stopped-valid s e = valid-by s e refl refl
+
+-- ---- what is reached
+
+-- the input bytes that a tally stands behind
+abbrev pub passedBy : Tally → ℕ
+passedBy t = t .begins + t .taken
+
+passed-taking : (t : Tally) (b : ℕ) → passedBy (taking t b) ≡ passedBy t + 1
+unfolding taking
+passed-taking t b = omega arith
+
+pub passed-accepting : (t : Tally) → passedBy (accepting t) ≡ passedBy t
+unfolding accepting
+passed-accepting t = omega arith
+
+passed-came : (n : ℕ) (f : Form) (t : Tally) → passedBy (cameTo n f t .tally) ≡ passedBy t
+unfolding cameTo
+passed-came n f t =
+    pick-keeps (λ (r : Reach). passedBy (r .tally) ≡ passedBy t) (eqb (heardCode f t) 0) _ _ (λ e. refl)
+    (λ e. pick-keeps (λ (r : Reach). passedBy (r .tally) ≡ passedBy t) (eqb (heardCode f t) 1 && not (closes t)) (record { at = n; code = 0; tally = accepting t }) (record { at = n; code = heardCode f t; tally = t }) (λ d. passed-accepting t) (λ d. refl))
+
+pub passed-reach : (bs : List ℕ) (n : ℕ) (f : Form) (t : Tally) → passedBy (reaching n f t bs .tally) + n ≡ passedBy t + reaching n f t bs .at
+unfolding reaching
+passed-reach [] n f t = refl
+passed-reach (b ∷ bs) n f t =
+    let next = passed-reach bs (n + 1) f (cameTo (n + 1) f (taking t b) .tally) in
+    let one = passed-came (n + 1) f (taking t b) in
+    pick-keeps (λ (r : Reach). passedBy (r .tally) + n ≡ passedBy t + r .at) (eqb (cameTo (n + 1) f (taking t b) .code) 0) _ _
+    (λ e. omega (arith, next, one, passed-taking t b)) (λ e. omega (arith, one, passed-taking t b, came-at (n + 1) f (taking t b)))
+
+-- counts stay counts
+pub counted-sane : (t : Tally) (rest : ℕ) → Counted t → passedBy t + rest < 2 ^ 64 → Sane rest t
+counted-sane t rest c near = record { room = near; heard = c .heard; captures = c .captures; position = c .position }
+
+pub sane-counted : {rest : ℕ} {t : Tally} → Sane rest t → Counted t
+sane-counted s = record { heard = s .heard; captures = s .captures; position = s .position }
+
+pub reach-sane : (bs : List ℕ) (n rest : ℕ) (f : Form) (t : Tally) → Sane (rest + length bs) t → Sane rest (reaching n f t bs .tally)
+unfolding reaching
+reach-sane [] n rest f t s = sane-less rest (omega arith) s
+reach-sane (b ∷ bs) n rest f t s =
+    let more : rest + length bs + 1 ≡ rest + length (b ∷ bs) = omega arith in
+    let after : Sane (rest + length bs) (taking t b) = sane-taking (rest + length bs) t b (rw more s) in
+    let came = sane-came (rest + length bs) (n + 1) f (taking t b) after (taken-some t b) in
+    pick-keeps (λ (r : Reach). Sane rest (r .tally)) (eqb (cameTo (n + 1) f (taking t b) .code) 0) _ _
+    (λ e. reach-sane bs (n + 1) rest f (cameTo (n + 1) f (taking t b) .tally) came) (λ e. sane-less rest (omega arith) came)

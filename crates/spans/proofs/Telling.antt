@@ -1,0 +1,175 @@
+-- All lines that packets bring, byte by byte, to the end of the input; and how the calls that take pieces agree with them.
+use Prim.Native.Nat.{ℕ, zero, suc, _+_, _-_, _≤_, _<_}
+use mathlib.Core.Path.{_≡_, refl, sym, ap, _∙_}
+use mathlib.Core.Bool.{Bool, true, false, _&&_, not}
+use mathlib.Core.List.{List, [], _∷_, _++_, append-assoc}
+use native.Mathlib.Nat.{add-zero}
+use native.Mathlib.Omega.{arith}
+use lib.Dec.{eqb}
+use lib.ListN.{length, drop}
+use lib.Seq.{drop-append-add}
+use borrow.Author.Tests.{eqb-true, eqb-false, eq-eqb, ne-eqb}
+use Rattle.wire.specs.Choice.{pick}
+use Rattle.wire.proofs.Laws.{pick-keeps}
+use Rattle.packets.specs.declared.Form.{Form}
+use Rattle.heads.specs.declared.Head.{Head}
+use Rattle.heads.specs.Head.{formIn}
+use Rattle.spans.specs.declared.Tally.{Tally}
+use Rattle.spans.specs.declared.Reach.{Reach}
+use Rattle.spans.specs.Lines.{Line, refusalLine, endLine}
+use Rattle.spans.specs.Hearing.{taking, heardCode, closes, accepting, cameTo, reaching, goesOn}
+use Rattle.spans.specs.Eating.{endedNow, heardLines}
+use Rattle.spans.proofs.Reaches.{came-at, reach-cons}
+use Rattle.spans.proofs.Goings.{came-due}
+
+-- the lines at the end of the input, with a tally
+abbrev pub endLines : Head → Tally → List Line
+endLines h t = endedNow h t ++ pick (eqb (t .taken) 0) (endLine (t .captures) ∷ []) (refusalLine 30 (t .begins) ∷ [])
+
+-- the lines of a byte's outcome, and those of what comes after it where a packet was accepted
+abbrev pub byReach : Head → Reach → List Line → List Line → List Line
+byReach h r silent accepted = pick (eqb (r .code) 0) silent (heardLines h r ++ pick (eqb (r .code) 1) accepted [])
+
+unfoldable pub toldBy : Head → Tally → List ℕ → List Line
+toldBy h t [] = endLines h t
+toldBy h t (b ∷ bs) =
+    byReach h (cameTo 1 (formIn h) (taking t b)) (toldBy h (cameTo 1 (formIn h) (taking t b) .tally) bs)
+    (toldBy h (accepting (taking t b)) bs)
+
+-- ---- bytes that are taken in one go
+
+-- how many bytes were taken does not change the outcome
+came-any : (n : ℕ) (f : Form) (t : Tally) → cameTo n f t ≡ record { at = n; code = cameTo 1 f t .code; tally = cameTo 1 f t .tally }
+unfolding cameTo
+came-any n f t = by (eqb (heardCode f t) 0) (eqb (heardCode f t) 1 && not (closes t)) refl refl
+  where
+    by : (waits quiet : Bool) → eqb (heardCode f t) 0 ≡ waits → (eqb (heardCode f t) 1 && not (closes t)) ≡ quiet → cameTo n f t ≡ record { at = n; code = cameTo 1 f t .code; tally = cameTo 1 f t .tally }
+    by true quiet p q = rw p
+    by false true p q = rw (p, q)
+    by false false p q = rw (p, q)
+
+-- what was reached lies behind what was taken before
+pub reach-from : (bs : List ℕ) (n : ℕ) (f : Form) (t : Tally) → n ≤ reaching n f t bs .at
+unfolding reaching
+reach-from [] n f t = omega arith
+reach-from (b ∷ bs) n f t =
+    let next = reach-from bs (n + 1) f (cameTo (n + 1) f (taking t b) .tally) in
+    pick-keeps (λ (r : Reach). n ≤ r .at) (eqb (cameTo (n + 1) f (taking t b) .code) 0) _ _ (λ e. omega (arith, next)) (λ e. omega (arith, came-at (n + 1) f (taking t b)))
+
+pub reach-ahead : (b : ℕ) (bs : List ℕ) (n : ℕ) (f : Form) (t : Tally) → n + 1 ≤ reaching n f t (b ∷ bs) .at
+unfolding reaching
+reach-ahead b bs n f t =
+    pick-keeps (λ (r : Reach). n + 1 ≤ r .at) (eqb (cameTo (n + 1) f (taking t b) .code) 0) _ _ (λ e. reach-from bs (n + 1) f (cameTo (n + 1) f (taking t b) .tally)) (λ e. omega (arith, came-at (n + 1) f (taking t b)))
+
+-- the lines from what was reached on, of bytes of which n were taken before
+abbrev pub afterReach : Head → ℕ → Reach → List ℕ → List Line
+afterReach h n r bs = byReach h r (endLines h (r .tally)) (toldBy h (accepting (r .tally)) (drop (r .at - n) bs))
+
+-- one byte, and what it comes to
+told-silent : (h : Head) (t : Tally) (b : ℕ) (bs : List ℕ) → eqb (cameTo 1 (formIn h) (taking t b) .code) 0 ≡ true → toldBy h t (b ∷ bs) ≡ toldBy h (cameTo 1 (formIn h) (taking t b) .tally) bs
+unfolding toldBy
+told-silent h t b bs e = rw e
+
+told-due : (h : Head) (t : Tally) (b : ℕ) (bs : List ℕ) → eqb (cameTo 1 (formIn h) (taking t b) .code) 0 ≡ false
+    → toldBy h t (b ∷ bs) ≡ heardLines h (cameTo 1 (formIn h) (taking t b)) ++ pick (eqb (cameTo 1 (formIn h) (taking t b) .code) 1) (toldBy h (accepting (taking t b)) bs) []
+unfolding toldBy
+told-due h t b bs e = rw e
+
+reach-silent : (n : ℕ) (f : Form) (t : Tally) (b : ℕ) (bs : List ℕ) → eqb (cameTo 1 f (taking t b) .code) 0 ≡ true → reaching n f t (b ∷ bs) ≡ reaching (n + 1) f (cameTo 1 f (taking t b) .tally) bs
+unfolding goesOn
+reach-silent n f t b bs e = reach-cons n f t b bs ∙ ap (λ (r : Reach). goesOn f r bs) (came-any (n + 1) f (taking t b)) ∙ rw e
+
+reach-stops : (n : ℕ) (f : Form) (t : Tally) (b : ℕ) (bs : List ℕ) → eqb (cameTo 1 f (taking t b) .code) 0 ≡ false → reaching n f t (b ∷ bs) ≡ cameTo (n + 1) f (taking t b)
+unfolding goesOn
+reach-stops n f t b bs e = reach-cons n f t b bs ∙ ap (λ (r : Reach). goesOn f r bs) (came-any (n + 1) f (taking t b)) ∙ (rw e) ∙ sym (came-any (n + 1) f (taking t b))
+
+shifted : (h : Head) (n : ℕ) (r : Reach) (b : ℕ) (bs : List ℕ) → n + 1 ≤ r .at → afterReach h n r (b ∷ bs) ≡ afterReach h (n + 1) r bs
+shifted h n r b bs ahead =
+    let one : r .at - n ≡ suc (r .at - (n + 1)) = omega arith in
+    ap (λ (k : ℕ). byReach h r (endLines h (r .tally)) (toldBy h (accepting (r .tally)) (drop k (b ∷ bs)))) one
+
+-- where a byte brings lines, the rest of the bytes comes after them
+stopped-here : (h : Head) (n code : ℕ) (u : Tally) (b : ℕ) (bs : List ℕ) → eqb code 0 ≡ false
+    → afterReach h n (record { at = n + 1; code = code; tally = u }) (b ∷ bs) ≡ heardLines h (record { at = 1; code = code; tally = u }) ++ pick (eqb code 1) (toldBy h (accepting u) bs) []
+stopped-here h n code u b bs e =
+    let one : n + 1 - n ≡ 1 = omega arith in
+    rw (e, one)
+
+pub told-reach : (bs : List ℕ) (n : ℕ) (h : Head) (t : Tally) → toldBy h t bs ≡ afterReach h n (reaching n (formIn h) t bs) bs
+unfolding reaching toldBy
+told-reach [] n h t = refl
+told-reach (b ∷ bs) n h t = by (eqb (cameTo 1 (formIn h) (taking t b) .code) 0) refl (told-reach bs (n + 1) h (cameTo 1 (formIn h) (taking t b) .tally))
+  where
+    u : Tally
+    u = taking t b
+
+    by : (silent : Bool) → eqb (cameTo 1 (formIn h) (taking t b) .code) 0 ≡ silent
+        → toldBy h (cameTo 1 (formIn h) (taking t b) .tally) bs ≡ afterReach h (n + 1) (reaching (n + 1) (formIn h) (cameTo 1 (formIn h) (taking t b) .tally) bs) bs
+        → toldBy h t (b ∷ bs) ≡ afterReach h n (reaching n (formIn h) t (b ∷ bs)) (b ∷ bs)
+    by true e ih =
+        told-silent h t b bs e ∙ ih
+        ∙ sym (shifted h n (reaching (n + 1) (formIn h) (cameTo 1 (formIn h) (taking t b) .tally) bs) b bs (reach-from bs (n + 1) (formIn h) (cameTo 1 (formIn h) (taking t b) .tally)))
+        ∙ ap (λ (r : Reach). afterReach h n r (b ∷ bs)) (sym (reach-silent n (formIn h) t b bs e))
+    by false e ih =
+        let code : ℕ = heardCode (formIn h) u in
+        let first : cameTo 1 (formIn h) u ≡ record { at = 1; code = code; tally = u } = came-due 1 (formIn h) u (λ z. eqb-false _ _ e z) in
+        let then′ : cameTo (n + 1) (formIn h) u ≡ record { at = n + 1; code = code; tally = u } = came-any (n + 1) (formIn h) u ∙ ap (λ (r : Reach). record { at = n + 1; code = r .code; tally = r .tally }) first in
+        told-due h t b bs e
+        ∙ ap (λ (r : Reach). heardLines h r ++ pick (eqb (r .code) 1) (toldBy h (accepting u) bs) []) first
+        ∙ sym
+        (ap (λ (r : Reach). afterReach h n r (b ∷ bs)) (reach-stops n (formIn h) t b bs e ∙ then′) ∙ stopped-here h n code u b bs (ap (λ (r : Reach). eqb (r .code) 0) (sym first) ∙ e))
+
+-- ---- a piece, and the rest
+
+pub reach-append : (xs ys : List ℕ) (n : ℕ) (f : Form) (t : Tally) → reaching n f t (xs ++ ys) ≡ goesOn f (reaching n f t xs) ys
+unfolding reaching goesOn
+reach-append [] ys n f t = refl
+reach-append (x ∷ xs) ys n f t = by (eqb (cameTo (n + 1) f (taking t x) .code) 0) refl (reach-append xs ys (n + 1) f (cameTo (n + 1) f (taking t x) .tally))
+  where
+    by : (silent : Bool) → eqb (cameTo (n + 1) f (taking t x) .code) 0 ≡ silent
+        → reaching (n + 1) f (cameTo (n + 1) f (taking t x) .tally) (xs ++ ys) ≡ goesOn f (reaching (n + 1) f (cameTo (n + 1) f (taking t x) .tally) xs) ys
+        → reaching n f t (x ∷ (xs ++ ys)) ≡ goesOn f (reaching n f t (x ∷ xs)) ys
+    by true e ih = rw e ih
+    by false e ih = rw (e, e)
+
+-- bytes that were all taken in silence
+pub reach-used : (bs : List ℕ) (n : ℕ) (f : Form) (t : Tally) → reaching n f t bs .code ≡ 0 → reaching n f t bs .at ≡ n + length bs
+unfolding reaching
+reach-used [] n f t e = omega arith
+reach-used (b ∷ bs) n f t e₀ = by (eqb (cameTo (n + 1) f (taking t b) .code) 0) refl (reach-used bs (n + 1) f (cameTo (n + 1) f (taking t b) .tally)) e₀
+  where
+    by : (silent : Bool) → eqb (cameTo (n + 1) f (taking t b) .code) 0 ≡ silent
+        → (reaching (n + 1) f (cameTo (n + 1) f (taking t b) .tally) bs .code ≡ 0 → reaching (n + 1) f (cameTo (n + 1) f (taking t b) .tally) bs .at ≡ n + 1 + length bs)
+        → reaching n f t (b ∷ bs) .code ≡ 0
+        → reaching n f t (b ∷ bs) .at ≡ n + length (b ∷ bs)
+    by true s ih e = rw s (omega (arith, ih (rw s at e)))
+    by false s ih e = absurd (eqb-false _ _ s (rw s at e))
+
+-- a piece that was taken in silence leaves its lines to the rest
+pub told-on : (h : Head) (t : Tally) (piece rest : List ℕ) → reaching 0 (formIn h) t piece .code ≡ 0 → toldBy h t (piece ++ rest) ≡ toldBy h (reaching 0 (formIn h) t piece .tally) rest
+unfolding goesOn
+told-on h t piece rest none =
+    let r : Reach = reaching 0 (formIn h) t piece in
+    let used : r .at ≡ length piece = reach-used piece 0 (formIn h) t none ∙ omega arith in
+    let next : Reach = reaching (r .at) (formIn h) (r .tally) rest in
+    let ahead : r .at ≤ next .at = reach-from rest (r .at) (formIn h) (r .tally) in
+    let count : next .at - 0 ≡ length piece + (next .at - r .at) = omega (arith, used, ahead) in
+    let on : goesOn (formIn h) r rest ≡ next = rw (eq-eqb (r .code) 0 none) in
+    told-reach (piece ++ rest) 0 h t
+    ∙ ap (λ (x : Reach). afterReach h 0 x (piece ++ rest)) (reach-append piece rest 0 (formIn h) t ∙ on)
+    ∙ ap (λ (l : List ℕ). byReach h next (endLines h (next .tally)) (toldBy h (accepting (next .tally)) l)) (ap (λ (k : ℕ). drop k (piece ++ rest)) count ∙ drop-append-add piece rest (next .at - r .at))
+    ∙ sym (told-reach rest (r .at) h (r .tally))
+
+-- a piece in which lines are due has them in front of the rest
+pub told-first : (h : Head) (t : Tally) (piece rest : List ℕ) → (reaching 0 (formIn h) t piece .code ≡ 0 → ⊥)
+    → (let r = reaching 0 (formIn h) t piece in
+    toldBy h t (piece ++ rest) ≡ heardLines h r ++ pick (eqb (r .code) 1) (toldBy h (accepting (r .tally)) (drop (r .at) (piece ++ rest))) [])
+unfolding goesOn
+told-first h t piece rest due =
+    let r : Reach = reaching 0 (formIn h) t piece in
+    let some : eqb (r .code) 0 ≡ false = ne-eqb (r .code) 0 due in
+    let from : r .at - 0 ≡ r .at = omega arith in
+    let stays : goesOn (formIn h) r rest ≡ r = rw some in
+    told-reach (piece ++ rest) 0 h t
+    ∙ ap (λ (x : Reach). afterReach h 0 x (piece ++ rest)) (reach-append piece rest 0 (formIn h) t ∙ stays)
+    ∙ rw (some, from)
