@@ -50,7 +50,7 @@ told-stopped : (s : Span) (bs : List ℕ) → s .stopped ≡ true → told s bs 
 unfolding told
 told-stopped s bs e = rw e
 
-told-head : (s : Span) (bs : List ℕ) → s .stopped ≡ false → s .taken < headLength → told s bs ≡ toldHead s bs
+pub told-head : (s : Span) (bs : List ℕ) → s .stopped ≡ false → s .taken < headLength → told s bs ≡ toldHead s bs
 unfolding told
 told-head s bs e h = rw (e, lt-ltb (s .taken) headLength h)
 
@@ -204,7 +204,7 @@ head-code-small s = subst (λ (n : ℕ). n ≤ 41) (sym (code-by s refl refl ref
     by false true true true = omega arith
 
 -- the lines of a head that has been taken so far, with what is left of the bytes
-abbrev headToldBy : Span → List ℕ → List Line
+abbrev pub headToldBy : Span → List ℕ → List Line
 headToldBy after left =
     pick (ltb (after .taken) headLength) (openingLine ∷ refusalLine 40 0 ∷ [])
     (headLines (headCode (after .held)) ++ pick (eqb (headCode (after .held)) 1) (toldBy (headOf after) (after .tally) left) [])

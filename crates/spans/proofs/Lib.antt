@@ -11,3 +11,6 @@ pub mod Telling
 pub mod Rooms
 pub mod Going
 pub mod Cuts
+pub mod Wholes
+pub mod Reported
+pub mod Inputs

@@ -123,7 +123,7 @@ drop-next : (p : List ℕ) (i j : ℕ) → i + 1 ≡ j → i < length p → drop
 drop-next p i j e h = drop-cons p i 0 h ∙ ap (λ (k : ℕ). getD p i 0 ∷ drop k p) (sym (add-one i) ∙ e)
 
 -- a packet of k + 5 bytes: its first four, k samples' bytes, and its last
-packet-parts : (p : List ℕ) (at k : ℕ) → at + (k + 5) ≤ length p
+pub packet-parts : (p : List ℕ) (at k : ℕ) → at + (k + 5) ≤ length p
     → drop at p ≡ getD p at 0 ∷ getD p (at + 1) 0 ∷ getD p (at + 2) 0 ∷ getD p (at + 3) 0 ∷ (take k (drop (at + 4) p) ++ getD p (at + 4 + k) 0 ∷ drop (at + (k + 5)) p)
 packet-parts p at k room =
     let one : drop (at + 1) p ≡ getD p (at + 1) 0 ∷ drop (at + 2) p = drop-next p (at + 1) (at + 2) (omega arith) (omega arith) in

@@ -19,6 +19,7 @@ use Rattle.spans.specs.declared.Reach.{Reach}
 use Rattle.spans.specs.Lines.{Line, refusalLine, endLine}
 use Rattle.spans.specs.Hearing.{taking, heardCode, closes, accepting, cameTo, reaching, goesOn}
 use Rattle.spans.specs.Eating.{endedNow, heardLines}
+use Rattle.spans.proofs.Heard.{came-by}
 use Rattle.spans.proofs.Reaches.{came-at, reach-cons}
 use Rattle.spans.proofs.Goings.{came-due}
 
@@ -70,7 +71,13 @@ told-silent : (h : Head) (t : Tally) (b : ℕ) (bs : List ℕ) → eqb (cameTo 1
 unfolding toldBy
 told-silent h t b bs e = rw e
 
-told-due : (h : Head) (t : Tally) (b : ℕ) (bs : List ℕ) → eqb (cameTo 1 (formIn h) (taking t b) .code) 0 ≡ false
+-- a byte after which more is waited for
+pub told-wait : (h : Head) (t : Tally) (b : ℕ) (bs : List ℕ) → heardCode (formIn h) (taking t b) ≡ 0 → toldBy h t (b ∷ bs) ≡ toldBy h (taking t b) bs
+told-wait h t b bs w =
+    let came = came-by 1 (formIn h) (taking t b) w refl in
+    told-silent h t b bs (ap (λ (r : Reach). eqb (r .code) 0) came) ∙ ap (λ (r : Reach). toldBy h (r .tally) bs) came
+
+pub told-due : (h : Head) (t : Tally) (b : ℕ) (bs : List ℕ) → eqb (cameTo 1 (formIn h) (taking t b) .code) 0 ≡ false
     → toldBy h t (b ∷ bs) ≡ heardLines h (cameTo 1 (formIn h) (taking t b)) ++ pick (eqb (cameTo 1 (formIn h) (taking t b) .code) 1) (toldBy h (accepting (taking t b)) bs) []
 unfolding toldBy
 told-due h t b bs e = rw e

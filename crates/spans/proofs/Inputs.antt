@@ -1,0 +1,105 @@
+-- What is printed for pieces of an input is the report of the input.
+use Prim.Native.Nat.{ℕ, zero, suc, _+_, _-_, _≤_, _<_, min}
+use mathlib.Core.Path.{_≡_, refl, sym, ap, subst, _∙_}
+use mathlib.Core.Bool.{Bool, true, false}
+use mathlib.Core.List.{List, [], _∷_, _++_}
+use native.Mathlib.Decide.{decLt}
+use native.Mathlib.Nat.{zero-add, suc-add}
+use native.Mathlib.Omega.{arith}
+use lib.Dec.{eqb, ltb}
+use lib.ListN.{length, getD, take, drop, replicate, length-drop}
+use lib.Seq.{sets, take-take, take-nil, length-take-le}
+use borrow.Author.Tests.{lt-ltb, le-ltb, eqb-true}
+use Rattle.wire.specs.Choice.{pick}
+use Rattle.wire.specs.Number.{number, field}
+use Rattle.wire.proofs.Stores.{sets-whole}
+use Rattle.heads.specs.declared.Head.{Head}
+use Rattle.heads.specs.Head.{mark, version, headLength, formIn, allowed, headIn}
+use Rattle.heads.specs.Head.{readCode as headCode}
+use Rattle.heads.proofs.Codes.{code-by}
+use Rattle.heads.proofs.Rounds.{passed, form-listed}
+use Rattle.spans.specs.declared.Span.{Span}
+use Rattle.spans.specs.Lines.{Line, textOf, openingLine, refusalLine}
+use Rattle.spans.specs.Report.{Known, nothing, linesFrom, linesOf, report}
+use Rattle.spans.specs.Eating.{freshTally, freshSpan, farthest, lacking, headTaken, headLines}
+use Rattle.spans.specs.Pieces.{printed, joinedOf}
+use Rattle.spans.proofs.Telling.{toldBy}
+use Rattle.spans.proofs.Cuts.{toldHead, told, told-head, headToldBy, printed-is}
+use Rattle.spans.proofs.Reported.{allBytes, Knows, bytes-left, told-lines}
+
+-- ---- a head in the first 14 bytes
+
+drop-take : (a m : ℕ) (l : List ℕ) → drop a (take (a + m) l) ≡ take m (drop a l)
+drop-take zero m l = ap (λ (k : ℕ). take k l) (zero-add m)
+drop-take (suc a) m [] = rw (suc-add a m) (sym (take-nil m))
+drop-take (suc a) m (x ∷ l) = rw (suc-add a m) (drop-take a m l)
+
+-- a field within the first 14 bytes
+field-head : (at n : ℕ) (s : List ℕ) → at + n ≤ headLength → field at n (take headLength s) ≡ field at n s
+field-head at n s inside =
+    let all : headLength ≡ at + (headLength - at) = omega arith in
+    ap number (ap (λ (k : ℕ). take n (drop at (take k s))) all ∙ ap (take n) (drop-take at (headLength - at) s) ∙ take-take n (headLength - at) (drop at s) (omega arith))
+
+head-taken-in : (s : List ℕ) → headIn (take headLength s) ≡ headIn s
+head-taken-in s =
+    rw (field-head 5 2 s (omega arith), field-head 7 5 s (omega arith), field-head 12 1 s (omega arith), field-head 13 1 s (omega arith))
+
+head-code-taken : (s : List ℕ) → headLength ≤ length s → headCode (take headLength s) ≡ headCode s
+head-code-taken s long =
+    code-by (take headLength s) (le-ltb (length (take headLength s)) headLength (omega (arith, length-take-le headLength s long)))
+    (ap (λ (n : ℕ). eqb n (number mark)) (field-head 0 3 s (omega arith)))
+    (ap (λ (n : ℕ). eqb n version) (field-head 3 2 s (omega arith)))
+    (ap allowed (head-taken-in s))
+    ∙ sym (code-by s (le-ltb (length s) headLength long) refl refl refl)
+
+-- ---- the whole input
+
+nothing-known : Knows freshTally nothing
+nothing-known = record { taken = refl; offset = refl; captures = refl; heard = refl; position = refl; allowed = omega arith }
+
+module _ (input : List ℕ) where
+  -- the head is cut off
+  cut-head : length input < headLength → toldHead freshSpan input ≡ linesOf input
+  unfolding linesOf
+  cut-head short =
+      let code : headCode input ≡ 40 = code-by input (lt-ltb (length input) headLength short) refl refl refl in
+      rw (lt-ltb (headTaken freshSpan input .taken) headLength (omega arith), code)
+
+  -- the head is whole
+  module _ (long : headLength ≤ length input) where
+    lacks : lacking freshSpan input ≡ headLength
+    lacks = omega arith
+
+    held : headTaken freshSpan input ≡ record { stopped = false; taken = headLength; held = take headLength input; tally = freshTally }
+    held =
+        ap (λ (k : ℕ). record { stopped = false; taken = 0 + k; held = sets (replicate 14 0) 0 (take k input); tally = freshTally }) lacks
+        ∙ ap (λ (l : List ℕ). record { stopped = false; taken = headLength; held = l; tally = freshTally }) (sets-whole (replicate 14 0) (take headLength input) (length-take-le headLength input long))
+
+    after-head : toldHead freshSpan input ≡ headLines (headCode input) ++ pick (eqb (headCode input) 1) (toldBy (headIn input) freshTally (drop headLength input)) []
+    after-head =
+        ap (λ (x : Span). headToldBy x (drop (lacking freshSpan input) input)) held
+        ∙ ap (λ (k : ℕ). headLines (headCode (take headLength input)) ++ pick (eqb (headCode (take headLength input)) 1) (toldBy (headIn (take headLength input)) freshTally (drop k input)) []) lacks
+        ∙ ap (λ (c : ℕ). headLines c ++ pick (eqb c 1) (toldBy (headIn (take headLength input)) freshTally (drop headLength input)) []) (head-code-taken input long)
+        ∙ ap (λ (x : Head). headLines (headCode input) ++ pick (eqb (headCode input) 1) (toldBy x freshTally (drop headLength input)) []) (head-taken-in input)
+
+    whole-head : allBytes input → toldHead freshSpan input ≡ linesOf input
+    unfolding linesOf
+    whole-head small = after-head ∙ by (eqb (headCode input) 1) refl
+      where
+        by : (one : Bool) → eqb (headCode input) 1 ≡ one
+            → headLines (headCode input) ++ pick (eqb (headCode input) 1) (toldBy (headIn input) freshTally (drop headLength input)) []
+            ≡ openingLine ∷ pick (eqb (headCode input) 1) (linesFrom (length input) (headIn input) nothing (drop headLength input)) (refusalLine (headCode input) 0 ∷ [])
+        by true e =
+            let ok = passed input (eqb-true (headCode input) 1 e) .ok in
+            rw e
+            (ap (λ (ls : List Line). openingLine ∷ ls)
+            (told-lines (length input) (headIn input) (form-listed (headIn input) ok) freshTally nothing (drop headLength input) (simp length-drop (omega arith)) nothing-known (bytes-left headLength input small)))
+        by false e = rw e
+
+  pub told-input : allBytes input → told freshSpan input ≡ linesOf input
+  told-input small = told-head freshSpan input refl (omega arith) ∙ elim (decLt (length input) headLength) [ yes short ↦ cut-head short | no short ↦ whole-head (omega arith) small ]
+
+-- However the input comes in pieces, its report is printed.
+pub report-is : (pieces : List (List ℕ)) → allBytes (joinedOf pieces) → length (joinedOf pieces) ≤ farthest → printed pieces ≡ report (joinedOf pieces)
+unfolding report
+report-is pieces small near = printed-is pieces near ∙ ap textOf (told-input (joinedOf pieces) small)

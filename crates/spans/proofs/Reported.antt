@@ -1,0 +1,440 @@
+-- The lines that packets bring byte by byte are those of the report.
+use Prim.Native.Nat.{ℕ, zero, suc, _+_, _*_, _-_, _%_, _≤_, _<_}
+use mathlib.Core.Path.{_≡_, refl, sym, ap, subst, _∙_}
+use mathlib.Core.Bool.{Bool, true, false, _&&_, not}
+use mathlib.Core.List.{List, [], _∷_, _++_, append-assoc, append-nil}
+use native.Mathlib.Decide.{decLt, decLe, ℕ-discrete}
+use native.Mathlib.Omega.{arith}
+use lib.Dec.{eqb, leb, ltb}
+use lib.ListN.{length, getD, take, drop, length-drop}
+use lib.Seq.{length-take-le, drop-drop, getD-take, getD-drop}
+use borrow.Author.Tests.{lt-ltb, le-ltb, le-leb, eq-eqb, ne-eqb, eqb-true, eqb-false, ltb-false}
+use Rattle.wire.specs.Choice.{pick, Check, check, firstOf}
+use Rattle.wire.specs.Number.{field}
+use Rattle.wire.proofs.Laws.{and-left, and-both, true-not-false}
+use Rattle.packets.specs.declared.Form.{Form}
+use Rattle.packets.specs.Forms.{sameForm, totalOf, listed, formWithHeader, wholeOf, isPacket}
+use Rattle.packets.specs.Numbers.{numberAt, stepOf, numberIn}
+use Rattle.packets.proofs.Numbers.{field-two}
+use Rattle.reader.specs.declared.Reader.{Reader}
+use Rattle.reader.specs.Reading.{last, silent, sound, positionAfter, readCode}
+use Rattle.heads.specs.declared.Head.{Head}
+use Rattle.heads.specs.Head.{formIn}
+use Rattle.spans.specs.declared.Tally.{Tally}
+use Rattle.spans.specs.declared.Reach.{Reach}
+use Rattle.spans.specs.Lines.{Line, refusalLine, endLine}
+use Rattle.spans.specs.Report.{Known, lineOf, ended, readerAfter, packetIn, packetCode, begins, knownAfter, atEnd, atRefusal, linesFrom}
+use Rattle.spans.specs.Hearing.{joined, taking, formNow, positionNow, orphan, heardCode, accepting, closes, cameTo, reaching, goesOn}
+use Rattle.spans.specs.Eating.{endedNow, heardLines}
+use Rattle.spans.proofs.Heard.{codeBy, heard-by, came-by, Accepted, accepted}
+use Rattle.spans.proofs.Reaches.{heard-waits, tallied, reach-whole, packet-parts, total-least}
+use Rattle.spans.proofs.Telling.{endLines, byReach, toldBy, told-wait, told-due, afterReach, told-reach, reach-from}
+use Rattle.spans.proofs.Wholes.{formAt, not-whole, packet-length, whole-form, whole-packet}
+
+-- ---- what is known where a packet begins
+
+-- the last position of a capture, 0 of none
+abbrev pub lastOf : List ℕ → ℕ
+lastOf [] = 0
+lastOf (p ∷ ps) = p
+
+-- The tally between two packets is what the report knows there.
+pub record Knows (t : Tally) (k : Known) : Type 0 where
+  pub taken : t .taken ≡ 0
+  pub offset : t .begins ≡ k .offset
+  pub captures : t .captures ≡ k .captures
+  pub heard : t .heard ≡ length (k .accepted)
+  pub position : t .position ≡ lastOf (k .accepted)
+  pub allowed : t .position ≤ last
+
+-- the line of the open capture
+line-by : (h : Head) (captures : ℕ) (accepted : List ℕ) (t : Tally) → t .captures ≡ captures → t .heard ≡ length accepted → t .position ≡ lastOf accepted → endedNow h t ≡ lineOf h captures accepted
+line-by h captures [] t c n p = rw n
+line-by h captures (q ∷ qs) t c n p = rw (n, c, p, ne-eqb (suc (length qs)) 0 (λ e. omega arith))
+
+pub ended-same : (h : Head) (t : Tally) (k : Known) → Knows t k → endedNow h t ≡ ended h k
+ended-same h t k m = line-by h (k .captures) (k .accepted) t (m .captures) (m .heard) (m .position)
+
+-- ---- a packet that is cut off, or has no listed header
+
+header-kept : (t : Tally) (b : ℕ) → 2 ≤ t .taken → taking t b .header ≡ t .header
+unfolding taking
+header-kept t b some = rw (ne-eqb (t .taken) 0 (λ e. omega arith), ne-eqb (t .taken) (0 + 1) (λ e. omega arith))
+
+one-more : (t : Tally) (b : ℕ) → taking t b .taken ≡ t .taken + 1
+unfolding taking
+one-more t b = refl
+
+-- a byte changes nothing of the open capture, nor where the packet begins
+pub ended-taking : (h : Head) (t : Tally) (b : ℕ) → endedNow h (taking t b) ≡ endedNow h t
+unfolding taking
+ended-taking h t b = refl
+
+begins-taking : (t : Tally) (b : ℕ) → taking t b .begins ≡ t .begins
+unfolding taking
+begins-taking t b = refl
+
+-- the lines of a packet that is refused
+abbrev pub refusedAt : Head → Tally → ℕ → List Line
+refusedAt h t code = endedNow h t ++ refusalLine code (t .begins) ∷ []
+
+refused-taking : (h : Head) (t : Tally) (b code : ℕ) → refusedAt h (taking t b) code ≡ refusedAt h t code
+unfolding taking
+refused-taking h t b code = refl
+
+-- the input ends within a packet
+told-within : (h : Head) (t : Tally) → 0 < t .taken → toldBy h t [] ≡ refusedAt h t 30
+unfolding toldBy
+told-within h t some = rw (ne-eqb (t .taken) 0 (λ e. omega arith))
+
+-- two bytes and more of a listed header, and the input ends before the packet does
+told-cut : (bs : List ℕ) (h : Head) (t : Tally) → 2 ≤ t .taken → listed (formNow t) ≡ true → t .taken + length bs < totalOf (formNow t) → toldBy h t bs ≡ refusedAt h t 30
+told-cut [] h t some ok short = told-within h t (omega arith)
+told-cut (b ∷ bs) h t some ok short =
+    let u : Tally = taking t b in
+    let more : u .taken ≡ t .taken + 1 = one-more t b in
+    let form : formNow u ≡ formNow t = ap formWithHeader (header-kept t b some) in
+    let named : listed (formNow u) ≡ true = ap listed form ∙ ok in
+    told-wait h t b bs (heard-waits (formIn h) u (omega (arith, more)) named (omega (arith, more, ap totalOf form)))
+    ∙ told-cut bs h u (omega (arith, more)) named (omega (arith, more, ap totalOf form))
+    ∙ refused-taking h t b 30
+
+-- a byte with which a packet is refused
+told-refused : (h : Head) (t : Tally) (b : ℕ) (bs : List ℕ) (code : ℕ) → heardCode (formIn h) (taking t b) ≡ code → 1 < code → toldBy h t (b ∷ bs) ≡ refusedAt h t code
+told-refused h t b bs code is some =
+    told-due h t b bs (ap (λ (r : Reach). eqb (r .code) 0) came ∙ ne-eqb code 0 (λ e. omega arith))
+    ∙ ap (λ (r : Reach). heardLines h r ++ pick (eqb (r .code) 1) (toldBy h (accepting (taking t b)) bs) []) came
+    ∙ rw (ne-eqb code 1 (λ e. omega arith)) (append-nil (refusedAt h (taking t b) code))
+    ∙ refused-taking h t b code
+  where
+    came : cameTo 1 (formIn h) (taking t b) ≡ record { at = 1; code = code; tally = taking t b }
+    came = came-by 1 (formIn h) (taking t b) is refl ∙ rw (ne-eqb code 0 (λ e. omega arith), ne-eqb code 1 (λ e. omega arith))
+
+-- each is a byte
+abbrev pub allBytes : List ℕ → Type 0
+allBytes bs = (k : ℕ) → getD bs k 0 < 256
+
+-- the first two bytes of a packet
+module _ (t : Tally) (none : t .taken ≡ 0) where
+  abbrev starts : Tally
+  starts = tallied t 0 (t .header) (t .number)
+
+  pub start-is : t ≡ starts
+  start-is = ap (λ (k : ℕ). tallied t k (t .header) (t .number)) none
+
+  first-byte : (a : ℕ) → taking t a ≡ tallied t 1 a (t .number)
+  unfolding taking
+  first-byte a = ap (λ (u : Tally). taking u a) start-is
+
+  second-byte : (a b : ℕ) → taking (tallied t 1 a (t .number)) b ≡ tallied t 2 (joined a b) (t .number)
+  unfolding taking
+  second-byte a b = refl
+
+  pub first-told : (h : Head) (a : ℕ) (bs : List ℕ) → toldBy h t (a ∷ bs) ≡ toldBy h (tallied t 1 a (t .number)) bs
+  first-told h a bs =
+      let u : Tally = tallied t 1 a (t .number) in
+      let waits : heardCode (formIn h) (taking t a) ≡ 0 = ap (heardCode (formIn h)) (first-byte a) ∙ heard-by (formIn h) u refl refl refl refl refl refl in
+      told-wait h t a bs waits ∙ ap (λ (x : Tally). toldBy h x bs) (first-byte a)
+
+  -- no whole packet is there
+  pub told-no-packet : (h : Head) (a : ℕ) (bs : List ℕ) → allBytes (a ∷ bs) → (listed (formAt (a ∷ bs)) ≡ true → totalOf (formAt (a ∷ bs)) ≤ length (a ∷ bs) → ⊥) → toldBy h t (a ∷ bs) ≡ refusedAt h t 30
+  told-no-packet h a [] small no-packet = first-told h a [] ∙ told-within h (tallied t 1 a (t .number)) (omega arith)
+  told-no-packet h a (b ∷ bs) small no-packet = first-told h a (b ∷ bs) ∙ by (listed (formAt (a ∷ b ∷ bs))) refl
+    where
+      u : Tally
+      u = tallied t 1 a (t .number)
+
+      v : Tally
+      v = tallied t 2 (joined a b) (t .number)
+
+      after : taking u b ≡ v
+      after = second-byte a b
+
+      header : joined a b ≡ field 0 2 (a ∷ b ∷ bs)
+      header = omega (arith, small 0)
+
+      form : formNow v ≡ formAt (a ∷ b ∷ bs)
+      form = ap formWithHeader header
+
+      by : (l : Bool) → listed (formAt (a ∷ b ∷ bs)) ≡ l → toldBy h u (b ∷ bs) ≡ refusedAt h t 30
+      by true e =
+          let named : listed (formNow v) ≡ true = ap listed form ∙ e in
+          let least = total-least (formAt (a ∷ b ∷ bs)) e in
+          let short : length (a ∷ b ∷ bs) < totalOf (formAt (a ∷ b ∷ bs)) = elim (decLt (length (a ∷ b ∷ bs)) (totalOf (formAt (a ∷ b ∷ bs)))) [ yes s ↦ s | no s ↦ absurd (no-packet e (omega arith)) ] in
+          told-wait h u b bs (ap (heardCode (formIn h)) after ∙ heard-waits (formIn h) v (omega arith) named (omega (arith, least, ap totalOf form)))
+          ∙ ap (λ (x : Tally). toldBy h x bs) after
+          ∙ told-cut bs h v (omega arith) named (omega (arith, short, ap totalOf form))
+      by false e =
+          let unnamed : listed (formNow v) ≡ false = ap listed form ∙ e in
+          told-refused h u b bs 30 (ap (heardCode (formIn h)) after ∙ heard-by (formIn h) v refl unnamed refl refl refl refl) (omega arith)
+
+-- ---- a whole packet
+
+-- all bytes of a packet of n bytes
+reach-of : (f : Form) (t : Tally) (rest : List ℕ) (n header number : ℕ) → t .taken ≡ 0 → 5 ≤ n → n ≤ length rest → joined (getD rest 0 0) (getD rest 1 0) ≡ header → joined (getD rest 2 0) (getD rest 3 0) ≡ number
+    → listed (formWithHeader header) ≡ true → n ≡ totalOf (formWithHeader header) → reaching 0 f t rest ≡ goesOn f (cameTo n f (tallied t n header number)) (drop n rest)
+reach-of f t rest n header number none least room two four ok total =
+    let k : ℕ = n - 5 in
+    let xs : List ℕ = take k (drop 4 rest) in
+    let counted : length xs ≡ k = length-take-le k (drop 4 rest) (simp length-drop (omega arith)) in
+    let form : formWithHeader (joined (getD rest 0 0) (getD rest 1 0)) ≡ formWithHeader header = ap formWithHeader two in
+    let size : length xs + 5 ≡ n = omega (arith, counted) in
+    let end : 0 + (k + 5) ≡ n = omega arith in
+    let all : rest ≡ getD rest 0 0 ∷ getD rest 1 0 ∷ getD rest 2 0 ∷ getD rest 3 0 ∷ (xs ++ getD rest (0 + 4 + k) 0 ∷ drop n rest)
+    = packet-parts rest 0 k (omega arith) ∙ ap (λ (i : ℕ). getD rest 0 0 ∷ getD rest 1 0 ∷ getD rest 2 0 ∷ getD rest 3 0 ∷ (xs ++ getD rest (0 + 4 + k) 0 ∷ drop i rest)) end in
+    let count : 0 + (length xs + 5) ≡ n = omega (arith, size) in
+    ap (reaching 0 f t) all
+    ∙ reach-whole 0 f t (getD rest 0 0) (getD rest 1 0) (getD rest 2 0) (getD rest 3 0) xs (getD rest (0 + 4 + k) 0) (drop n rest) none (ap listed form ∙ ok) (size ∙ total ∙ ap totalOf (sym form))
+    ∙ ap (λ (i : ℕ). goesOn f (cameTo i f (tallied t (length xs + 5) (joined (getD rest 0 0) (getD rest 1 0)) (joined (getD rest 2 0) (getD rest 3 0)))) (drop n rest)) count
+    ∙ ap (λ (i : ℕ). goesOn f (cameTo n f (tallied t i (joined (getD rest 0 0) (getD rest 1 0)) (joined (getD rest 2 0) (getD rest 3 0)))) (drop n rest)) size
+    ∙ ap (λ (i : ℕ). goesOn f (cameTo n f (tallied t n i (joined (getD rest 2 0) (getD rest 3 0)))) (drop n rest)) two
+    ∙ ap (λ (i : ℕ). goesOn f (cameTo n f (tallied t n header i)) (drop n rest)) four
+
+-- The lines from a whole packet on, with w the tally after its n bytes: by its code.
+module _ (h : Head) (t w : Tally) (rest : List ℕ) (n : ℕ) (reach : reaching 0 (formIn h) t rest ≡ goesOn (formIn h) (cameTo n (formIn h) w) (drop n rest)) (room : n ≤ length rest) where
+  -- refused
+  pub whole-refused : (code : ℕ) → heardCode (formIn h) w ≡ code → 1 < code → toldBy h t rest ≡ refusedAt h w code
+  unfolding goesOn
+  whole-refused code is some =
+      let came : cameTo n (formIn h) w ≡ record { at = n; code = code; tally = w } = came-by n (formIn h) w is refl ∙ rw (ne-eqb code 0 (λ e. omega arith), ne-eqb code 1 (λ e. omega arith)) in
+      let there : reaching 0 (formIn h) t rest ≡ record { at = n; code = code; tally = w } = reach ∙ ap (λ (r : Reach). goesOn (formIn h) r (drop n rest)) came ∙ rw (ne-eqb code 0 (λ e. omega arith)) in
+      told-reach rest 0 h t
+      ∙ ap (λ (r : Reach). afterReach h 0 r rest) there
+      ∙ rw (ne-eqb code 0 (λ e. omega arith), ne-eqb code 1 (λ e. omega arith)) (append-nil (refusedAt h w code))
+
+  -- accepted: where the number is 0, the open capture ends
+  pub whole-accepted : heardCode (formIn h) w ≡ 1 → toldBy h t rest ≡ pick (eqb (w .number) 0) (endedNow h w) [] ++ toldBy h (accepting w) (drop n rest)
+  unfolding goesOn
+  whole-accepted is = by (closes w) refl
+    where
+      by : (close : Bool) → closes w ≡ close → toldBy h t rest ≡ pick (eqb (w .number) 0) (endedNow h w) [] ++ toldBy h (accepting w) (drop n rest)
+      by true e =
+          let came : cameTo n (formIn h) w ≡ record { at = n; code = 1; tally = w } = came-by n (formIn h) w is e in
+          let there : reaching 0 (formIn h) t rest ≡ record { at = n; code = 1; tally = w } = reach ∙ ap (λ (r : Reach). goesOn (formIn h) r (drop n rest)) came in
+          let zero′ : eqb (w .number) 0 ≡ true = and-left (eqb (w .number) 0) (not (eqb (w .heard) 0)) e in
+          let from : n - 0 ≡ n = omega arith in
+          told-reach rest 0 h t
+          ∙ ap (λ (r : Reach). afterReach h 0 r rest) there
+          ∙ ap (λ (ls : List Line). ls ++ toldBy h (accepting w) (drop (n - 0) rest)) (append-nil (endedNow h w))
+          ∙ ap (λ (i : ℕ). endedNow h w ++ toldBy h (accepting w) (drop i rest)) from
+          ∙ ap (λ (b : Bool). pick b (endedNow h w) [] ++ toldBy h (accepting w) (drop n rest)) (sym zero′)
+      by false e =
+          let came : cameTo n (formIn h) w ≡ record { at = n; code = 0; tally = accepting w } = came-by n (formIn h) w is e in
+          let next : Reach = reaching n (formIn h) (accepting w) (drop n rest) in
+          let there : reaching 0 (formIn h) t rest ≡ next = reach ∙ ap (λ (r : Reach). goesOn (formIn h) r (drop n rest)) came in
+          let ahead : n ≤ next .at = reach-from (drop n rest) n (formIn h) (accepting w) in
+          let count : next .at - 0 ≡ n + (next .at - n) = omega (arith, ahead) in
+          let left : drop (next .at - 0) rest ≡ drop (next .at - n) (drop n rest) = ap (λ (i : ℕ). drop i rest) count ∙ sym (drop-drop (next .at - n) n rest) in
+          told-reach rest 0 h t
+          ∙ ap (λ (r : Reach). afterReach h 0 r rest) there
+          ∙ ap (λ (l : List ℕ). byReach h next (endLines h (next .tally)) (toldBy h (accepting (next .tally)) l)) left
+          ∙ sym (told-reach (drop n rest) n h (accepting w))
+          ∙ ap (λ (ls : List Line). ls ++ toldBy h (accepting w) (drop n rest)) (sym (no-line (eqb (w .number) 0) (eqb (w .heard) 0) refl refl e))
+        where
+          no-line : (zero′ silent′ : Bool) → eqb (w .number) 0 ≡ zero′ → eqb (w .heard) 0 ≡ silent′ → closes w ≡ false → pick (eqb (w .number) 0) (endedNow h w) [] ≡ []
+          no-line false s p q c = rw p
+          no-line true true p q c = rw (p, q)
+          no-line true false p q c = absurd (true-not-false (rw (p, q) at c))
+
+-- ---- the packet's code
+
+-- the packet reader of the report, and the tally
+record Reads (h : Head) (t : Tally) (r : Reader) : Type 0 where
+  sounds : sound r ≡ true
+  quiet : not (r .heard) ≡ eqb (t .heard) 0
+  position : r .position ≡ t .position
+  form : eqb (t .heard) 0 ≡ false → r .form ≡ formIn h
+
+reads-by : (h : Head) (accepted : List ℕ) (t : Tally) → listed (formIn h) ≡ true → t .heard ≡ length accepted → t .position ≡ lastOf accepted → t .position ≤ last → Reads h t (readerAfter h accepted)
+reads-by h [] t ok n p near = record { sounds = refl; quiet = rw n; position = sym p; form = λ e. absurd (true-not-false (rw n at e)) }
+reads-by h (q ∷ qs) t ok n p near =
+    record {
+      sounds = and-both (leb q last) (listed (formIn h)) (le-leb q last (omega arith)) ok;
+      quiet = rw n (sym (ne-eqb (suc (length qs)) 0 (λ e. omega arith)));
+      position = sym p;
+      form = λ e. refl;
+    }
+
+-- a field within the packet's first bytes
+field-in-packet : (n at : ℕ) (rest : List ℕ) → at + 2 ≤ n → field at 2 (take n rest) ≡ field at 2 rest
+field-in-packet n at rest h =
+    field-two (take n rest) at
+    ∙ ap (λ (x : ℕ). x + 256 * getD (take n rest) (at + 1) 0) (getD-take n rest at 0 (omega arith))
+    ∙ ap (λ (x : ℕ). getD rest at 0 + 256 * x) (getD-take n rest (at + 1) 0 (omega arith))
+    ∙ sym (field-two rest at)
+
+-- the two orders of checking agree: what the reader checks of a form is settled by the head's
+codes-agree : (same zero′ quiet other past : Bool) → (quiet ≡ false → other ≡ same)
+    → firstOf (check 30 (not true) ∷ check 32 (not same) ∷ [])
+    (firstOf (check 21 (not true) ∷ check 30 (not true) ∷ check 31 (not zero′ && quiet) ∷ check 32 (not zero′ && not other) ∷ check 33 past ∷ []) 1)
+    ≡ codeBy false true false same (not zero′ && quiet) past
+codes-agree false zero′ quiet other past e = refl
+codes-agree true true quiet other past e = refl
+codes-agree true false true other past e = refl
+codes-agree true false false other past e = rw (e refl)
+
+packet-code-by : (h : Head) (k : Known) (packet : List ℕ) {whole same snd lone other past : Bool} → isPacket packet ≡ whole → sameForm (wholeOf packet) (formIn h) ≡ same → sound (readerAfter h (k .accepted)) ≡ snd
+    → (not (eqb (numberIn packet) 0) && not (readerAfter h (k .accepted) .heard)) ≡ lone
+    → (not (eqb (numberIn packet) 0) && not (sameForm (wholeOf packet) (readerAfter h (k .accepted) .form))) ≡ other
+    → ltb last (positionAfter (readerAfter h (k .accepted)) (numberIn packet)) ≡ past
+    → packetCode h k packet ≡ firstOf (check 30 (not whole) ∷ check 32 (not same) ∷ []) (firstOf (check 21 (not snd) ∷ check 30 (not whole) ∷ check 31 lone ∷ check 32 other ∷ check 33 past ∷ []) 1)
+unfolding packetCode readCode
+packet-code-by h k packet a b c d e f = cc
+
+module _ (h : Head) (t : Tally) (k : Known) (m : Knows t k) (own : listed (formIn h) ≡ true) (rest : List ℕ) (ok : listed (formAt rest) ≡ true) (room : totalOf (formAt rest) ≤ length rest) where
+  abbrev packet : List ℕ
+  packet = packetIn rest
+
+  abbrev w : Tally
+  w = tallied t (totalOf (formAt rest)) (field 0 2 rest) (field 2 2 rest)
+
+  pub number-same : numberIn packet ≡ field 2 2 rest
+  number-same = field-in-packet (totalOf (formAt rest)) 2 rest (omega (arith, total-least (formAt rest) ok))
+
+  reader : Reads h t (readerAfter h (k .accepted))
+  reader = reads-by h (k .accepted) t own (m .heard) (m .position) (m .allowed)
+
+  pub position-same : positionAfter (readerAfter h (k .accepted)) (numberIn packet) ≡ positionNow w
+  position-same =
+      ap (positionAfter (readerAfter h (k .accepted))) number-same
+      ∙ ap (λ (p : ℕ). pick (eqb (field 2 2 rest) 0) 0 (p + stepOf (numberAt p) (field 2 2 rest))) (reader .position)
+
+  pub code-same : packetCode h k packet ≡ heardCode (formIn h) w
+  code-same =
+      let r : Reader = readerAfter h (k .accepted) in
+      let zero′ : Bool = eqb (field 2 2 rest) 0 in
+      let quiet : Bool = eqb (t .heard) 0 in
+      let other : Bool = sameForm (formAt rest) (r .form) in
+      let form = whole-form rest ok room in
+      let lone : (not (eqb (numberIn packet) 0) && not (r .heard)) ≡ (not zero′ && quiet)
+      = ap (λ (n : ℕ). not (eqb n 0) && not (r .heard)) number-same ∙ ap (λ (b : Bool). not zero′ && b) (reader .quiet) in
+      let changed : (not (eqb (numberIn packet) 0) && not (sameForm (wholeOf packet) (r .form))) ≡ (not zero′ && not other)
+      = ap (λ (n : ℕ). not (eqb n 0) && not (sameForm (wholeOf packet) (r .form))) number-same ∙ ap (λ (f : Form). not zero′ && not (sameForm f (r .form))) form in
+      packet-code-by h k packet (whole-packet rest ok room) (ap (λ (f : Form). sameForm f (formIn h)) form) (reader .sounds) lone changed (ap (ltb last) position-same)
+      ∙ codes-agree (sameForm (formAt rest) (formIn h)) zero′ quiet other (ltb last (positionNow w)) (λ e. ap (sameForm (formAt rest)) (reader .form e))
+      ∙ sym (heard-by (formIn h) w (le-ltb (totalOf (formAt rest)) 2 (omega (arith, total-least (formAt rest) ok))) ok (le-ltb (totalOf (formAt rest)) (totalOf (formAt rest)) (omega arith)) refl refl refl)
+
+  -- what is known after the accepted packet
+  pub knows-after : heardCode (formIn h) w ≡ 1 → Knows (accepting w) (knownAfter h k packet)
+  unfolding accepting
+  knows-after one =
+      record {
+        taken = refl;
+        offset = omega (arith, m .offset, packet-length rest ok room);
+        captures = ap (λ (c : ℕ). pick (eqb (field 2 2 rest) 0) (c + 1) c) (m .captures) ∙ ap (λ (x : ℕ). pick (eqb x 0) (k .captures + 1) (k .captures)) (sym number-same);
+        heard =
+            ap (λ (c : ℕ). pick (eqb (field 2 2 rest) 0) 1 (c + 1)) (m .heard)
+            ∙ counts (eqb (field 2 2 rest) 0) (k .accepted)
+            ∙ ap (λ (x : ℕ). suc (length (pick (eqb x 0) [] (k .accepted)))) (sym number-same);
+        position = sym position-same;
+        allowed = accepted (formIn h) w one .fits;
+      }
+    where
+      counts : (zero′ : Bool) (l : List ℕ) → pick zero′ 1 (length l + 1) ≡ suc (length (pick zero′ [] l))
+      counts true l = refl
+      counts false l = omega arith
+
+-- ---- to the end of the input
+
+end-same : (h : Head) (t : Tally) (k : Known) → Knows t k → toldBy h t [] ≡ atEnd h k
+unfolding toldBy
+end-same h t k m = rw (m .taken, ended-same h t k m, m .captures)
+
+pub bytes-left : (n : ℕ) (rest : List ℕ) → allBytes rest → allBytes (drop n rest)
+bytes-left n rest small k = subst (λ (x : ℕ). x < 256) (sym (getD-drop n rest k 0)) (small (n + k))
+
+-- the report's lines from a packet on, by its code
+module _ (n : ℕ) (h : Head) (k : Known) (rest : List ℕ) (some : length rest ≡ 0 → ⊥) where
+  lines-refused : (code : ℕ) → packetCode h k (packetIn rest) ≡ code → (code ≡ 1 → ⊥) → linesFrom (suc n) h k rest ≡ atRefusal h k code
+  unfolding linesFrom
+  lines-refused code is other = rw (ne-eqb (length rest) 0 some, is, ne-eqb code 1 other)
+
+  lines-accepted : packetCode h k (packetIn rest) ≡ 1
+      → linesFrom (suc n) h k rest ≡ pick (begins (packetIn rest)) (ended h k) [] ++ linesFrom n h (knownAfter h k (packetIn rest)) (drop (length (packetIn rest)) rest)
+  unfolding linesFrom
+  lines-accepted is = rw (ne-eqb (length rest) 0 some, is)
+
+refused-same : (h : Head) (t : Tally) (k : Known) → Knows t k → (code : ℕ) → refusedAt h t code ≡ atRefusal h k code
+refused-same h t k m code = ap (λ (ls : List Line). ls ++ refusalLine code (t .begins) ∷ []) (ended-same h t k m) ∙ ap (λ (x : ℕ). ended h k ++ refusalLine code x ∷ []) (m .offset)
+
+-- a whole packet is accepted or refused
+whole-some : (same lone past : Bool) → 1 ≤ codeBy false true false same lone past
+whole-some false lone past = omega arith
+whole-some true true past = omega arith
+whole-some true false true = omega arith
+whole-some true false false = omega arith
+
+-- A packet's begin, where the lines of all that comes later agree already.
+module _ (n : ℕ) (h : Head) (own : listed (formIn h) ≡ true) (t : Tally) (k : Known) (m : Knows t k) (a : ℕ) (bs : List ℕ) (few : length (a ∷ bs) ≤ suc n) (small : allBytes (a ∷ bs))
+    (later : (u : Tally) (j : Known) (left : List ℕ) → length left ≤ n → Knows u j → allBytes left → toldBy h u left ≡ linesFrom n h j left) where
+  abbrev rest : List ℕ
+  rest = a ∷ bs
+
+  some : length rest ≡ 0 → ⊥
+  some e = omega arith
+
+  -- no whole packet
+  none-lines : (listed (formAt rest) ≡ true → totalOf (formAt rest) ≤ length rest → ⊥) → toldBy h t rest ≡ linesFrom (suc n) h k rest
+  none-lines no-packet =
+      told-no-packet t (m .taken) h a bs small no-packet
+      ∙ refused-same h t k m 30
+      ∙ sym (lines-refused n h k rest some 30 (packet-code-by h k (packetIn rest) (not-whole rest no-packet) refl refl refl refl refl) (λ e. omega arith))
+
+  -- a whole packet
+  module _ (ok : listed (formAt rest) ≡ true) (room : totalOf (formAt rest) ≤ length rest) where
+    abbrev total : ℕ
+    total = totalOf (formAt rest)
+
+    abbrev v : Tally
+    v = tallied t total (field 0 2 rest) (field 2 2 rest)
+
+    least : 388 ≤ total
+    least = total-least (formAt rest) ok
+
+    reach : reaching 0 (formIn h) t rest ≡ goesOn (formIn h) (cameTo total (formIn h) v) (drop total rest)
+    reach =
+        reach-of (formIn h) t rest total (field 0 2 rest) (field 2 2 rest) (m .taken) (omega (arith, least)) room (omega (arith, field-two rest 0, small 0)) (omega (arith, field-two rest 2, small 2)) ok refl
+
+    code : packetCode h k (packetIn rest) ≡ heardCode (formIn h) v
+    code = code-same h t k m own rest ok room
+
+    long : length (packetIn rest) ≡ total
+    long = packet-length rest ok room
+
+    accepted-lines : heardCode (formIn h) v ≡ 1 → toldBy h t rest ≡ linesFrom (suc n) h k rest
+    accepted-lines one =
+        let next : toldBy h (accepting v) (drop total rest) ≡ linesFrom n h (knownAfter h k (packetIn rest)) (drop total rest)
+        = later (accepting v) (knownAfter h k (packetIn rest)) (drop total rest) (simp length-drop (omega (arith, least))) (knows-after h t k m own rest ok room one) (bytes-left total rest small) in
+        let line : pick (eqb (field 2 2 rest) 0) (endedNow h t) [] ≡ pick (begins (packetIn rest)) (ended h k) []
+        = ap (λ (ls : List Line). pick (eqb (field 2 2 rest) 0) ls []) (ended-same h t k m) ∙ ap (λ (x : ℕ). pick (eqb x 0) (ended h k) []) (sym (number-same h t k m own rest ok room)) in
+        whole-accepted h t v rest total reach room one
+        ∙ ap (λ (ls : List Line). ls ++ toldBy h (accepting v) (drop total rest)) line
+        ∙ ap (λ (ls : List Line). pick (begins (packetIn rest)) (ended h k) [] ++ ls) next
+        ∙ ap (λ (i : ℕ). pick (begins (packetIn rest)) (ended h k) [] ++ linesFrom n h (knownAfter h k (packetIn rest)) (drop i rest)) (sym long)
+        ∙ sym (lines-accepted n h k rest some (code ∙ one))
+
+    refused-lines : (heardCode (formIn h) v ≡ 1 → ⊥) → toldBy h t rest ≡ linesFrom (suc n) h k rest
+    refused-lines other =
+        let is : heardCode (formIn h) v ≡ codeBy false true false (sameForm (formAt rest) (formIn h)) (orphan v) (ltb last (positionNow v))
+        = heard-by (formIn h) v (le-ltb total 2 (omega (arith, least))) ok (le-ltb total total (omega arith)) refl refl refl in
+        let above : 1 < heardCode (formIn h) v = omega (arith, is, whole-some (sameForm (formAt rest) (formIn h)) (orphan v) (ltb last (positionNow v)), other) in
+        whole-refused h t v rest total reach room (heardCode (formIn h) v) refl above
+        ∙ refused-same h t k m (heardCode (formIn h) v)
+        ∙ sym (lines-refused n h k rest some (heardCode (formIn h) v) code other)
+
+  packet-lines : toldBy h t rest ≡ linesFrom (suc n) h k rest
+  packet-lines = by (listed (formAt rest)) refl
+    where
+      whole : listed (formAt rest) ≡ true → totalOf (formAt rest) ≤ length rest → toldBy h t rest ≡ linesFrom (suc n) h k rest
+      whole ok room = elim (ℕ-discrete (heardCode (formIn h) (v ok room)) 1) [ yes one ↦ accepted-lines ok room one | no other ↦ refused-lines ok room other ]
+
+      by : (l : Bool) → listed (formAt rest) ≡ l → toldBy h t rest ≡ linesFrom (suc n) h k rest
+      by true e = elim (decLe (totalOf (formAt rest)) (length rest)) [ yes r ↦ whole e r | no r ↦ none-lines (λ l q. r q) ]
+      by false e = none-lines (λ l q. true-not-false (sym l ∙ e))
+
+pub told-lines : (n : ℕ) (h : Head) → listed (formIn h) ≡ true → (t : Tally) (k : Known) (rest : List ℕ) → length rest ≤ n → Knows t k → allBytes rest → toldBy h t rest ≡ linesFrom n h k rest
+unfolding linesFrom
+told-lines zero h own t k [] few m small = end-same h t k m
+told-lines zero h own t k (a ∷ bs) few m small = absurd (omega arith)
+told-lines (suc n) h own t k [] few m small = end-same h t k m
+told-lines (suc n) h own t k (a ∷ bs) few m small = packet-lines n h own t k m a bs few small (told-lines n h own)
