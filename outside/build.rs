@@ -9,9 +9,11 @@ fn main() {
         println!("cargo:rustc-check-cfg=cfg(proved)\ncargo:rustc-check-cfg=cfg(peer)");
     }
     if let Ok(folder) = env::var("DOOR_FOLDER") {
-        println!("cargo:rerun-if-changed={folder}/libdoor.a");
         println!("cargo:rustc-link-search=native={folder}");
-        println!("cargo:rustc-link-lib=static=door");
+        for library in ["door", "runs"] {
+            println!("cargo:rerun-if-changed={folder}/lib{library}.a");
+            println!("cargo:rustc-link-lib=static={library}");
+        }
         println!("cargo:rustc-cfg=proved");
     }
     if let Ok(object) = env::var("PEER_OBJECT") {

@@ -39,12 +39,12 @@ pub trait Library {
     fn unpack(&self, packet: &[u8], numbers: &mut [i32]) -> (u8, usize);
     /// Code, bytes written.
     fn write_wish(&self, which: u64, value: u64, buffer: &mut [u8]) -> (u8, usize);
-    /// Code, which reply, its value. See [`reply_numbers`].
-    fn read_reply(&self, which: u64, value: u64, bytes: &[u8]) -> (u8, u64, u64);
+    /// Code, and what the bytes say.
+    fn read_reply(&self, which: u64, value: u64, bytes: &[u8]) -> (u8, Said);
     /// Code.
-    fn write_head(&self, divisor: u64, frequency: u64, mode: u8, size: u8, buffer: &mut [u8]) -> u8;
-    /// Code, D, frequency, mode, size.
-    fn read_head(&self, bytes: &[u8]) -> (u8, u64, u64, u8, u8);
+    fn write_head(&self, divisor: u32, frequency: u64, mode: u8, size: u8, buffer: &mut [u8]) -> u8;
+    /// Code, and the head, zeros where there is none.
+    fn read_head(&self, bytes: &[u8]) -> (u8, Head);
     /// Bytes of reply written.
     fn serve(&self, host: &[u8], replies: &mut [u8]) -> usize;
     /// What the span program prints, where it is there to be asked.
@@ -82,22 +82,40 @@ pub fn wish(which: u64, value: u64) -> Option<Wish> {
     })
 }
 
-/// A reply as two numbers: 0 NAK, then in the items' order from 1, and 12 the range; with the value as it was sent.
-pub fn reply_numbers(reply: Reply) -> (u64, u64) {
+/// What a reply says, as numbers: the item's code, how many values it has, the first two of them, and a gain, which is
+/// signed, in a place of its own. Zeros for what is not there.
+#[derive(Clone, Copy, Debug, Default, PartialEq, Eq)]
+pub struct Said {
+    pub item: u16,
+    pub count: usize,
+    pub first: u64,
+    pub second: u64,
+    pub gain: i8,
+}
+
+/// The version's id is the wish's, and it counts as a value of its reply.
+pub fn said(wish: Wish, reply: Reply) -> Said {
+    let item = wish.item() as u16;
+    let one = |first: u64| Said { item, count: 1, first, ..Said::default() };
+    let two = |first: u64, second: u64| Said { count: 2, second, ..one(first) };
     match reply {
-        Reply::Nak => (0, 0),
-        Reply::Name => (1, 0),
-        Reply::Serial(serial) => (2, u64::from_le_bytes(serial)),
-        Reply::Interface(version) => (3, version.into()),
-        Reply::Version(bytes) => (4, u16::from_le_bytes(bytes).into()),
-        Reply::Status { running } => (5, running.into()),
-        Reply::State { running, mode } => (6, u64::from(running) + 256 * u64::from(mode)),
-        Reply::Frequency(frequency) => (7, frequency),
-        Reply::Gain(gain) => (8, (gain as u8).into()),
-        Reply::Clock(clock) => (9, clock.into()),
-        Reply::Rate(rate) => (10, rate.into()),
-        Reply::PacketSize(size) => (11, size.into()),
-        Reply::FrequencyRange => (12, 0),
+        Reply::Nak => Said::default(),
+        // seven bytes, of which N and e are the first
+        Reply::Name => Said { count: 7, ..two(0x4E, 0x65) },
+        Reply::Serial(serial) => one(u64::from_le_bytes(serial)),
+        Reply::Interface(version) => one(version.into()),
+        Reply::Version(bytes) => {
+            let Wish::Version(id) = wish else { panic!("a version that was not wished for") };
+            two(id.into(), u16::from_le_bytes(bytes).into())
+        }
+        Reply::Status { running } => one(if running { 0x0C } else { 0x0B }),
+        Reply::State { running, mode } => two(if running { 2 } else { 1 }, mode.into()),
+        Reply::Frequency(frequency) => one(frequency),
+        Reply::Gain(gain) => Said { gain, ..one(0) },
+        Reply::Clock(hertz) | Reply::Rate(hertz) => one(hertz.into()),
+        Reply::PacketSize(size) => one(size.into()),
+        // minimum, maximum, oscillator of each band
+        Reply::FrequencyRange => Said { count: 6, ..two(100_000, 34_000_000) },
     }
 }
 
@@ -251,29 +269,25 @@ impl Library for Plain {
         }
     }
 
-    fn read_reply(&self, which: u64, value: u64, bytes: &[u8]) -> (u8, u64, u64) {
-        let Some(wish) = wish(which, value) else { return (BAD_VALUE, 0, 0) };
+    fn read_reply(&self, which: u64, value: u64, bytes: &[u8]) -> (u8, Said) {
+        let Some(wish) = wish(which, value) else { return (BAD_VALUE, Said::default()) };
         match reply::read(wish, bytes) {
-            Ok(reply) => {
-                let (case, value) = reply_numbers(reply);
-                (1, case, value)
-            }
-            Err(code) => (code as u8, 0, 0),
+            Ok(reply) => (1, said(wish, reply)),
+            Err(code) => (code as u8, Said::default()),
         }
     }
 
-    fn write_head(&self, divisor: u64, frequency: u64, mode: u8, size: u8, buffer: &mut [u8]) -> u8 {
-        let Ok(divisor) = u32::try_from(divisor) else { return BAD_VALUE };
+    fn write_head(&self, divisor: u32, frequency: u64, mode: u8, size: u8, buffer: &mut [u8]) -> u8 {
         match (Head { divisor, frequency, mode, size }).write(buffer) {
             Ok(_) => 1,
             Err(code) => code as u8,
         }
     }
 
-    fn read_head(&self, bytes: &[u8]) -> (u8, u64, u64, u8, u8) {
+    fn read_head(&self, bytes: &[u8]) -> (u8, Head) {
         match Head::read(bytes) {
-            Ok(head) => (1, head.divisor.into(), head.frequency, head.mode, head.size),
-            Err(code) => (code as u8, 0, 0, 0, 0),
+            Ok(head) => (1, head),
+            Err(code) => (code as u8, Head { divisor: 0, frequency: 0, mode: 0, size: 0 }),
         }
     }
 

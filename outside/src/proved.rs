@@ -1,11 +1,15 @@
-//! The proved library, as the crate `door` exports it: the one place of this folder that is not safe Rust.
+//! The proved library, as the crates `door` and `runs` export it.
 
 use std::io::Write;
 use std::process::{Command, Stdio};
 
-use crate::boundary::Library;
+use crate::boundary::{Library, Said};
+use crate::boundary::{ASK_VERSION, SET_CLOCK, SET_FREQUENCY, SET_GAIN, SET_RATE, SET_SIZE, SET_STATE};
+use crate::head::Head;
+use crate::packet::Form;
 use crate::random::Random;
 
+/// The exports of the crates `door` and `runs`.
 mod door {
     extern "C" {
         pub fn skvornela_fresh(serial: *const u8, serial_len: usize, state: *mut u8, state_len: usize) -> u8;
@@ -19,7 +23,7 @@ mod door {
             consumed: *mut usize,
             wrote: *mut usize,
         ) -> u8;
-        pub fn skvornela_word(state: *const u8, state_len: usize, word: *mut u64) -> u8;
+        pub fn skvornela_word(state: *const u8, state_len: usize, word: *mut u32) -> u8;
         pub fn skvornela_cut(
             state: *mut u8,
             state_len: usize,
@@ -45,17 +49,19 @@ mod door {
             numbers_len: usize,
             count: *mut usize,
         ) -> u8;
-        pub fn skvornela_wish(which: u64, value: u64, buffer: *mut u8, buffer_len: usize, wrote: *mut usize) -> u8;
-        pub fn skvornela_reply(
-            which: u64,
-            value: u64,
-            bytes: *const u8,
-            bytes_len: usize,
-            case: *mut u64,
-            said: *mut u64,
+        pub fn skvornela_wish(
+            which: u8,
+            byte: u8,
+            mode: u8,
+            gain: i8,
+            word: u32,
+            hertz: u64,
+            buffer: *mut u8,
+            buffer_len: usize,
+            wrote: *mut usize,
         ) -> u8;
         pub fn skvornela_head_write(
-            divisor: u64,
+            divisor: u32,
             frequency: u64,
             mode: u8,
             size: u8,
@@ -65,21 +71,71 @@ mod door {
         pub fn skvornela_head_read(
             bytes: *const u8,
             bytes_len: usize,
-            divisor: *mut u64,
+            divisor: *mut u32,
             frequency: *mut u64,
             mode: *mut u8,
             size: *mut u8,
+        ) -> u8;
+        pub fn skvornela_reply(
+            which: u8,
+            byte: u8,
+            mode: u8,
+            gain: i8,
+            word: u32,
+            hertz: u64,
+            bytes: *const u8,
+            bytes_len: usize,
+            item: *mut u16,
+            count: *mut usize,
+            first: *mut u64,
+            second: *mut u64,
+            level: *mut i8,
         ) -> u8;
         pub fn skvornela_serve(host: *const u8, host_len: usize, replies: *mut u8, replies_len: usize) -> usize;
         pub fn skvornela_cut_run(
             mode: u8,
             size: u8,
+            n: usize,
+            total: usize,
             samples: *const i32,
             samples_len: usize,
             packets: *mut u8,
             packets_len: usize,
         ) -> usize;
         pub fn skvornela_read_run(packets: *const u8, packets_len: usize, total: usize) -> u64;
+    }
+}
+
+/// A wish as the door takes it: its number, and the fields of every case.
+#[derive(Default)]
+struct Fields {
+    which: u8,
+    byte: u8,
+    mode: u8,
+    gain: i8,
+    word: u32,
+    hertz: u64,
+}
+
+impl Fields {
+    /// A number that names no wish where the value does not fit its field.
+    fn of(which: u64, value: u64) -> Self {
+        let none = Fields { which: u8::MAX, ..Fields::default() };
+        let Ok(which) = u8::try_from(which) else { return none };
+        let fields = Fields { which, ..Fields::default() };
+        let byte = u8::try_from(value);
+        let word = u32::try_from(value);
+        match u64::from(which) {
+            ASK_VERSION | SET_SIZE => byte.map_or(none, |byte| Fields { byte, ..fields }),
+            SET_STATE => u16::try_from(value).map_or(none, |state| {
+                let [byte, mode] = state.to_le_bytes();
+                Fields { which, byte, mode, ..Fields::default() }
+            }),
+            SET_FREQUENCY => Fields { hertz: value, ..fields },
+            SET_GAIN => byte.map_or(none, |byte| Fields { gain: byte as i8, which, ..Fields::default() }),
+            SET_CLOCK | SET_RATE => word.map_or(none, |word| Fields { word, which, ..Fields::default() }),
+            _ => fields,
+        }
     }
 }
 
@@ -109,9 +165,9 @@ impl Library for Proved {
     }
 
     fn word(&self, state: &[u8]) -> (u8, u64) {
-        let mut word = u64::MAX;
+        let mut word = u32::MAX;
         let code = unsafe { door::skvornela_word(state.as_ptr(), state.len(), &mut word) };
-        (code, word)
+        (code, word.into())
     }
 
     fn cut(&self, state: &mut [u8], samples: &[i32], packet: &mut [u8]) -> (u8, usize) {
@@ -160,28 +216,64 @@ impl Library for Proved {
     }
 
     fn write_wish(&self, which: u64, value: u64, buffer: &mut [u8]) -> (u8, usize) {
+        let wish = Fields::of(which, value);
         let mut wrote = usize::MAX;
-        let code = unsafe { door::skvornela_wish(which, value, buffer.as_mut_ptr(), buffer.len(), &mut wrote) };
+        let code = unsafe {
+            door::skvornela_wish(
+                wish.which,
+                wish.byte,
+                wish.mode,
+                wish.gain,
+                wish.word,
+                wish.hertz,
+                buffer.as_mut_ptr(),
+                buffer.len(),
+                &mut wrote,
+            )
+        };
         (code, wrote)
     }
 
-    fn read_reply(&self, which: u64, value: u64, bytes: &[u8]) -> (u8, u64, u64) {
-        let (mut case, mut said) = (u64::MAX, u64::MAX);
-        let code = unsafe { door::skvornela_reply(which, value, bytes.as_ptr(), bytes.len(), &mut case, &mut said) };
-        (code, case, said)
+    fn read_reply(&self, which: u64, value: u64, bytes: &[u8]) -> (u8, Said) {
+        let wish = Fields::of(which, value);
+        let mut said = Said { item: u16::MAX, count: usize::MAX, first: u64::MAX, second: u64::MAX, gain: i8::MAX };
+        let code = unsafe {
+            door::skvornela_reply(
+                wish.which,
+                wish.byte,
+                wish.mode,
+                wish.gain,
+                wish.word,
+                wish.hertz,
+                bytes.as_ptr(),
+                bytes.len(),
+                &mut said.item,
+                &mut said.count,
+                &mut said.first,
+                &mut said.second,
+                &mut said.gain,
+            )
+        };
+        (code, said)
     }
 
-    fn write_head(&self, divisor: u64, frequency: u64, mode: u8, size: u8, buffer: &mut [u8]) -> u8 {
+    fn write_head(&self, divisor: u32, frequency: u64, mode: u8, size: u8, buffer: &mut [u8]) -> u8 {
         unsafe { door::skvornela_head_write(divisor, frequency, mode, size, buffer.as_mut_ptr(), buffer.len()) }
     }
 
-    fn read_head(&self, bytes: &[u8]) -> (u8, u64, u64, u8, u8) {
-        let (mut divisor, mut frequency) = (u64::MAX, u64::MAX);
-        let (mut mode, mut size) = (u8::MAX, u8::MAX);
+    fn read_head(&self, bytes: &[u8]) -> (u8, Head) {
+        let mut head = Head { divisor: u32::MAX, frequency: u64::MAX, mode: u8::MAX, size: u8::MAX };
         let code = unsafe {
-            door::skvornela_head_read(bytes.as_ptr(), bytes.len(), &mut divisor, &mut frequency, &mut mode, &mut size)
+            door::skvornela_head_read(
+                bytes.as_ptr(),
+                bytes.len(),
+                &mut head.divisor,
+                &mut head.frequency,
+                &mut head.mode,
+                &mut head.size,
+            )
         };
-        (code, divisor, frequency, mode, size)
+        (code, head)
     }
 
     fn serve(&self, host: &[u8], replies: &mut [u8]) -> usize {
@@ -217,7 +309,19 @@ pub fn serve(host: &[u8], replies: &mut [u8]) -> usize {
 }
 
 pub fn cut_run(mode: u8, size: u8, samples: &[i32], packets: &mut [u8]) -> usize {
-    unsafe { door::skvornela_cut_run(mode, size, samples.as_ptr(), samples.len(), packets.as_mut_ptr(), packets.len()) }
+    let form = Form::of_settings(mode, size);
+    unsafe {
+        door::skvornela_cut_run(
+            mode,
+            size,
+            form.samples(),
+            form.total(),
+            samples.as_ptr(),
+            samples.len(),
+            packets.as_mut_ptr(),
+            packets.len(),
+        )
+    }
 }
 
 pub fn read_run(packets: &[u8], total: usize) -> u64 {

@@ -117,7 +117,7 @@ impl Comparison<'_> {
         self.note("reply", done.0, done, other, || format!("wish {which} value {value} bytes {bytes:02X?}"));
     }
 
-    fn write_head(&mut self, head: (u64, u64, u8, u8), room: usize) {
+    fn write_head(&mut self, head: (u32, u64, u8, u8), room: usize) {
         let (divisor, frequency, mode, size) = head;
         let (mut ours, mut theirs) = (vec![0xEE; room], vec![0xEE; room]);
         let code = self.plain.write_head(divisor, frequency, mode, size, &mut ours);
@@ -277,9 +277,8 @@ fn random_heads(c: &mut Comparison, r: &mut Random, times: u64) {
                 _ => head.size = r.byte(),
             }
         }
-        let divisor = u64::from(head.divisor) + if r.once_in(100) { 1 << 32 } else { 0 };
         let room = inputs::room(r, 14);
-        c.write_head((divisor, head.frequency, head.mode, head.size), room);
+        c.write_head((head.divisor, head.frequency, head.mode, head.size), room);
 
         let mut bytes = inputs::capture(r);
         bytes.truncate(r.size(20));

@@ -1,0 +1,76 @@
+-- Wishes and replies, over the door: a wish is its number in the list below, and the fields of every case.
+use Prim.Native.Nat.{ℕ}
+use mathlib.Core.List.{List, [], _∷_}
+use lib.Dec.{eqb}
+use lib.IntN.{ℤ, pos, negsuc}
+use lib.ListN.{length, getD}
+use Rattle.wire.specs.Choice.{pick}
+use Rattle.replies.specs.Reading.{Told}
+use Rattle.wishes.specs.declared.Wish.{Wish}
+use Rattle.wishes.specs.declared.Wish.the-variants as W
+
+-- a wish that no box grants, in the place of a number that names none
+abbrev pub noWish : Wish
+noWish = W.AskVersion 255
+
+-- 01's items in the table's order, set before request before range
+unfoldable pub wishTable : ℕ → ℕ → ℤ → ℕ → ℕ → List Wish
+wishTable byte mode gain word hertz =
+    W.AskName
+    ∷ W.AskSerial
+    ∷ W.AskInterface
+    ∷ W.AskVersion byte
+    ∷ W.AskStatus
+    ∷ W.SetState (record { run = byte; mode = mode })
+    ∷ W.AskState
+    ∷ W.SetFrequency hertz
+    ∷ W.AskFrequency
+    ∷ W.AskFrequencyRange
+    ∷ W.SetGain gain
+    ∷ W.AskGain
+    ∷ W.SetClock word
+    ∷ W.AskClock
+    ∷ W.SetRate word
+    ∷ W.AskRate
+    ∷ W.SetPacketSize byte
+    ∷ W.AskPacketSize
+    ∷ []
+
+abbrev pub wishOf : ℕ → ℕ → ℕ → ℤ → ℕ → ℕ → Wish
+wishOf which byte mode gain word hertz = getD (wishTable byte mode gain word hertz) which noWish
+
+-- What a reply says, as numbers: the code, the item's code, how many values there are, the first two of them, and a gain,
+-- which is signed, in a place of its own. Where there is none of these, 0.
+pub record Shown : Type 0 where
+  pub code : ℕ
+  pub item : ℕ
+  pub count : ℕ
+  pub first : ℕ
+  pub second : ℕ
+  pub gain : ℤ
+
+abbrev pub gainItem : ℕ
+gainItem = 0x0038
+
+abbrev pub natural : ℤ → ℕ
+natural (pos n) = n
+natural (negsuc n) = 0
+
+-- a reply of so many values, of which none is signed, and a refusal
+abbrev pub saidOf : ℕ → ℕ → ℕ → ℕ → Shown
+saidOf item count first second =
+    record { code = 1; item = item; count = count; first = first; second = second; gain = pos 0 }
+
+abbrev pub refusedBy : ℕ → Shown
+refusedBy code = record { code = code; item = 0; count = 0; first = 0; second = 0; gain = pos 0 }
+
+unfoldable pub shown : Told → Shown
+shown t =
+    record {
+      code = t .code;
+      item = t .item;
+      count = length (t .values);
+      first = pick (eqb (t .item) gainItem) 0 (natural (getD (t .values) 0 (pos 0)));
+      second = natural (getD (t .values) 1 (pos 0));
+      gain = pick (eqb (t .item) gainItem) (getD (t .values) 0 (pos 0)) (pos 0);
+    }

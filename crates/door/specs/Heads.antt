@@ -1,0 +1,23 @@
+-- Capture heads, over the door.
+use Prim.Native.Nat.{ℕ}
+use mathlib.Core.List.{List, [], _∷_}
+use Rattle.heads.specs.declared.Head.{Head}
+use Rattle.heads.specs.Head.{Reading, readingOf}
+
+-- what reading a head answers: the code, and the head, or zeros in the place of one that was not found
+pub record Found : Type 0 where
+  pub code : ℕ
+  pub head : Head
+
+abbrev pub noHead : Head
+noHead = record { divisor = 0; frequency = 0; mode = 0; size = 0 }
+
+abbrev pub firstHead : List Head → Head
+firstHead [] = noHead
+firstHead (h ∷ hs) = h
+
+abbrev pub found : Reading → Found
+found r = record { code = r .code; head = firstHead (r .heads) }
+
+abbrev pub foundIn : List ℕ → Found
+foundIn bytes = found (readingOf bytes)

@@ -1,0 +1,147 @@
+-- A host's whole talk: what each call consumes and writes stays within what there is, and what is left to serve gives the
+-- whole.
+use Prim.Native.Nat.{ℕ, zero, suc, _+_, _-_, _≤_, _<_}
+use mathlib.Core.Path.{_≡_, refl, ap, _∙_}
+use mathlib.Core.Bool.{not}
+use mathlib.Core.List.{List, [], _++_}
+use native.Mathlib.Nat.{lt-irrefl, le-refl}
+use native.Mathlib.Omega.{arith}
+use borrow.Author.Tests.{eq-eqb, ne-eqb, lt-ltb, le-ltb, ltb-false}
+use lib.Dec.{eqb, ltb}
+use lib.ListN.{length, take, drop, length-append, length-take, length-drop}
+use lib.Seq.{sets, length-sets, take-all, drop-drop}
+use Rattle.wire.proofs.Laws.{pick-keeps, pick-same}
+use Rattle.wire.proofs.Stores.{sets-append}
+use Rattle.framing.specs.declared.Taking.{Taking}
+use Rattle.framing.specs.Framing.{taken, finished}
+use Rattle.framing.proofs.Cutting.{count-most}
+use Rattle.items.specs.Answer.{replyOf}
+use Rattle.station.specs.declared.Fed.{Fed}
+use Rattle.station.specs.declared.Station.{Station}
+use Rattle.station.specs.declared.Began.{Began}
+use Rattle.station.specs.Station.{valid, freshBox}
+use Rattle.station.specs.Feeding.{Feeding, feedingOf, refused, waiting, answered, answering, fedBy, messageIn}
+use Rattle.runs.specs.Serving.{serial, served, serveRun}
+
+pub record Within (host : List ℕ) (room : ℕ) (f : Feeding) : Type 0 where
+  pub consumed : f .fed .consumed ≤ length host
+  pub wrote : f .fed .wrote ≡ length (f .bytes)
+  pub fits : length (f .bytes) ≤ room
+
+refused-within : (code : ℕ) (s : Station) (host : List ℕ) (room : ℕ) → Within host room (refused code s)
+refused-within code s host room = record { consumed = omega arith; wrote = refl; fits = omega arith }
+
+answering-within : (s : Station) (t : Taking) (host : List ℕ) (room : ℕ) → t .count ≤ length host → Within host room (answering s t room)
+answering-within s t host room most =
+    pick-keeps (Within host room) (ltb room (length (replyOf (s .settings) (messageIn (t .store))))) (refused 20 s) (answered (s .settings) t) (λ short. refused-within 20 s host room) (λ enough. record { consumed = most; wrote = refl; fits = ltb-false room (length (replyOf (s .settings) (messageIn (t .store)))) enough })
+
+fed-within : (s : Station) (t : Taking) (host : List ℕ) (room : ℕ) → t .count ≤ length host → Within host room (fedBy s t room)
+fed-within s t host room most =
+    pick-keeps (Within host room) (not (finished (t .store))) (waiting (s .settings) t) (answering s t room) (λ more. record { consumed = most; wrote = refl; fits = omega arith }) (λ done. answering-within s t host room most)
+
+pub feeding-within : (s : Station) (host : List ℕ) (room : ℕ) → Within host room (feedingOf s host room)
+unfolding feedingOf
+feeding-within s host room =
+    pick-keeps (Within host room) (not (valid s)) (refused 21 s) (fedBy s (taken (s .store) host) room) (λ broken. refused-within 21 s host room) (λ whole. fed-within s (taken (s .store) host) host room (omega (arith, count-most 0 (s .store) host)))
+
+-- nothing more is served: no call is left, no byte, or no room
+pub none-left : (left room : ℕ) (s : Station) (host : List ℕ) → left ≤ 0 → served left room s host ≡ []
+unfolding served
+none-left zero room s host none = refl
+none-left (suc left) room s host none = absurd (omega arith)
+
+pub none-more : (left room : ℕ) (s : Station) (host : List ℕ) → length host ≡ 0 → served left room s host ≡ []
+unfolding served
+none-more zero room s host none = refl
+none-more (suc left) room s host none = rw (eq-eqb (length host) 0 none)
+
+pub no-room : (left room : ℕ) (s : Station) (host : List ℕ) → room < 64 → served left room s host ≡ []
+unfolding served
+no-room zero room s host short = refl
+no-room (suc left) room s host short = rw (lt-ltb room 64 short) (pick-same (eqb (length host) 0) [])
+
+-- one call, and what is served after it
+pub one-call : (left room : ℕ) (s : Station) (host : List ℕ) (f : Feeding) → f ≡ feedingOf s host room → 0 < left → 0 < length host → 64 ≤ room
+    → served left room s host ≡ f .bytes ++ served (left - 1) (room - length (f .bytes)) (f .fed .station) (drop (f .fed .consumed) host)
+unfolding served
+one-call zero room s host f is none more roomy = absurd (lt-irrefl 0 none)
+one-call (suc left) room s host f is some more roomy =
+    let down : suc left - 1 ≡ left = omega arith in
+    rw (down, is, ne-eqb (length host) 0 (omega arith), le-ltb room 64 roomy)
+
+-- the rest of a list, as a part of it
+pub rest-part : (i : ℕ) (l : List ℕ) → take (length l - i) (drop i l) ≡ drop i l
+rest-part i l = take-all (length l - i) (drop i l) (simp length-drop (le-refl _))
+
+pub rest-long : (i : ℕ) (l : List ℕ) → length (take (length l - i) (drop i l)) ≡ length l - i
+rest-long i l = simp (length-take, length-drop) (omega arith)
+
+-- Serving in its midst: what is left to serve, written from the present place on, gives the whole.
+pub record Going (host whole replies : List ℕ) (s : Station) (i at left : ℕ) : Type 0 where
+  pub inside : i ≤ length host
+  pub room : at ≤ length replies
+  pub long : length replies ≡ length whole
+  pub written : sets replies at (served left (length replies - at) s (drop i host)) ≡ sets whole 0 (serveRun host (length whole))
+  pub counted : at + length (served left (length replies - at) s (drop i host)) ≡ length (serveRun host (length whole))
+
+-- it begins with a fresh box
+pub begins : (host replies : List ℕ) (b : Began) → b ≡ freshBox serial → Going host replies replies (b .station) 0 0 (length host)
+unfolding serveRun
+begins host replies b is =
+    let all : length replies - 0 ≡ length replies = omega arith in
+    record {
+      inside = omega arith;
+      room = omega arith;
+      long = refl;
+      written = rw (is, all);
+      counted = rw (is, all) (omega arith);
+    }
+
+-- it ends where nothing more is served
+pub ends : (host whole replies : List ℕ) (s : Station) (i at left : ℕ) → Going host whole replies s i at left
+    → served left (length replies - at) s (drop i host) ≡ [] → (at ≡ length (serveRun host (length whole))) × (replies ≡ sets whole 0 (serveRun host (length whole)))
+ends host whole replies s i at left g none = (omega (arith, rw none at (g .counted)), rw none at (g .written))
+
+-- and goes on from one call to the next
+module _ (host whole replies after : List ℕ) (s : Station) (i at left : ℕ) (f : Feeding) (is : f ≡ feedingOf s (drop i host) (length replies - at)) (g : Going host whole replies s i at left) (some : 0 < left) (more : i < length host) (roomy : 64 ≤ length replies - at) (stored : after ≡ sets replies at (f .bytes)) where
+  rest : List ℕ
+  rest = served (left - 1) (length replies - at - length (f .bytes)) (f .fed .station) (drop (f .fed .consumed) (drop i host))
+
+  within : Within (drop i host) (length replies - at) f
+  within = rw is (feeding-within s (drop i host) (length replies - at))
+
+  same : length after ≡ length replies
+  same = rw (stored, length-sets replies at (f .bytes))
+
+  split : served left (length replies - at) s (drop i host) ≡ f .bytes ++ rest
+  unfolding rest
+  split = one-call left (length replies - at) s (drop i host) f is some (simp length-drop (omega arith)) roomy
+
+  on : served (left - 1) (length after - (at + f .fed .wrote)) (f .fed .station) (drop (i + f .fed .consumed) host) ≡ rest
+  unfolding rest
+  on =
+      let lefts : length after - (at + f .fed .wrote) ≡ length replies - at - length (f .bytes) = omega (arith, same, within .wrote) in
+      rw (lefts, ← drop-drop (f .fed .consumed) i host)
+
+  -- the bytes of this call, and the rest behind them
+  behind : sets after (at + f .fed .wrote) (served (left - 1) (length after - (at + f .fed .wrote)) (f .fed .station) (drop (i + f .fed .consumed) host)) ≡ sets replies at (f .bytes ++ rest)
+  behind =
+      let to : at + f .fed .wrote ≡ at + length (f .bytes) = omega (arith, within .wrote) in
+      ap (λ (l : List ℕ). sets after (at + f .fed .wrote) l) on
+      ∙ ap (λ (n : ℕ). sets after n rest) to
+      ∙ ap (λ (l : List ℕ). sets l (at + length (f .bytes)) rest) stored
+      ∙ sets-append replies at (f .bytes) rest
+
+  pub goes-on : Going host whole after (f .fed .station) (i + f .fed .consumed) (at + f .fed .wrote) (left - 1)
+  goes-on =
+      record {
+        inside = omega (arith, within .consumed, length-drop i host);
+        room = omega (arith, same, within .wrote, within .fits);
+        long = same ∙ g .long;
+        written = behind ∙ rw split at (g .written);
+        counted = rw on (omega (arith, within .wrote, length-append (f .bytes) rest, rw split at (g .counted)));
+      }
+
+  -- as the call's own answer says
+  pub turns : (r : Fed) → r ≡ f .fed → Going host whole after (r .station) (i + r .consumed) (at + r .wrote) (left - 1)
+  turns r told = rw told goes-on

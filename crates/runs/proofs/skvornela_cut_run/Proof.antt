@@ -1,0 +1,167 @@
+-- What is left to cut gives the whole; each turn cuts one packet or ends.
+use Prim.Native.Nat.{ℕ, _+_, _-_}
+use mathlib.Core.Path.{_≡_, refl, ap, _∙_}
+use mathlib.Core.List.{List}
+use native.Mathlib.Omega.{arith}
+use borrow.Author.Needs.{needs}
+use borrow.Rule.Slice.PartMut.{putMid}
+use lib.ListN.{length, take, drop}
+use lib.Seq.{sets}
+use Rattle.wire.proofs.Stores.{part-sets}
+use Rattle.cutting.specs.declared.Cut.{Cut}
+use Rattle.cutting.specs.Cutting.{Cutting, cuttingOf}
+use Rattle.runs.specs.Cutting.{ran}
+use Rattle.runs.proofs.Serves.{rest-long}
+use Rattle.runs.proofs.Turns.{one-more}
+use Rattle.runs.proofs.Cuts.{none-cut, Under, no-samples, no-bytes, begins, over, refused, turns}
+use Rattle.runs.proofs.skvornela_cut_run.Statement.{statement}
+use Rattle.runs.proofs.skvornela_cut_run.Tie as tie
+
+abbrev Inv-loop : tie.InvT-loop
+Inv-loop mode size n total samples out₀ s₀ left₀ count₀ i₀ at₀ out s left count i at = Under mode size n total samples out₀ out s left count i at
+
+abbrev μ-loop : tie.MeasureT-loop
+μ-loop mode size n total samples out₀ s₀ left₀ count₀ i₀ at₀ out s left count i at = left
+
+returns : tie.Need-returns Inv-loop μ-loop
+returns c = no-samples _ _ _ _ _ _ (c .if1 .taken)
+
+returns-2 : tie.Need-returns-2 Inv-loop μ-loop
+returns-2 c = no-bytes _ _ _ _ _ _ (c .before .if1 .left) (c .if2 .taken)
+
+started-requires : tie.Need-started-requires Inv-loop μ-loop
+started-requires c κs = search needs
+
+div-lesser : tie.Need-div-lesser Inv-loop μ-loop
+div-lesser c = search needs
+
+div-lesser-2 : tie.Need-div-lesser-2 Inv-loop μ-loop
+div-lesser-2 c = search needs
+
+lesser-requires : tie.Need-lesser-requires Inv-loop μ-loop
+lesser-requires c κs = search needs
+
+loop-holds : tie.Need-loop-holds Inv-loop μ-loop
+loop-holds c = begins _ _ _ _ _ _ _ _ (c .before .before .before .if1 .left) (c .before .before .if2 .left) (c .before .started .ensures) (c .lesser .ensures)
+
+add-end : tie.Need-add-end Inv-loop μ-loop
+add-end c = omega (arith, one-more (c .before .loop .left) (c .before .before .before .before .before .before .before .args .n) (omega arith), c .before .loop .inv .sampled, c .before .before .before .before .before .before .before .good)
+
+mul-cut-packet : tie.Need-mul-cut-packet Inv-loop μ-loop
+mul-cut-packet c = search needs
+
+sub-cut-packet : tie.Need-sub-cut-packet Inv-loop μ-loop
+sub-cut-packet c = search needs
+
+part-cut-packet-start : tie.Need-part-cut-packet-start Inv-loop μ-loop
+part-cut-packet-start c = search needs
+
+part-cut-packet-end : tie.Need-part-cut-packet-end Inv-loop μ-loop
+part-cut-packet-end c = omega (arith, one-more (c .before .loop .left) (c .before .before .before .before .before .before .before .args .n) (omega arith), c .before .loop .inv .sampled)
+
+sub-cut-packet-2 : tie.Need-sub-cut-packet-2 Inv-loop μ-loop
+sub-cut-packet-2 c = search needs
+
+part-cut-packet-start-2 : tie.Need-part-cut-packet-start-2 Inv-loop μ-loop
+part-cut-packet-start-2 c = omega (arith, c .before .before .loop .inv .roomy)
+
+part-cut-packet-end-2 : tie.Need-part-cut-packet-end-2 Inv-loop μ-loop
+part-cut-packet-end-2 c = search needs
+
+cut-packet-requires : tie.Need-cut-packet-requires Inv-loop μ-loop
+cut-packet-requires c κs = search needs
+
+-- what the call is of: the next samples, and the rest of the room
+abbrev calling : (c : tie.After-cut-packet Inv-loop μ-loop) → Cutting
+calling c = cuttingOf (c .before .before .before .before .loop .s) (take (c .before .before .before .before .before .before .before .before .before .before .args .n) (drop (c .before .before .before .before .loop .i) (c .before .before .before .before .before .before .before .before .before .before .args .samples .now))) (length (c .before .before .before .before .loop .out) - c .before .before .before .before .loop .at)
+
+module _ (c : tie.After-cut-packet Inv-loop μ-loop) where
+  next : c .before .before .before .before .loop .i + c .before .before .before .before .before .before .before .before .before .before .args .n - c .before .before .before .before .loop .i ≡ c .before .before .before .before .before .before .before .before .before .before .args .n
+  next = omega arith
+
+  cut : c .cut-packet .result ≡ calling c .cut
+  cut = rw (next, rest-long (c .before .before .before .before .loop .at) (c .before .before .before .before .loop .out)) at (c .cut-packet .ensures .0)
+
+  stored : putMid (c .before .before .before .before .loop .at) (length (c .before .before .before .before .loop .out) - c .before .before .before .before .loop .at) (c .before .before .before .before .loop .out) (c .cut-packet .last .1 .1 .0) ≡ sets (c .before .before .before .before .loop .out) (c .before .before .before .before .loop .at) (calling c .bytes)
+  stored =
+      ap (λ (v : List ℕ). putMid (c .before .before .before .before .loop .at) (length (c .before .before .before .before .loop .out) - c .before .before .before .before .loop .at) (c .before .before .before .before .loop .out) v) (rw (next, rest-long (c .before .before .before .before .loop .at) (c .before .before .before .before .loop .out)) at (c .cut-packet .ensures .1))
+      ∙ part-sets (c .before .before .before .before .loop .at) (length (c .before .before .before .before .loop .out) - c .before .before .before .before .loop .at) (c .before .before .before .before .loop .out) (calling c .bytes) (omega (arith, c .before .before .before .before .loop .inv .roomy))
+
+  -- a refused packet leaves the lent bytes
+  untouched : (c .cut-packet .result .code ≡ 1 → ⊥) → putMid (c .before .before .before .before .loop .at) (length (c .before .before .before .before .loop .out) - c .before .before .before .before .loop .at) (c .before .before .before .before .loop .out) (c .cut-packet .last .1 .1 .0) ≡ c .before .before .before .before .loop .out
+  untouched bad =
+      stored
+      ∙ ap (λ (v : List ℕ). sets (c .before .before .before .before .loop .out) (c .before .before .before .before .loop .at) v) (none-cut (c .before .before .before .before .loop .s) (take (c .before .before .before .before .before .before .before .before .before .before .args .n) (drop (c .before .before .before .before .loop .i) (c .before .before .before .before .before .before .before .before .before .before .args .samples .now))) (length (c .before .before .before .before .loop .out) - c .before .before .before .before .loop .at) (λ good. bad (ap (λ (r : Cut). r .code) cut ∙ good)))
+
+same-length : tie.Need-same-length Inv-loop μ-loop
+same-length c =
+    let f = c .before .before .before .before in
+    ap length (untouched f (c .if3 .taken)) ∙ f .before .before .before .before .loop .inv .long
+
+returns-3 : tie.Need-returns-3 Inv-loop μ-loop
+returns-3 c =
+    let f = c .before .before .before .before in
+    let l = f .before .before .before .before .loop in
+    let a = f .before .before .before .before .before .before .before .before .before .before .args in
+    ap (λ (v : List ℕ). ran (l .count) v) (untouched f (c .if3 .taken))
+    ∙ refused (a .mode) (a .size) (a .n) (a .total) (a .samples .now) (a .out .now) (l .out) (l .s) (l .left) (l .count) (l .i) (l .at) (l .inv) (calling f) (omega arith) refl (λ good. c .if3 .taken (ap (λ (r : Cut). r .code) (cut f) ∙ good))
+
+add-count : tie.Need-add-count Inv-loop μ-loop
+add-count c = omega (arith, c .before .before .before .before .before .before .before .before .before .loop .inv .counted, c .before .before .before .before .before .before .before .before .before .loop .inv .long, c .before .before .before .before .before .before .before .before .before .before .before .before .before .before .before .good)
+
+add-at : tie.Need-add-at Inv-loop μ-loop
+add-at c = omega (arith, one-more (c .before .before .before .before .before .before .before .before .before .loop .left) (c .before .before .before .before .before .before .before .before .before .before .before .before .before .before .before .args .total) (omega arith), c .before .before .before .before .before .before .before .before .before .loop .inv .roomy, c .before .before .before .before .before .before .before .before .before .loop .inv .long, c .before .before .before .before .before .before .before .before .before .before .before .before .before .before .before .good)
+
+sub-left : tie.Need-sub-left Inv-loop μ-loop
+sub-left c = search needs
+
+loop-less : tie.Need-loop-less Inv-loop μ-loop
+loop-less c = search needs
+
+loop-again : tie.Need-loop-again Inv-loop μ-loop
+loop-again c =
+    let f = c .before .before .before .before .before in
+    let l = f .before .before .before .before .loop in
+    let a = f .before .before .before .before .before .before .before .before .before .before .args in
+    turns (a .mode) (a .size) (a .n) (a .total) (a .samples .now) (a .out .now) (l .out) (l .s) (l .left) (l .count) (l .i) (l .at) (l .inv) (calling f) (omega arith) refl _ (f .cut-packet .result) (cut f) (c .before .if3 .left) (stored f)
+
+same-length-2 : tie.Need-same-length-2 Inv-loop μ-loop
+same-length-2 c = c .before .loop .inv .long
+
+returns-4 : tie.Need-returns-4 Inv-loop μ-loop
+returns-4 c =
+    let l = c .before .loop in
+    let a = c .before .before .before .before .before .before .before .args in
+    over (a .mode) (a .size) (a .n) (a .total) (a .samples .now) (a .out .now) (l .out) (l .s) (l .left) (l .count) (l .i) (l .at) (l .inv) (omega arith)
+
+pub skvornela-cut-run-spec : {M : Type 1} → statement M
+skvornela-cut-run-spec =
+    tie.close
+    (tie.spec
+    Inv-loop
+    μ-loop
+    returns
+    returns-2
+    started-requires
+    div-lesser
+    div-lesser-2
+    lesser-requires
+    loop-holds
+    add-end
+    mul-cut-packet
+    sub-cut-packet
+    part-cut-packet-start
+    part-cut-packet-end
+    sub-cut-packet-2
+    part-cut-packet-start-2
+    part-cut-packet-end-2
+    cut-packet-requires
+    same-length
+    returns-3
+    add-count
+    add-at
+    sub-left
+    loop-less
+    loop-again
+    same-length-2
+    returns-4)

@@ -1,0 +1,149 @@
+-- What is left to serve, written from the present place on, gives the whole; each turn is one call.
+use native.Mathlib.Omega.{arith}
+use borrow.Author.Needs.{needs}
+use Prim.Native.Nat.{ℕ, _-_}
+use mathlib.Core.Path.{_≡_, refl, ap, _∙_}
+use mathlib.Core.List.{List}
+use borrow.Rule.Slice.PartMut.{putMid}
+use lib.Seq.{sets}
+use Rattle.wire.proofs.Stores.{part-sets}
+use Rattle.station.specs.declared.Fed.{Fed}
+use lib.ListN.{length, drop, length-drop}
+use Rattle.station.specs.Feeding.{Feeding, feedingOf}
+use Rattle.runs.proofs.Serves.{Within, feeding-within, Going, none-left, none-more, no-room, rest-part, rest-long, begins, ends, turns}
+use Rattle.runs.proofs.skvornela_serve.Statement.{statement}
+use Rattle.runs.proofs.skvornela_serve.Tie as tie
+
+abbrev Inv-loop : tie.InvT-loop
+Inv-loop host replies₀ s₀ i₀ at₀ left₀ replies s i at left = Going host replies₀ replies s i at left
+
+abbrev μ-loop : tie.MeasureT-loop
+μ-loop host replies₀ s₀ i₀ at₀ left₀ replies s i at left = left
+
+slice-aggregate-fresh : tie.Need-slice-aggregate-fresh Inv-loop μ-loop
+slice-aggregate-fresh c = search needs
+
+fresh-requires : tie.Need-fresh-requires Inv-loop μ-loop
+fresh-requires c κs = search needs
+
+loop-holds : tie.Need-loop-holds Inv-loop μ-loop
+loop-holds c = begins _ _ (c .before .fresh .result) (c .before .fresh .ensures)
+
+same-length : tie.Need-same-length Inv-loop μ-loop
+same-length c = c .before .before .loop .inv .long
+
+returns : tie.Need-returns Inv-loop μ-loop
+returns c =
+    let l = c .before .before .loop in
+    let host = c .before .before .before .before .before .before .before .before .args .host .now in
+    ends _ _ (l .replies) (l .s) (l .i) (l .at) (l .left) (l .inv) (none-more (l .left) _ (l .s) (drop (l .i) host) (omega (arith, length-drop (l .i) host)))
+
+sub-if2 : tie.Need-sub-if2 Inv-loop μ-loop
+sub-if2 c = search needs
+
+same-length-2 : tie.Need-same-length-2 Inv-loop μ-loop
+same-length-2 c = c .before .before .before .loop .inv .long
+
+returns-2 : tie.Need-returns-2 Inv-loop μ-loop
+returns-2 c =
+    let l = c .before .before .before .loop in
+    let host = c .before .before .before .before .before .before .before .before .before .args .host .now in
+    ends _ _ (l .replies) (l .s) (l .i) (l .at) (l .left) (l .inv) (no-room (l .left) _ (l .s) (drop (l .i) host) (c .if2 .taken))
+
+sub-feed : tie.Need-sub-feed Inv-loop μ-loop
+sub-feed c = search needs
+
+part-feed-start : tie.Need-part-feed-start Inv-loop μ-loop
+part-feed-start c = search needs
+
+part-feed-end : tie.Need-part-feed-end Inv-loop μ-loop
+part-feed-end c = search needs
+
+sub-feed-2 : tie.Need-sub-feed-2 Inv-loop μ-loop
+sub-feed-2 c = search needs
+
+part-feed-start-2 : tie.Need-part-feed-start-2 Inv-loop μ-loop
+part-feed-start-2 c = search needs
+
+part-feed-end-2 : tie.Need-part-feed-end-2 Inv-loop μ-loop
+part-feed-end-2 c = search needs
+
+feed-requires : tie.Need-feed-requires Inv-loop μ-loop
+feed-requires c κs = search needs
+
+-- what the call is of: the rest of the host's bytes, and the rest of the room
+abbrev calling : (c : tie.After-feed Inv-loop μ-loop) → Feeding
+calling c = feedingOf (c .before .before .before .before .before .before .loop .s) (drop (c .before .before .before .before .before .before .loop .i) (c .before .before .before .before .before .before .before .before .before .before .before .before .args .host .now)) (length (c .before .before .before .before .before .before .loop .replies) - c .before .before .before .before .before .before .loop .at)
+
+module _ (c : tie.After-feed Inv-loop μ-loop) where
+  fed : c .feed .result ≡ calling c .fed
+  fed = rw (rest-part (c .before .before .before .before .before .before .loop .i) (c .before .before .before .before .before .before .before .before .before .before .before .before .args .host .now), rest-long (c .before .before .before .before .before .before .loop .at) (c .before .before .before .before .before .before .loop .replies)) at (c .feed .ensures .0)
+
+  stored : putMid (c .before .before .before .before .before .before .loop .at) (length (c .before .before .before .before .before .before .loop .replies) - c .before .before .before .before .before .before .loop .at) (c .before .before .before .before .before .before .loop .replies) (c .feed .last .1 .1 .0) ≡ sets (c .before .before .before .before .before .before .loop .replies) (c .before .before .before .before .before .before .loop .at) (calling c .bytes)
+  stored =
+      ap (λ (v : List ℕ). putMid (c .before .before .before .before .before .before .loop .at) (length (c .before .before .before .before .before .before .loop .replies) - c .before .before .before .before .before .before .loop .at) (c .before .before .before .before .before .before .loop .replies) v) (rw (rest-part (c .before .before .before .before .before .before .loop .i) (c .before .before .before .before .before .before .before .before .before .before .before .before .args .host .now), rest-long (c .before .before .before .before .before .before .loop .at) (c .before .before .before .before .before .before .loop .replies)) at (c .feed .ensures .1))
+      ∙ part-sets (c .before .before .before .before .before .before .loop .at) (length (c .before .before .before .before .before .before .loop .replies) - c .before .before .before .before .before .before .loop .at) (c .before .before .before .before .before .before .loop .replies) (calling c .bytes) (omega (arith, c .before .before .before .before .before .before .loop .inv .room))
+
+  bound : Within (drop (c .before .before .before .before .before .before .loop .i) (c .before .before .before .before .before .before .before .before .before .before .before .before .args .host .now)) (length (c .before .before .before .before .before .before .loop .replies) - c .before .before .before .before .before .before .loop .at) (calling c)
+  bound = feeding-within (c .before .before .before .before .before .before .loop .s) (drop (c .before .before .before .before .before .before .loop .i) (c .before .before .before .before .before .before .before .before .before .before .before .before .args .host .now)) (length (c .before .before .before .before .before .before .loop .replies) - c .before .before .before .before .before .before .loop .at)
+
+add-i : tie.Need-add-i Inv-loop μ-loop
+add-i c =
+    let f = c .before .before .before .before in
+    omega (arith, ap (λ (r : Fed). r .consumed) (fed f), bound f .consumed, length-drop (f .before .before .before .before .before .before .loop .i) (f .before .before .before .before .before .before .before .before .before .before .before .before .args .host .now), f .before .before .before .before .before .before .loop .inv .inside, f .before .before .before .before .before .before .before .before .before .before .before .before .good)
+
+add-at : tie.Need-add-at Inv-loop μ-loop
+add-at c =
+    let f = c .before .before .before .before .before in
+    omega (arith, ap (λ (r : Fed). r .wrote) (fed f), bound f .wrote, bound f .fits, f .before .before .before .before .before .before .loop .inv .long, f .before .before .before .before .before .before .loop .inv .room, f .before .before .before .before .before .before .before .before .before .before .before .before .good)
+
+sub-left : tie.Need-sub-left Inv-loop μ-loop
+sub-left c = search needs
+
+loop-less : tie.Need-loop-less Inv-loop μ-loop
+loop-less c = search needs
+
+loop-again : tie.Need-loop-again Inv-loop μ-loop
+loop-again c =
+    let f = c .before .before .before .before .before in
+    let l = f .before .before .before .before .before .before .loop in
+    let host = f .before .before .before .before .before .before .before .before .before .before .before .before .args .host .now in
+    turns host _ (l .replies) _ (l .s) (l .i) (l .at) (l .left) (calling f) refl (l .inv) (omega arith) (omega arith) (f .before .before .before .if2 .left) (stored f) (f .feed .result) (fed f)
+
+same-length-3 : tie.Need-same-length-3 Inv-loop μ-loop
+same-length-3 c = c .before .loop .inv .long
+
+returns-3 : tie.Need-returns-3 Inv-loop μ-loop
+returns-3 c =
+    let l = c .before .loop in
+    let host = c .before .before .before .before .before .before .before .args .host .now in
+    ends _ _ (l .replies) (l .s) (l .i) (l .at) (l .left) (l .inv) (none-left (l .left) _ (l .s) (drop (l .i) host) (omega arith))
+
+pub skvornela-serve-spec : {M : Type 1} → statement M
+skvornela-serve-spec =
+    tie.close
+    (tie.spec
+    Inv-loop
+    μ-loop
+    slice-aggregate-fresh
+    fresh-requires
+    loop-holds
+    same-length
+    returns
+    sub-if2
+    same-length-2
+    returns-2
+    sub-feed
+    part-feed-start
+    part-feed-end
+    sub-feed-2
+    part-feed-start-2
+    part-feed-end-2
+    feed-requires
+    add-i
+    add-at
+    sub-left
+    loop-less
+    loop-again
+    same-length-3
+    returns-3)

@@ -1,0 +1,56 @@
+-- A run of packets, cut one after another from a run of samples.
+use Prim.Native.Nat.{ℕ, zero, suc, _+_, _-_, _/_, min}
+use mathlib.Core.Bool.{true}
+use mathlib.Core.List.{List}
+use lib.Dec.{eqb}
+use lib.IntN.{ℤ}
+use lib.ListN.{length, take, drop}
+use lib.Seq.{sets}
+use Rattle.wire.specs.Choice.{pick}
+use Rattle.framing.specs.Framing.{between}
+use Rattle.station.specs.declared.Station.{Station}
+use Rattle.cutting.specs.Cutting.{cuttingOf}
+use Rattle.runs.specs.Serving.{serial}
+
+-- a fresh box that was started with a mode and a size; with others than the table's it is broken
+abbrev pub started : ℕ → ℕ → Station
+started mode size =
+    record {
+      settings =
+          record {
+            frequency = 10_000_000;
+            count = 0;
+            clock = 80_000_000;
+            divisor = 100;
+            running = true;
+            mode = mode;
+            gain = 0;
+            size = size;
+            serial = serial;
+          };
+      store = between;
+    }
+
+-- how many packets were cut, and the lent bytes with them in
+pub record Ran : Type 0 where
+  pub count : ℕ
+  pub out : List ℕ
+
+abbrev pub ran : ℕ → List ℕ → Ran
+ran count out = record { count = count; out = out }
+
+-- So many samples to a packet of so many bytes, each behind the one before; the first refusal ends it.
+unfoldable pub cutOn : ℕ → ℕ → ℕ → Station → List ℤ → ℕ → ℕ → List ℕ → Ran
+cutOn zero n total s samples count at out = ran count out
+cutOn (suc left) n total s samples count at out =
+    pick (eqb (cuttingOf s (take n samples) (length out - at) .cut .code) 1)
+    (cutOn left n total (cuttingOf s (take n samples) (length out - at) .cut .station) (drop n samples) (count + 1) (at + total)
+    (sets out at (cuttingOf s (take n samples) (length out - at) .bytes)))
+    (ran count out)
+
+-- as many as there are samples and room for
+unfoldable pub cutRun : ℕ → ℕ → ℕ → ℕ → List ℤ → List ℕ → Ran
+cutRun mode size n total samples out =
+    pick (eqb n 0) (ran 0 out)
+    (pick (eqb total 0) (ran 0 out)
+    (cutOn (min (length samples / n) (length out / total)) n total (started mode size) samples 0 0 out))

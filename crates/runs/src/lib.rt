@@ -1,0 +1,134 @@
+// Runs of calls: many packets or messages at once, for a program in another language that has them at once. A run crosses
+// the boundary once, so the state stays where the library keeps it.
+use items::Settings;
+use station::Station;
+ghost use mathlib.Core.Path.{_≡_};
+ghost use Prim.Native.Nat.{min};
+ghost use lib.ListN.{length};
+ghost use lib.Seq.{sets};
+ghost use Rattle.runs.specs.Cutting.{started, cutRun};
+ghost use Rattle.runs.specs.Reading.{readRun};
+ghost use Rattle.runs.specs.Serving.{serveRun};
+
+// Feeds a fresh box with serial MT123456 a host's whole talk, and writes its replies one after another, as long as any reply
+// has room. Answers how many bytes of reply it wrote.
+#[no_mangle]
+pub extern "C" fn skvornela_serve(host: &[u8], replies: &mut [u8]) -> usize
+    ensures { λ r. ⌜ (r ≡ length (serveRun (now (host .entry)) (length (now (replies .entry))))) × (now (replies .exit) ≡ sets (now (replies .entry)) 0 (serveRun (now (host .entry)) (length (now (replies .entry))))) ⌝ }
+{
+    let began = station::fresh(b"MT123456");
+    let mut s = began.station;
+    let mut i: usize = 0;
+    let mut at: usize = 0;
+    let mut left = host.len();
+    while 0 < left {
+        if host.len() <= i {
+            return at;
+        }
+        if replies.len() - at < 64 {
+            return at;
+        }
+        let f = station::feed(s, &host[i..], &mut replies[at..]);
+        let after = f.station;
+        s = after;
+        i += f.consumed;
+        at += f.wrote;
+        left -= 1;
+    }
+    at
+}
+
+// Reads packets of one length one after another by a new reader, to the first that it refuses. Answers the position of the
+// first sample of the last packet heard.
+#[no_mangle]
+pub extern "C" fn skvornela_read_run(packets: &[u8], total: usize) -> u64
+    ensures { λ r. ⌜ r ≡ readRun total (now (packets .entry)) ⌝ }
+{
+    if total == 0 {
+        return 0;
+    }
+    let mut r = reader::silent();
+    let mut sample: u64 = 0;
+    let mut at: usize = 0;
+    let mut left = packets.len() / total;
+    while 0 < left {
+        let end = at + total;
+        let h = reader::read(r, &packets[at..end]);
+        if h.code != 1 {
+            return sample;
+        }
+        sample = h.sample;
+        let after = h.reader;
+        r = after;
+        at = end;
+        left -= 1;
+    }
+    sample
+}
+
+// A fresh box with serial MT123456 that was started with a mode and a size.
+fn started(mode: u8, size: u8) -> Station
+    ensures { λ r. ⌜ r ≡ started mode size ⌝ }
+{
+    let settings = Settings {
+        frequency: 10_000_000,
+        count: 0,
+        clock: 80_000_000,
+        divisor: 100,
+        running: true,
+        mode: mode,
+        gain: 0,
+        size: size,
+        serial: [0x4D, 0x54, 0x31, 0x32, 0x33, 0x34, 0x35, 0x36],
+    };
+    Station {
+        settings: settings,
+        store: framing::between(),
+    }
+}
+
+fn lesser(a: usize, b: usize) -> usize
+    ensures { λ r. ⌜ r ≡ min a b ⌝ }
+{
+    if a < b { a } else { b }
+}
+
+// Cuts packets of n samples and `total` bytes one after another by a box that was just started with a mode and a size, as
+// many as there are samples and room for, to the first that it refuses. Answers how many it cut.
+#[no_mangle]
+pub extern "C" fn skvornela_cut_run(
+    mode: u8,
+    size: u8,
+    n: usize,
+    total: usize,
+    samples: &[i32],
+    out: &mut [u8],
+) -> usize
+    ensures { λ r. ⌜ record { count = r; out = now (out .exit) } ≡ cutRun mode size n total (now (samples .entry)) (now (out .entry)) ⌝ }
+{
+    if n == 0 {
+        return 0;
+    }
+    if total == 0 {
+        return 0;
+    }
+    let mut s = started(mode, size);
+    let mut left = lesser(samples.len() / n, out.len() / total);
+    let mut count: usize = 0;
+    let mut i: usize = 0;
+    let mut at: usize = 0;
+    while 0 < left {
+        let end = i + n;
+        let cut = cutting::cut_packet(s, &samples[i..end], &mut out[at..]);
+        if cut.code != 1 {
+            return count;
+        }
+        let after = cut.station;
+        s = after;
+        count += 1;
+        i = end;
+        at += total;
+        left -= 1;
+    }
+    count
+}
