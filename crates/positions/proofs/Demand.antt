@@ -13,9 +13,9 @@ use Rattle.station.specs.declared.Station.{Station}
 use Rattle.station.specs.Feeding.{feedingOf}
 use Rattle.cutting.specs.Cutting.{Cutting, formNow, cuttingOf}
 use Rattle.reader.specs.declared.Reader.{Reader}
-use Rattle.reader.specs.Reading.{sound, heardAt}
+use Rattle.reader.specs.Reading.{sound, readingOf, heardAt}
 use Rattle.positions.specs.Captures.{Cuts, ends, cuts, feeds, Capture}
-use Rattle.positions.specs.Losses.{Fate, arrives, lost, left, bounded, allowed, positionsFrom, answers}
+use Rattle.positions.specs.Losses.{Fate, arrives, lost, left, bounded, allowed, positionsFrom, answersBy}
 use Rattle.positions.specs.Demand.{ExactPositions, NoTwoAlike}
 use Rattle.positions.proofs.Steps.{position-is-exact}
 use Rattle.positions.proofs.Packets.{packet-whole, packet-number}
@@ -24,7 +24,7 @@ use Rattle.positions.proofs.Boxes.{cut-is, Next, feeding-leaves, feedin
 use Rattle.positions.proofs.Readings.{At, hasHeard, reads-first, reads-next}
 
 -- the packets of a capture of form f from position n on
-abbrev Numbered : Form → ℕ → List (List ℕ) → Type 0
+abbrev pub Numbered : Form → ℕ → List (List ℕ) → Type 0
 Numbered f n [] = Unit {0}
 Numbered f n (p ∷ ps) = At f n p × Numbered f (n + 1) ps
 
@@ -55,7 +55,7 @@ cuts-numbered {s} r (feeds {packets = ps} host room on later) =
 
 -- after position m, with k lost since
 exact-after : (f : Form) (fs : List Fate) (ps : List (List ℕ)) (m k n : ℕ) → n ≡ m + k + 1 → Numbered f n ps → bounded k fs
-    → answers (hasHeard f m) (left fs ps) ≡ map (λ p. heardAt p f) (left fs (positionsFrom n ps))
+    → answersBy readingOf (hasHeard f m) (left fs ps) ≡ map (λ p. heardAt p f) (left fs (positionsFrom n ps))
 exact-after f [] ps m k n e all b = refl
 exact-after f (arrives ∷ fs) [] m k n e all b = refl
 exact-after f (arrives ∷ fs) (p ∷ ps) m k n e all b =
@@ -64,7 +64,7 @@ exact-after f (lost ∷ fs) [] m k n e all b = refl
 exact-after f (lost ∷ fs) (p ∷ ps) m k n e all b = exact-after f fs ps m (k + 1) (n + 1) (omega arith) (all .1) b
 
 exact : (f : Form) (fs : List Fate) (ps : List (List ℕ)) → Numbered f 0 ps → allowed fs → (r : Reader) → sound r ≡ true
-    → answers r (left fs ps) ≡ map (λ p. heardAt p f) (left fs (positionsFrom 0 ps))
+    → answersBy readingOf r (left fs ps) ≡ map (λ p. heardAt p f) (left fs (positionsFrom 0 ps))
 exact f [] ps all b r s = refl
 exact f (arrives ∷ fs) [] all b r s = refl
 exact f (arrives ∷ fs) (p ∷ ps) all b r s =
@@ -79,7 +79,7 @@ pub begins : (s : Station) (host : List ℕ) (room : ℕ) (packets : List (List 
 begins s host room packets idle on calls = record { running = on; fresh = feeding-starts s host room idle on; calls = calls }
 
 -- a capture's packets are numbered from 0 on
-from-start : {s : Station} {packets : List (List ℕ)} → Capture s packets → Numbered (formNow (s .settings)) 0 packets
+pub from-start : {s : Station} {packets : List (List ℕ)} → Capture s packets → Numbered (formNow (s .settings)) 0 packets
 from-start c = rw (c .fresh) at (cuts-numbered (c .running) (c .calls))
 
 pub exact-positions : ExactPositions
@@ -112,7 +112,7 @@ left-rises (lost ∷ fs) [] m k n e b = tt
 left-rises (lost ∷ fs) (p ∷ ps) m k n e b = left-rises fs ps m (k + 1) (n + 1) (omega arith) b
 
 -- the numbers that are left are those of the positions that are left
-left-numbers : (f : Form) (fs : List Fate) (ps : List (List ℕ)) (n : ℕ) → Numbered f n ps → map numberIn (left fs ps) ≡ map numberAt (left fs (positionsFrom n ps))
+pub left-numbers : (f : Form) (fs : List Fate) (ps : List (List ℕ)) (n : ℕ) → Numbered f n ps → map numberIn (left fs ps) ≡ map numberAt (left fs (positionsFrom n ps))
 left-numbers f [] ps n all = refl
 left-numbers f (arrives ∷ fs) [] n all = refl
 left-numbers f (arrives ∷ fs) (p ∷ ps) n all = rw (all .0 .number) (ap (λ l. numberAt n ∷ l) (left-numbers f fs ps (n + 1) (all .1)))

@@ -5,3 +5,4 @@ pub mod Boxes
 pub mod Readings
 pub mod Demand
 pub mod Exist
+pub mod Wrong

@@ -1,3 +1,4 @@
 pub mod Captures
 pub mod Losses
 pub mod Demand
+pub mod Wrong

@@ -3,7 +3,6 @@ use Prim.Native.Nat.{ℕ, _+_, _<_}
 use mathlib.Core.List.{List, [], _∷_}
 use Rattle.reader.specs.declared.Reader.{Reader}
 use Rattle.reader.specs.declared.Heard.{Heard}
-use Rattle.reader.specs.Reading.{readingOf}
 
 -- a packet arrives, or it is lost
 pub data Fate : Type 0 where
@@ -36,7 +35,11 @@ abbrev pub positionsFrom : {A : Type 0} → ℕ → List A → List ℕ
 positionsFrom n [] = []
 positionsFrom n (x ∷ xs) = n ∷ positionsFrom (n + 1) xs
 
--- what the harvester answers to packet after packet
-abbrev pub answers : Reader → List (List ℕ) → List Heard
-answers r [] = []
-answers r (p ∷ ps) = readingOf r p ∷ answers (readingOf r p .reader) ps
+-- What one packet makes a reader answer, whichever way it reads: the harvester's own is `readingOf`.
+abbrev pub Reading : Type 0
+Reading = Reader → List ℕ → Heard
+
+-- what it answers to packet after packet
+abbrev pub answersBy : Reading → Reader → List (List ℕ) → List Heard
+answersBy read r [] = []
+answersBy read r (p ∷ ps) = read r p ∷ answersBy read (read r p .reader) ps
