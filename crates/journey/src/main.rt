@@ -1,0 +1,23 @@
+// A night at the station: the harvester asks, the box answers and cuts packets, some of them are lost, and the harvester
+// tells from those that it heard where it stands. Both sides are the proved library; what is printed is compared.
+mod asking; // asking.rt: wishes are sent to the box, and its replies read
+mod capturing; // capturing.rt: captures are cut, heard with gaps, and measured
+mod saying; // saying.rt: words and numbers on standard output
+
+use station::Station;
+
+// The four packet forms, six packets each.
+fn four_forms(s: Station) -> Station {
+    let first = capturing::capture(s, 0x80, 0, 6);
+    let second = capturing::capture(first, 0x80, 1, 6);
+    let third = capturing::capture(second, 0x00, 0, 6);
+    capturing::capture(third, 0x00, 1, 6)
+}
+
+fn main() {
+    let began = station::fresh(b"MT123456");
+    let tuned = asking::evening(began.station);
+    let heard = four_forms(tuned);
+    // "The packet at position 0 has number 0; at position p of 1 or more, ((p - 1) mod 65,535) + 1": past the number's turn.
+    capturing::capture(heard, 0x80, 1, 65540);
+}
