@@ -112,9 +112,5 @@ pub fn is_size(byte: u8) -> bool
 pub fn is_serial_byte(byte: u8) -> bool
     ensures { λ r. ⌜ r ≡ isSerialByte byte ⌝ }
 {
-    match byte {
-        b'A'..=b'Z' => true,
-        b'0'..=b'9' => true,
-        _ => false,
-    }
+    ((b'A' <= byte) & (byte <= b'Z')) | ((b'0' <= byte) & (byte <= b'9'))
 }
