@@ -64,7 +64,7 @@ fn store_in(b: &[u8]) -> Store
 }
 
 // The box in 108 bytes.
-pub fn station_in(b: &[u8]) -> Station
+pub(crate) fn station_in(b: &[u8]) -> Station
     requires { ⌜ length (now b) ≡ 108 ⌝ }
     ensures { λ r. ⌜ r ≡ stationIn (now (b .entry)) ⌝ }
 {
@@ -114,7 +114,7 @@ fn put_store(b: &mut [u8], t: Store)
 }
 
 // Stores a box in 108 bytes.
-pub fn put_station(b: &mut [u8], s: Station)
+pub(crate) fn put_station(b: &mut [u8], s: Station)
     requires { ⌜ length (now b) ≡ 108 ⌝ }
     ensures { λ _. ⌜ now (b .exit) ≡ stationBytes s ⌝ }
 {
@@ -125,7 +125,7 @@ pub fn put_station(b: &mut [u8], s: Station)
 }
 
 // The reader in 25 bytes.
-pub fn reader_in(b: &[u8]) -> Reader
+pub(crate) fn reader_in(b: &[u8]) -> Reader
     requires { ⌜ length (now b) ≡ 25 ⌝ }
     ensures { λ r. ⌜ r ≡ readerIn (now (b .entry)) ⌝ }
 {
@@ -140,7 +140,7 @@ pub fn reader_in(b: &[u8]) -> Reader
 }
 
 // Stores a reader in 25 bytes.
-pub fn put_reader(b: &mut [u8], r: Reader)
+pub(crate) fn put_reader(b: &mut [u8], r: Reader)
     requires { ⌜ length (now b) ≡ 25 ⌝ }
     ensures { λ _. ⌜ now (b .exit) ≡ readerBytes r ⌝ }
 {
