@@ -1,15 +1,13 @@
 -- What packing and the two leading fields leave in the lent packet.
 -- Assumes nothing.
 use Prim.Native.Nat.{ℕ, _*_, _≤_}
-use mathlib.Core.Path.{_≡_, refl, sym, ap, _∙_}
-use mathlib.Core.Bool.{Bool, true, false, _&&_}
+use mathlib.Core.Path.{_≡_, refl, ap, _∙_}
+use mathlib.Core.Bool.{true, false}
 use mathlib.Core.List.{List, [], _++_}
 use borrow.Author.Tests.{eq-eqb, le-leb}
-use lib.Dec.{eqb, leb}
 use lib.IntN.{ℤ}
 use lib.ListN.{length}
 use lib.Seq.{sets}
-use Rattle.wire.specs.Choice.{pick}
 use Rattle.wire.specs.Number.{bytes}
 use Rattle.wire.specs.Header.{headerOf, typeData}
 use Rattle.packets.specs.declared.Form.{Form}

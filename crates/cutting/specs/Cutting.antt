@@ -1,6 +1,6 @@
 -- Cutting: a running box makes the next packet of its capture from whole-number samples, I and Q in turn.
 use Prim.Native.Nat.{ℕ, _+_, _*_}
-use mathlib.Core.Bool.{Bool, not}
+use mathlib.Core.Bool.{not}
 use mathlib.Core.List.{List, [], _∷_, _++_}
 use lib.Dec.{eqb, leb, ltb}
 use lib.IntN.{ℤ}

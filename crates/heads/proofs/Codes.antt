@@ -1,15 +1,15 @@
 -- The codes of writing and reading a head, from what its tests came to.
 use Prim.Native.Nat.{ℕ}
-use mathlib.Core.Path.{_≡_, ap, _∙_}
-use mathlib.Core.Bool.{Bool, true, false, not}
+use mathlib.Core.Path.{_≡_, ap}
+use mathlib.Core.Bool.{Bool, not}
 use mathlib.Core.List.{List, [], _∷_}
 use lib.Dec.{eqb, ltb}
 use lib.ListN.{length}
 use lib.Seq.{sets}
-use Rattle.wire.specs.Choice.{pick, Check, check, firstOf}
+use Rattle.wire.specs.Choice.{pick, check, firstOf}
 use Rattle.wire.specs.Number.{number, bytes, field}
 use Rattle.heads.specs.declared.Head.{Head}
-use Rattle.heads.specs.Head.{mark, version, headLength, allowed, headBytes, headIn, writeCode, readCode, Reading, readingOf}
+use Rattle.heads.specs.Head.{mark, version, headLength, allowed, headBytes, headIn, writeCode, readCode, readingOf}
 
 pub write-by : (h : Head) (room : ℕ) {ok short : Bool} → allowed h ≡ ok → ltb room headLength ≡ short
     → writeCode h room ≡ firstOf (check 16 (not ok) ∷ check 20 short ∷ []) 1

@@ -1,25 +1,25 @@
 -- Writing and reading a head undo each other: each allowed head comes back, and 14 bytes that are read as a head are the
 -- bytes of that head.
-use Prim.Native.Nat.{ℕ, zero, suc, _+_, _*_, _/_, _%_, _≤_, _<_}
+use Prim.Native.Nat.{ℕ, zero, suc, _+_, _≤_, _<_}
 use mathlib.Core.Path.{_≡_, refl, sym, ap, _∙_}
-use mathlib.Core.Bool.{Bool, true, false, _&&_, _||_, not}
+use mathlib.Core.Bool.{Bool, true, false, _&&_, _||_}
 use mathlib.Core.List.{List, [], _∷_, _++_}
 use native.Mathlib.Decide.{decLt}
 use native.Mathlib.Omega.{arith}
 use lib.Dec.{eqb, ltb}
-use lib.ListN.{length, getD, take, drop, length-append, length-drop}
+use lib.ListN.{length, getD, take, drop, length-drop}
 use lib.Seq.{take-add, drop-drop, length-take-le, getD-drop}
-use borrow.Author.Tests.{le-ltb, ltb-false, eqb-true, eq-eqb, ne-eqb, not-false}
-use Rattle.wire.specs.Choice.{pick, Check, check, firstOf, within}
+use borrow.Author.Tests.{le-ltb, ltb-false, eqb-true, eq-eqb, ne-eqb}
+use Rattle.wire.specs.Choice.{within}
 use Rattle.wire.specs.Number.{number, bytes, field}
-use Rattle.wire.proofs.Laws.{and-left, and-right, true-not-false, within-high, or-not-left}
+use Rattle.wire.proofs.Laws.{and-left, and-right, true-not-false, within-high}
 use Rattle.wire.proofs.Numbers.{bytes-number}
 use Rattle.rates.specs.Rate.{isD}
 use Rattle.tuning.specs.Bands.{inBands}
 use Rattle.packets.specs.Forms.{formFor, listed}
 use Rattle.heads.specs.declared.Head.{Head}
 use Rattle.heads.proofs.Codes.{code-by, reading-by}
-use Rattle.heads.specs.Head.{mark, version, headLength, formIn, allowed, headBytes, headIn, readChecks, readCode, Reading, readingOf}
+use Rattle.heads.specs.Head.{mark, version, headLength, formIn, allowed, headBytes, headIn, readCode, readingOf}
 
 -- ---- what an allowed head has
 

@@ -4,18 +4,17 @@ use Prim.Native.Nat.{ℕ, _*_, _<_}
 use mathlib.Core.Path.{_≡_, refl, sym, _∙_}
 use mathlib.Core.Bool.{Bool, true, false, _&&_, not}
 use mathlib.Core.List.{List, [], _∷_}
-use native.Mathlib.Omega.{arith}
-use borrow.Author.Tests.{eq-eqb, eqb-true, eqb-false, leb-true, leb-false, not-false}
-use lib.Dec.{eqb, leb, ltb}
+use borrow.Author.Tests.{eq-eqb, eqb-true, eqb-false, leb-false, not-false}
+use lib.Dec.{eqb, ltb}
 use lib.IntN.{ℤ}
 use lib.ListN.{length}
 use Rattle.wire.specs.Choice.{pick}
 use Rattle.wire.specs.Header.{typeSet}
-use Rattle.wire.proofs.Laws.{and-both, and-left, and-right, and-rest, pick-keeps}
+use Rattle.wire.proofs.Laws.{and-both, and-rest, pick-keeps}
 use Rattle.packets.specs.declared.Form.{Form}
 use Rattle.packets.specs.Numbers.{most}
 use Rattle.packets.specs.Samples.{allSamples}
-use Rattle.framing.specs.Framing.{couldBeLeft, taken, finished}
+use Rattle.framing.specs.Framing.{taken, finished}
 use Rattle.items.specs.declared.Settings.{Settings}
 use Rattle.items.specs.Items.{Item, items, noItem, rowIn, rowOf, state, stateAfter, runByte, idle}
 use Rattle.items.specs.Answer.{Message, replyOf, codeOf, checks, refusedRunning, settingsAfter, row, parameters, itemIn}

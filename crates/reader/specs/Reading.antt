@@ -4,7 +4,7 @@ use mathlib.Core.Bool.{Bool, true, false, _&&_, not}
 use mathlib.Core.List.{List, [], _∷_}
 use lib.Dec.{eqb, leb, ltb}
 use lib.IntN.{ℤ}
-use lib.ListN.{length, drop}
+use lib.ListN.{drop}
 use Rattle.wire.specs.Choice.{pick, Check, check, firstOf}
 use Rattle.packets.specs.declared.Form.{Form}
 use Rattle.packets.specs.Forms.{noForm, sameForm, listed, wholeOf, isPacket}

@@ -6,11 +6,16 @@ use mathlib.Core.List.{[], _∷_}
 use native.Mathlib.Nat.{div-lt-iff-lt-mul, div-mul-le-self, lt-mul-div-succ, mul-comm, mul-assoc, mul-add, mul-suc, mul-le-mul-left}
 use native.Mathlib.Omega.{arith}
 use native.Mathlib.Decide.{decLt}
+use lib.Dec.{eqb}
+use lib.ListN.{getD}
 use Rattle.wire.specs.Choice.{pick, check, firstOf, within}
-use Rattle.wire.proofs.Laws.{and-not-right, pick-false, within-low}
+use Rattle.wire.proofs.Laws.{and-not-right, true-not-false, within-low}
 use Rattle.tuning.specs.Bands.{inBands}
-use Rattle.tuning.specs.Word.{offsetOf, wordOf, isClock, codeIn, telling, wordCode, wordAnswer}
+use Rattle.tuning.specs.Told.{Told, tells}
+use Rattle.tuning.specs.Word.{offsetOf, wordOf, isClock, told, wordTold}
+use Rattle.tuning.specs.declared.word.Word.{Word}
 use Rattle.tuning.specs.declared.word.Word.the-variants.{Is, NotAllowed}
+use Rattle.tuning.proofs.Firm.{one-by}
 
 abbrev pub inFirst : ℕ → Bool
 inFirst hz = within 100000 34000000 hz
@@ -29,41 +34,48 @@ word-fits n clock small fast =
     let below : 2 * (n * 2 ^ 32) + clock < 4294967296 * (2 * clock) = omega arith in
     div-lt-iff-lt-mul some .1 below
 
--- ---- the answer, case by case
+-- ---- what is answered, case by case
 
--- a word where both tests hold
-told : (band clock : Bool) (w : ℕ) → telling (firstOf (check 16 (not band) ∷ check 16 (not clock) ∷ []) 1) w ≡ pick (band && clock) (Is w) NotAllowed
-told true true w = refl
-told true false w = refl
-told false clock w = refl
-
-pub answer-is : (hz clock : ℕ) → wordAnswer hz clock ≡ pick (inBands hz && isClock clock) (Is (wordOf hz clock)) NotAllowed
-answer-is hz clock = told (inBands hz) (isClock clock) (wordOf hz clock)
-
--- what the answer tells is the table's code
-told-code : (band clock : Bool) (w : ℕ)
-    → (let code = firstOf (check 16 (not band) ∷ check 16 (not clock) ∷ []) 1 in codeIn (telling code w) ≡ code)
-told-code true true w = refl
-told-code true false w = refl
-told-code false clock w = refl
-
-pub answer-code : (hz clock : ℕ) → codeIn (wordAnswer hz clock) ≡ wordCode hz clock
-answer-code hz clock = told-code (inBands hz) (isClock clock) (wordOf hz clock)
+-- no frequency of a band, or no clock: 16
+told-refused : (band clock : Bool) (w : ℕ) → band && clock ≡ false
+    → told NotAllowed ≡ tells (firstOf (check 16 (not band) ∷ check 16 (not clock) ∷ []) 1) (w ∷ [])
+told-refused true true w e = absurd (true-not-false e)
+told-refused true false w e = refl
+told-refused false clock w e = refl
 
 module _ (hz clock : ℕ) where
-  pub no-clock : isClock clock ≡ false → wordAnswer hz clock ≡ NotAllowed
-  no-clock c = answer-is hz clock ∙ pick-false _ _ _ (and-not-right (inBands hz) (isClock clock) c)
+  pub no-clock : isClock clock ≡ false → told NotAllowed ≡ wordTold hz clock
+  no-clock c = told-refused (inBands hz) (isClock clock) (wordOf hz clock) (and-not-right (inBands hz) (isClock clock) c)
 
-  pub no-band : inFirst hz ≡ false → inSecond hz ≡ false → wordAnswer hz clock ≡ NotAllowed
+  pub no-band : inFirst hz ≡ false → inSecond hz ≡ false → told NotAllowed ≡ wordTold hz clock
   no-band one two = rw (one, two)
 
-  pub word-first : inFirst hz ≡ true → isClock clock ≡ true → wordAnswer hz clock ≡ Is (quotient hz clock)
+  -- a frequency of a band and a clock that may be set have a word
+  pub word-is : inBands hz ≡ true → isClock clock ≡ true → wordTold hz clock ≡ told (Is (wordOf hz clock))
+  word-is b c = rw (b, c)
+
+  pub word-first : inFirst hz ≡ true → isClock clock ≡ true → told (Is (quotient hz clock)) ≡ wordTold hz clock
   unfolding wordOf
   word-first one c = rw (one, c)
 
-  pub word-second : inFirst hz ≡ false → inSecond hz ≡ true → isClock clock ≡ true → wordAnswer hz clock ≡ Is (quotient (160000000 - hz) clock)
+  pub word-second : inFirst hz ≡ false → inSecond hz ≡ true → isClock clock ≡ true → told (Is (quotient (160000000 - hz) clock)) ≡ wordTold hz clock
   unfolding wordOf
   word-second one two c = rw (one, two, c)
+
+-- ---- the answer says all
+
+-- the case that tells so
+back : Told → Word
+back t = pick (eqb (t .code) 1) (Is (getD (t .values) 0 0)) NotAllowed
+
+back-told : (w : Word) → back (told w) ≡ w
+unfolding back
+back-told (Is w) = refl
+back-told NotAllowed = refl
+
+-- two answers that tell the same are the same
+pub told-one : (v w : Word) → told v ≡ told w → v ≡ w
+told-one = one-by told back back-told
 
 -- ---- the nearest whole number, halves up
 

@@ -1,2 +1,3 @@
 pub mod Bands
+pub mod Told
 pub mod Word

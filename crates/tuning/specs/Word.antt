@@ -6,6 +6,7 @@ use mathlib.Core.List.{List, [], _∷_}
 use lib.Dec.{eqb}
 use Rattle.wire.specs.Choice.{pick, check, firstOf, within}
 use Rattle.tuning.specs.Bands.{Band, bands, inBands}
+use Rattle.tuning.specs.Told.{Told, tells}
 use Rattle.tuning.specs.declared.word.Word.{Word}
 use Rattle.tuning.specs.declared.word.Word.the-variants.{Is, NotAllowed}
 
@@ -29,23 +30,15 @@ wordOf hz clock = (2 * (offsetOf hz * 2 ^ 32) + clock) / (2 * clock)
 abbrev pub isClock : ℕ → Bool
 isClock hz = within 79_992_000 80_008_000 hz
 
--- What an answer tells, in the numbers of "What comes back": 1 and the word, or 16 and no value.
-abbrev pub codeIn : Word → ℕ
-codeIn (Is w) = 1
-codeIn NotAllowed = 16
-
-abbrev pub valuesIn : Word → List ℕ
-valuesIn (Is w) = w ∷ []
-valuesIn NotAllowed = []
-
--- the answer that tells a code, and the word where the code is 1
-abbrev pub telling : ℕ → ℕ → Word
-telling code w = pick (eqb code 1) (Is w) NotAllowed
+-- the number and the value of each case: 1 and the word, or 16
+abbrev pub told : Word → Told
+told (Is w) = record { code = 1; values = w ∷ [] }
+told NotAllowed = record { code = 16; values = [] }
 
 -- "value not allowed": the frequency lies in no band, or the clock is none that may be set
 abbrev pub wordCode : ℕ → ℕ → ℕ
 wordCode hz clock = firstOf (check 16 (not (inBands hz)) ∷ check 16 (not (isClock clock)) ∷ []) 1
 
--- the answer to a frequency and a clock
-abbrev pub wordAnswer : ℕ → ℕ → Word
-wordAnswer hz clock = telling (wordCode hz clock) (wordOf hz clock)
+-- what asking for the word of a frequency at a clock tells
+abbrev pub wordTold : ℕ → ℕ → Told
+wordTold hz clock = tells (wordCode hz clock) (wordOf hz clock ∷ [])

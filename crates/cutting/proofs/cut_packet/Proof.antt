@@ -3,7 +3,7 @@
 use Rattle.cutting.specs.Cutting.{packetOf}
 use lib.Seq.{sets}
 use Rattle.packets.specs.Samples.{allSamples}
-use Prim.Native.Nat.{ℕ, _*_, _<_, _≤_}
+use Prim.Native.Nat.{_*_, _≤_}
 use native.Mathlib.Omega.{arith}
 use mathlib.Core.Path.{_≡_, refl, sym, ap, _∙_}
 use mathlib.Core.Bool.{true, false}
@@ -14,8 +14,8 @@ use Rattle.packets.specs.declared.Form.{Form}
 use Rattle.packets.specs.Forms.{listed, totalOf}
 use Rattle.packets.proofs.Forms.{is-listed-form}
 use Rattle.station.specs.Station.{valid}
-use Rattle.cutting.specs.Cutting.{formNow, cuttingOf}
-use Rattle.cutting.proofs.Codes.{refuses-short, code-21, code-22, code-25, code-23, code-24, code-20, code-1, refuses, cuts}
+use Rattle.cutting.specs.Cutting.{formNow}
+use Rattle.cutting.proofs.Codes.{refuses-short, code-21, code-22, code-25, code-23, code-24, code-1, refuses, cuts}
 use Rattle.cutting.proofs.Formed.{valid-form}
 use Rattle.cutting.proofs.Packing.{may-pack, packed-none, packet-stored}
 use borrow.Author.Needs.{needs}

@@ -1,13 +1,10 @@
 -- Each field is below its power of 256, so the casts lose nothing.
 use Prim.Native.Nat.{ℕ, _<_, _^_}
-use mathlib.Core.Path.{_≡_, _∙_, ap}
 use native.Mathlib.Omega.{arith}
 use borrow.Author.Needs.{needs}
 use denote.Ref.{now}
-use lib.ListN.{getD}
 use Rattle.wire.specs.Number.{field}
 use Rattle.wire.proofs.Numbers.{field-below}
-use Rattle.heads.specs.Head.{headIn}
 use Rattle.heads.proofs.head_in.Statement.{statement}
 use Rattle.heads.proofs.head_in.Tie as tie
 

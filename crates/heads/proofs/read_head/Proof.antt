@@ -1,5 +1,4 @@
 -- Each return has the code of the tests that led there.
-use Prim.Native.Nat.{ℕ, _≤_}
 use mathlib.Core.Path.{_≡_, refl, sym, ap, _∙_}
 use mathlib.Core.Bool.{true, false}
 use mathlib.Core.List.{[], _∷_}
@@ -10,7 +9,7 @@ use borrow.Author.Tests.{lt-ltb, le-ltb, eq-eqb, ne-eqb}
 use denote.Ref.{now}
 use Rattle.wire.specs.Number.{number, field}
 use Rattle.heads.specs.declared.Head.{Head}
-use Rattle.heads.specs.Head.{mark, version, headLength, allowed, headIn, Reading}
+use Rattle.heads.specs.Head.{mark, version, headLength, allowed}
 use Rattle.heads.proofs.Codes.{code-by, reading-by}
 use Rattle.heads.proofs.read_head.Statement.{statement}
 use Rattle.heads.proofs.read_head.Tie as tie

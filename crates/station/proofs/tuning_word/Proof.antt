@@ -1,12 +1,17 @@
 -- `station::tuning_word` meets its contract: a valid box has a frequency in a band and an allowed clock, so it has a word.
 -- Assumes nothing.
-use Rattle.station.proofs.Words.{word-told, never-without}
-use mathlib.Core.Path.{sym, _∙_}
-use Rattle.station.specs.Station.{tuningOf}
+use mathlib.Core.Path.{_≡_, sym, ap, _∙_}
+use mathlib.Core.Bool.{true}
 use borrow.Author.Tests.{not-true, not-false}
 use borrow.Author.Needs.{needs}
+use Rattle.tuning.specs.Word as tuning
+use Rattle.station.specs.Station.{valid, tuningOf}
+use Rattle.station.proofs.Words.{word-told, never-without}
 use Rattle.station.proofs.tuning_word.Statement.{statement}
 use Rattle.station.proofs.tuning_word.Tie as tie
+
+whole : (c : tie.Else1) → valid (c .before .before .args .s) ≡ true
+whole c = sym (c .before .is-valid .ensures) ∙ not-false _ (c .if1 .left)
 
 is-valid-requires : tie.Need-is-valid-requires
 is-valid-requires c κs = search needs
@@ -25,10 +30,14 @@ enum-told : tie.Need-enum-told
 enum-told c = search needs
 
 returns-2 : tie.Need-returns-2
-returns-2 c = word-told (c .before .before .before .before .before .before .before .args .s) (sym (c .before .before .before .before .before .before .is-valid .ensures) ∙ not-false _ (c .before .before .before .before .before .if1 .left)) (c .before .w .given .0 .0) (sym (c .before .before .before .word-of .ensures) ∙ c .before .w .given .1)
+returns-2 c =
+    let asked = c .before .before .before in
+    word-told _ (whole (asked .before .before)) (c .before .w .given .0 .0) (ap tuning.told (sym (c .before .w .given .1)) ∙ asked .word-of .ensures)
 
 returns-3 : tie.Need-returns-3
-returns-3 c = never-without (c .before .before .before .before .before .before .args .s) (sym (c .before .before .before .before .before .is-valid .ensures) ∙ not-false _ (c .before .before .before .before .if1 .left)) (sym (c .before .before .word-of .ensures) ∙ c .enum-told .given .1)
+returns-3 c =
+    let asked = c .before .before in
+    never-without _ (whole (asked .before .before)) (ap tuning.told (sym (c .enum-told .given .1)) ∙ asked .word-of .ensures)
 
 pub tuning-word-spec : {M : Type 1} → statement M
 tuning-word-spec =

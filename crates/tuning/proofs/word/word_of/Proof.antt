@@ -1,11 +1,12 @@
 -- Each return is the case of the definition that the tests on the way to it decide.
+use Prim.Native.Nat.{ℕ}
 use mathlib.Core.Path.{_≡_, sym, ap, _∙_}
 use mathlib.Core.Bool.{true, false}
 use native.Mathlib.Omega.{arith}
 use borrow.Author.Needs.{needs}
 use borrow.Author.Tests.{not-true, not-false}
 use Rattle.wire.proofs.Laws.{within-low, within-high}
-use Rattle.tuning.specs.Word.{isClock}
+use Rattle.tuning.specs.Word.{isClock, told}
 use Rattle.tuning.specs.declared.word.Word.the-variants.{Is}
 use Rattle.tuning.proofs.Words.{inFirst, inSecond, no-clock, no-band, word-first, word-second}
 use Rattle.tuning.proofs.word.word_of.Statement.{statement}
@@ -36,7 +37,7 @@ is-clock-requires c κs = search needs
 returns : tie.Need-returns
 returns c =
     let a = c .before .before .args in
-    sym (no-clock (a .hz) (a .clock) (refused c))
+    no-clock (a .hz) (a .clock) (refused c)
 
 in-first-requires : tie.Need-in-first-requires
 in-first-requires c κs = search needs
@@ -45,7 +46,7 @@ nearest-requires : tie.Need-nearest-requires
 nearest-requires c κs = (within-high _ _ _ (first c), within-low _ _ _ (clocked (c .before .before)))
 
 returns-2 : tie.Need-returns-2
-returns-2 c = ap Is (c .nearest .ensures) ∙ sym (word-first _ _ (first (c .before)) (clocked (c .before .before .before)))
+returns-2 c = ap (λ (w : ℕ). told (Is w)) (c .nearest .ensures) ∙ word-first _ _ (first (c .before)) (clocked (c .before .before .before))
 
 in-second-requires : tie.Need-in-second-requires
 in-second-requires c κs = search needs
@@ -62,13 +63,13 @@ nearest-requires-2 c κs = (
 
 returns-3 : tie.Need-returns-3
 returns-3 c =
-    ap Is (c .nearest2 .ensures)
-    ∙ sym (word-second _ _ (not-first (c .before .before .before)) (second (c .before)) (clocked (c .before .before .before .before .before)))
+    ap (λ (w : ℕ). told (Is w)) (c .nearest2 .ensures)
+    ∙ word-second _ _ (not-first (c .before .before .before)) (second (c .before)) (clocked (c .before .before .before .before .before))
 
 returns-4 : tie.Need-returns-4
 returns-4 c =
     let a = c .before .before .before .before .before .before .args in
-    sym (no-band (a .hz) (a .clock) (not-first (c .before .before)) (not-second c))
+    no-band (a .hz) (a .clock) (not-first (c .before .before)) (not-second c)
 
 pub word-of-spec : {M : Type 1} → statement M
 word-of-spec =

@@ -1,0 +1,45 @@
+-- What writing and reading a head answer says all: two answers that tell the same are the same.
+use Prim.Native.Nat.{ℕ}
+use mathlib.Core.Path.{_≡_, refl}
+use mathlib.Core.List.{List, [], _∷_}
+use lib.Dec.{eqb}
+use Rattle.wire.specs.Choice.{pick}
+use Rattle.tuning.proofs.Firm.{one-by}
+use Rattle.heads.specs.declared.Head.{Head}
+use Rattle.heads.specs.declared.Written.{Written}
+use Rattle.heads.specs.declared.Written.the-variants.{Whole, NotAllowed, NoRoom}
+use Rattle.heads.specs.declared.Opened.{Opened}
+use Rattle.heads.specs.declared.Opened.the-variants.{Head as Found, NotAHead, OtherVersion}
+use Rattle.heads.specs.Head.{writtenCode, Reading, openedSays}
+
+-- ---- writing: the number decides the case
+
+wrote : ℕ → Written
+wrote code = pick (eqb code 1) Whole (pick (eqb code 16) NotAllowed NoRoom)
+
+wrote-back : (w : Written) → wrote (writtenCode w) ≡ w
+unfolding wrote
+wrote-back Whole = refl
+wrote-back NotAllowed = refl
+wrote-back NoRoom = refl
+
+pub written-one : (v w : Written) → writtenCode v ≡ writtenCode w → v ≡ w
+written-one = one-by writtenCode wrote wrote-back
+
+-- ---- reading: the number and the head decide the case
+
+found : ℕ → List Head → Opened
+found code [] = pick (eqb code 40) NotAHead OtherVersion
+found code (h ∷ hs) = Found h
+
+opened : Reading → Opened
+opened r = found (r .code) (r .heads)
+
+opened-back : (o : Opened) → opened (openedSays o) ≡ o
+unfolding opened found
+opened-back (Found h) = refl
+opened-back NotAHead = refl
+opened-back OtherVersion = refl
+
+pub opened-one : (o p : Opened) → openedSays o ≡ openedSays p → o ≡ p
+opened-one = one-by openedSays opened opened-back
