@@ -1,15 +1,14 @@
 -- Demand 2: what the harvester asks is what the box understands, and what the box says is what the harvester reads.
 -- Assumes nothing.
-use Prim.Native.Nat.{ℕ, _+_, _-_, _≤_, _<_, max}
+use Prim.Native.Nat.{ℕ, _+_, _-_, _≤_}
 use native.Mathlib.Nat.{le-trans}
 use native.Mathlib.Omega.{arith}
 use borrow.Author.Tests.{lt-leb}
-use mathlib.Core.Path.{_≡_, refl, sym, ap, _∙_}
-use mathlib.Core.Bool.{Bool, true, false, _&&_}
-use mathlib.Core.List.{List, [], _∷_, _++_, append-nil}
-use lib.Dec.{leb, eqb, lit≤}
+use mathlib.Core.Path.{_≡_, sym, ap, _∙_}
+use mathlib.Core.Bool.{false}
+use mathlib.Core.List.{List, [], _++_, append-nil}
+use lib.Dec.{leb, lit≤}
 use lib.ListN.{length, replicate}
-use Rattle.wire.specs.Choice.{pick}
 use Rattle.wire.specs.Number.{bytes, field}
 use Rattle.wire.specs.Header.{headerOf, typeIn, lengthIn, typeData}
 use Rattle.wire.proofs.Headers.{length-header, type-header, header-below}
@@ -17,95 +16,68 @@ use Rattle.framing.specs.declared.Taking.{Taking}
 use Rattle.framing.specs.Framing.{taken, finished, between, announced, headerIn, totalOf}
 use Rattle.framing.proofs.Cutting.{told}
 use Rattle.framing.proofs.Leaving.{between-left}
-use Rattle.items.specs.declared.Settings.{Settings}
-use Rattle.items.specs.Settings.{inRange}
-use Rattle.items.specs.Answer.{Message, framed, codeOf, settingsAfter, replyOf}
+use Rattle.layouts.specs.declared.Layout.{Layout}
+use Rattle.layouts.specs.Layouts.{sizeOf, laid}
+use Rattle.layouts.proofs.Sizes.{least, length-laid}
+use Rattle.items.specs.Answer.{Message, codeOf, settingsAfter, replyOf}
 use Rattle.station.specs.Feeding.{Feeding, feedingOf, messageIn, answered}
 use Rattle.station.proofs.Short.{reply-short}
 use Rattle.station.proofs.Valid.{valid-both, feeding-answered}
 use Rattle.wishes.specs.declared.Wish.{Wish}
-use Rattle.wishes.specs.declared.Wish.the-variants.{AskName, AskSerial, AskInterface, AskVersion, AskStatus, SetState, AskState, SetFrequency, AskFrequency, AskFrequencyRange, SetGain, AskGain, SetClock, AskClock, SetRate, AskRate, SetPacketSize, AskPacketSize}
-use Rattle.wishes.specs.Wishes.{asking, layoutOf, parametersOf, laid, messageOf, allowed, granted, notNow, asMessage}
-use Rattle.wishes.proofs.Laying.{length-laid, short-layout}
+use Rattle.wishes.specs.Wishes.{asking, layoutOf, messageOf, asMessage}
+use Rattle.wishes.proofs.Rows.{of-row, short-message}
 use Rattle.wishes.proofs.Understood.{code-of-wish, settings-of-wish}
-use Rattle.replies.specs.Reading.{replyRead}
-use Rattle.replies.specs.Saying.{saidBy}
+use Rattle.replies.specs.Reading.{toldOf}
 use Rattle.replies.proofs.Exactly.{box-reply-is-read}
 use Rattle.demands.specs.Shown.{resting}
-use Rattle.demands.specs.Asked.{Understands, WhatIsAskedIsUnderstood}
+use Rattle.demands.specs.Asked.{WhatIsAskedIsUnderstood}
 use Rattle.demands.proofs.OneMessage.{holding, tookAll, one-message}
 
--- ---- a message with its true length in its header
-
--- the header of a framed message
-framed-header : (kind : ℕ) (body rest : List ℕ) → field 0 2 (framed kind body ++ rest) ≡ headerOf kind (2 + length body)
-framed-header kind body rest = omega (arith, header-below kind (2 + length body))
-
-framed-long : (kind : ℕ) (body : List ℕ) → length (framed kind body) ≡ 2 + length body
-framed-long kind body = omega arith
+-- ---- a message has its true length in its header
 
 total-is : (kind size : ℕ) → kind ≤ 2 → 2 ≤ size → totalOf kind size ≡ size
 total-is kind size k n =
     let control : leb typeData kind ≡ false = lt-leb typeData kind (omega arith) in
     rw control (omega arith)
 
-module _ (kind : ℕ) (body rest : List ℕ) (low : kind ≤ 2) (few : 2 + length body ≤ 64) where
-  pub framed-type : typeIn (headerIn (framed kind body ++ rest)) ≡ kind
-  framed-type = ap typeIn (framed-header kind body rest) ∙ type-header kind (2 + length body) (omega arith)
+module _ (a : Layout) (rest : List ℕ) (low : a .kind ≤ 2) (few : sizeOf a ≤ 64) where
+  header-laid : field 0 2 (laid a ++ rest) ≡ headerOf (a .kind) (sizeOf a)
+  header-laid = omega (arith, header-below (a .kind) (sizeOf a))
 
-  pub framed-size : lengthIn (headerIn (framed kind body ++ rest)) ≡ 2 + length body
-  framed-size = ap lengthIn (framed-header kind body rest) ∙ length-header kind (2 + length body) (omega arith)
+  type-laid : typeIn (headerIn (laid a ++ rest)) ≡ a .kind
+  type-laid = ap typeIn header-laid ∙ type-header (a .kind) (sizeOf a) (omega arith)
 
-  pub framed-announced : announced (framed kind body ++ rest) ≡ 2 + length body
-  framed-announced = rw (framed-type, framed-size) (total-is kind (2 + length body) low (omega arith))
+  size-laid : lengthIn (headerIn (laid a ++ rest)) ≡ sizeOf a
+  size-laid = ap lengthIn header-laid ∙ length-header (a .kind) (sizeOf a) (omega arith)
+
+  announced-laid : announced (laid a ++ rest) ≡ sizeOf a
+  announced-laid = rw (type-laid, size-laid) (total-is (a .kind) (sizeOf a) low (omega (arith, least a)))
 
 -- ---- a wish's message
 
 kind-low : (w : Wish) → asking w .kind ≤ 2
-kind-low AskName = lit≤ tt
-kind-low AskSerial = lit≤ tt
-kind-low AskInterface = lit≤ tt
-kind-low (AskVersion id) = lit≤ tt
-kind-low AskStatus = lit≤ tt
-kind-low (SetState f) = lit≤ tt
-kind-low AskState = lit≤ tt
-kind-low (SetFrequency hz) = lit≤ tt
-kind-low AskFrequency = lit≤ tt
-kind-low AskFrequencyRange = lit≤ tt
-kind-low (SetGain g) = lit≤ tt
-kind-low AskGain = lit≤ tt
-kind-low (SetClock hz) = lit≤ tt
-kind-low AskClock = lit≤ tt
-kind-low (SetRate hz) = lit≤ tt
-kind-low AskRate = lit≤ tt
-kind-low (SetPacketSize n) = lit≤ tt
-kind-low AskPacketSize = lit≤ tt
+kind-low = of-row (λ i k. k ≤ 2) (lit≤ tt) (lit≤ tt) (lit≤ tt) (lit≤ tt) (lit≤ tt) (lit≤ tt) (lit≤ tt) (lit≤ tt) (lit≤ tt) (lit≤ tt) (lit≤ tt) (lit≤ tt) (lit≤ tt) (lit≤ tt) (lit≤ tt) (lit≤ tt) (lit≤ tt) (lit≤ tt)
 
-abbrev bodyOf : Wish → List ℕ
-bodyOf w = bytes 2 (asking w .item .code) ++ parametersOf (layoutOf w)
-
-body-few : (w : Wish) → 2 + length (bodyOf w) ≤ 64
-body-few w = omega (arith, length-laid (layoutOf w), short-layout w .0, short-layout w .1)
+few : (w : Wish) → sizeOf (layoutOf w) ≤ 64
+few w = omega (arith, short-message w)
 
 -- it is taken whole, in one call
 wish-taken : (w : Wish) → taken between (messageOf w) ≡ tookAll (messageOf w)
 unfolding messageOf
 wish-taken w =
-    one-message (laid (layoutOf w)) announces (omega arith) (omega (arith, body-few w))
+    one-message (laid (layoutOf w)) announces (omega arith) (omega (arith, length-laid (layoutOf w), few w))
   where
     announces : announced (laid (layoutOf w)) ≡ length (laid (layoutOf w))
     announces =
-        ap announced (sym (append-nil (laid (layoutOf w))))
-        ∙ framed-announced (asking w .kind) (bodyOf w) [] (kind-low w) (body-few w)
-        ∙ sym (framed-long (asking w .kind) (bodyOf w))
+        ap announced (sym (append-nil (laid (layoutOf w)))) ∙ announced-laid (layoutOf w) [] (kind-low w) (few w) ∙ sym (length-laid (layoutOf w))
 
 -- and is then the message that the wish stands for
 wish-held : (w : Wish) → messageIn (holding (messageOf w)) ≡ asMessage w
 unfolding messageOf
 wish-held w =
     let rest : List ℕ = replicate (64 - length (laid (layoutOf w))) 0 in
-    rw (framed-type (asking w .kind) (bodyOf w) rest (kind-low w) (body-few w), framed-size (asking w .kind) (bodyOf w) rest (kind-low w) (body-few w))
-    (ap (λ (n : ℕ). record { type = asking w .kind; size = n; held = laid (layoutOf w) ++ rest }) (sym (framed-long (asking w .kind) (bodyOf w))))
+    rw (type-laid (layoutOf w) rest (kind-low w) (few w), size-laid (layoutOf w) rest (kind-low w) (few w))
+    (ap (λ (n : ℕ). record { type = asking w .kind; size = n; held = laid (layoutOf w) ++ rest }) (sym (length-laid (layoutOf w))))
 
 -- ---- the demand
 
@@ -114,7 +86,7 @@ what-is-asked-is-understood w s room e v eight enough =
     record {
       code = ap (λ (f : Feeding). f .fed .code) fed ∙ code-of-wish w s e;
       does = ap (λ (f : Feeding). f .fed .station) fed ∙ ap resting (settings-of-wish w s e);
-      says = ap (λ (f : Feeding). replyRead w (f .bytes)) fed ∙ box-reply-is-read w s e v eight;
+      says = ap (λ (f : Feeding). toldOf w (f .bytes)) fed ∙ box-reply-is-read w s e v eight;
     }
   where
     fed : feedingOf (resting s) (messageOf w) room

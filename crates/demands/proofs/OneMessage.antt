@@ -1,20 +1,17 @@
 -- One whole message, fed to a box between messages in one call: it is taken to its end, and what is held of it is the
 -- message and then zeros.
 -- Assumes nothing.
-use Prim.Native.Nat.{ℕ, zero, suc, _+_, _-_, _≤_, _<_}
-use native.Mathlib.Nat.{le-refl, le-trans, not-suc-le-zero}
+use Prim.Native.Nat.{ℕ, suc, _+_, _-_, _≤_, _<_}
+use native.Mathlib.Nat.{le-refl}
 use native.Mathlib.Decide.{decLe}
-use native.Mathlib.Numerals.{add-one}
 use native.Mathlib.Omega.{arith}
 use borrow.Author.Tests.{le-leb, lt-leb}
 use mathlib.Core.Path.{_≡_, refl, sym, ap, _∙_}
-use mathlib.Core.Bool.{Bool, true, false, _&&_}
-use mathlib.Core.List.{List, [], _∷_, _++_, append-assoc, append-nil}
-use lib.Dec.{leb}
-use lib.ListN.{length, set, take, replicate, length-append}
+use mathlib.Core.Bool.{Bool, true, false}
+use mathlib.Core.List.{List, [], _∷_, _++_, append-nil}
+use lib.ListN.{length, replicate, length-append}
 use lib.Seq.{set-at, take-append-le, append-snoc}
-use Rattle.wire.specs.Choice.{pick}
-use Rattle.wire.specs.Number.{number, field}
+use Rattle.wire.specs.Number.{number}
 use Rattle.wire.specs.Header.{lengthIn, typeIn}
 use Rattle.framing.proofs.Cutting.{taking-on}
 use Rattle.framing.specs.declared.Store.{Store}

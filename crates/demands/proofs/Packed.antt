@@ -1,7 +1,7 @@
 -- Demand 2: the samples the box packs are those the harvester unpacks, by one statement over width and pair count.
 -- Assumes nothing.
 use Prim.Native.Nat.{ℕ, _*_, _≤_}
-use mathlib.Core.Path.{_≡_, refl, sym, ap, _∙_}
+use mathlib.Core.Path.{_≡_, ap, _∙_}
 use mathlib.Core.Bool.{true}
 use mathlib.Core.List.{List, map}
 use borrow.Author.Tests.{le-ltb}
@@ -11,13 +11,12 @@ use Rattle.packets.specs.declared.Form.{Form}
 use Rattle.packets.specs.Forms.{listed, wholeOf}
 use Rattle.packets.specs.Samples.{allSamples, narrowed}
 use Rattle.samples.proofs.RoundTrip.{round-trip-form}
-use Rattle.station.specs.declared.Station.{Station}
 use Rattle.cutting.specs.Cutting.{Cutting, packetOf, formNow, cuttingOf}
 use Rattle.cutting.proofs.Formed.{valid-form}
 use Rattle.reader.specs.Reading.{unpackCode, unpackedOf}
 use Rattle.positions.proofs.Boxes.{cut-is}
 use Rattle.positions.proofs.Packets.{packet-whole}
-use Rattle.demands.specs.Packed.{Unpacks, WhatIsPackedIsUnpacked}
+use Rattle.demands.specs.Packed.{WhatIsPackedIsUnpacked}
 
 module _ (f : Form) (position : ℕ) (samples : List ℤ) (out : ℕ)
     (l : listed f ≡ true) (n : length samples ≡ 2 * f .pairs) (a : allSamples samples ≡ true) (enough : length samples ≤ out) where

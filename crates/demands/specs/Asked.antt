@@ -9,7 +9,7 @@ use Rattle.items.specs.Settings.{inRange}
 use Rattle.station.specs.Feeding.{feedingOf}
 use Rattle.wishes.specs.declared.Wish.{Wish}
 use Rattle.wishes.specs.Wishes.{messageOf, allowed, granted, notNow}
-use Rattle.replies.specs.Reading.{replyRead}
+use Rattle.replies.specs.Reading.{told, toldOf}
 use Rattle.replies.specs.Saying.{saidBy}
 use Rattle.demands.specs.Shown.{resting}
 
@@ -19,7 +19,7 @@ use Rattle.demands.specs.Shown.{resting}
 pub record Understands (w : Wish) (s : Settings) (room : ℕ) : Type 0 where
   pub code : feedingOf (resting s) (messageOf w) room .fed .code ≡ pick (notNow w s) 17 1
   pub does : feedingOf (resting s) (messageOf w) room .fed .station ≡ resting (pick (notNow w s) s (granted w s))
-  pub says : replyRead w (feedingOf (resting s) (messageOf w) room .bytes) ≡ saidBy w s
+  pub says : toldOf w (feedingOf (resting s) (messageOf w) room .bytes) ≡ told (saidBy w s)
 
 abbrev pub WhatIsAskedIsUnderstood : Type 0
 WhatIsAskedIsUnderstood =

@@ -1,6 +1,6 @@
 -- A message that is written part by part is the message as it is laid out.
 use Prim.Native.Nat.{ℕ, _≤_, _<_}
-use mathlib.Core.Path.{_≡_, refl, _∙_}
+use mathlib.Core.Path.{_≡_, refl, sym, _∙_}
 use mathlib.Core.Bool.{true, false}
 use mathlib.Core.List.{List, [], _++_}
 use lib.Dec.{ltb}
@@ -12,6 +12,7 @@ use Rattle.wire.specs.Number.{bytes}
 use Rattle.wire.specs.Header.{headerOf}
 use Rattle.layouts.specs.declared.Layout.{Layout}
 use Rattle.layouts.specs.Layouts.{sizeOf, laid}
+use Rattle.layouts.proofs.Sizes.{length-laid}
 
 module _ (l : List ℕ) (a : Layout) where
   -- what is promised of a length that is returned and of the slice as it is left
@@ -38,3 +39,9 @@ module _ (l : List ℕ) (a : Layout) where
     -- without
     pub put-plain : a .echoed ≡ false → l₂ ≡ sets l₁ 4 (bytes (a .width) (a .value)) → Put n l₂
     put-plain e second = put-whole n l₂ is fits (second ∙ rw (first, head, is, e) refl)
+
+  -- what fits is written whole, and its length told
+  pub written-whole : (r : ℕ) (k : List ℕ) → sizeOf a ≤ length l → Put r k → (r ≡ length (laid a)) × (k ≡ sets l 0 (laid a))
+  written-whole r k fits put =
+      let s : ltb (length l) (sizeOf a) ≡ false = le-ltb (length l) (sizeOf a) fits in
+      ((rw s at (put .0)) ∙ sym (length-laid a), rw s at (put .1))

@@ -1,55 +1,37 @@
 -- What a call of the reader answers; and that its answer says all.
 use Prim.Native.Nat.{ℕ}
 use mathlib.Core.Path.{_≡_, refl, sym, ap, _∙_}
-use mathlib.Core.Bool.{Bool, true, false, _||_, not}
-use mathlib.Core.List.{List, [], _∷_}
+use mathlib.Core.Bool.{Bool, true, false}
+use mathlib.Core.List.{List}
 use lib.Dec.{eqb}
 use lib.IntN.{ℤ, pos, negsuc}
 use lib.ListN.{length, getD}
-use Rattle.wire.specs.Choice.{pick, check, firstOf}
+use Rattle.wire.specs.Choice.{pick}
 use Rattle.wishes.specs.declared.Wish.{Wish}
 use Rattle.wishes.specs.Wishes.{allowed}
 use Rattle.replies.specs.declared.Reply.{Reply}
 use Rattle.replies.specs.declared.Reply.the-variants.{Nak, Name, Serial, Interface, Version, Status, State, Frequency, FrequencyRange, Gain, Clock, Rate, PacketSize, NotAllowed, NotAReply}
 use Rattle.replies.specs.Awaited.{awaited, numberIn}
-use Rattle.replies.specs.Reading.{isNak, isReply, readCode, valueRead, Told, told, refused, toldOf, replyRead}
-
--- the case that is read tells what reading answers
-pub told-read : (w : Wish) (bs : List ℕ) → told (replyRead w bs) ≡ toldOf w bs
-unfolding replyRead toldOf readCode
-told-read w bs = by (allowed w) (isNak bs) (isReply w bs)
-  where
-    v : Reply
-    v = awaited w .says (numberIn w bs)
-
-    code : Bool → Bool → Bool → ℕ
-    code a n r = firstOf (check 16 (not a) ∷ check 28 (not (n || r)) ∷ []) 1
-
-    by : (a n r : Bool)
-        → told (pick a (pick n Nak (pick r v NotAReply)) NotAllowed) ≡ pick (eqb (code a n r) 1) (told (pick n Nak v)) (refused (code a n r))
-    by false n r = refl
-    by true true r = refl
-    by true false true = refl
-    by true false false = refl
+use Rattle.replies.specs.Reading.{isNak, isReply, readCode, Told, told, toldOf}
 
 module _ (w : Wish) (bs : List ℕ) where
   pub read-refused : allowed w ≡ false → told NotAllowed ≡ toldOf w bs
-  unfolding replyRead
-  read-refused e =
-      let is : NotAllowed ≡ replyRead w bs = rw e in
-      ap told is ∙ told-read w bs
+  unfolding toldOf readCode
+  read-refused e = rw e
 
   pub read-nak : allowed w ≡ true → isNak bs ≡ true → told Nak ≡ toldOf w bs
-  unfolding replyRead
-  read-nak e n =
-      let is : Nak ≡ replyRead w bs = rw (e, n) in
-      ap told is ∙ told-read w bs
+  unfolding toldOf readCode
+  read-nak e n = rw (e, n)
 
-  pub read-value : (r : Reply) → allowed w ≡ true → isNak bs ≡ false → r ≡ valueRead w bs → told r ≡ toldOf w bs
-  unfolding replyRead
-  read-value r e n is =
-      let last : valueRead w bs ≡ replyRead w bs = rw (e, n) in
-      ap told (is ∙ last) ∙ told-read w bs
+  module _ (e : allowed w ≡ true) (n : isNak bs ≡ false) where
+    pub read-none : isReply w bs ≡ false → told NotAReply ≡ toldOf w bs
+    unfolding toldOf readCode
+    read-none r = rw (e, n, r)
+
+    -- a reply, with the value in it
+    pub read-reply : (v : ℕ) → isReply w bs ≡ true → numberIn w bs ≡ v → told (awaited w .says v) ≡ toldOf w bs
+    unfolding toldOf readCode
+    read-reply v r is = rw (e, n, r, is)
 
 -- ---- two answers that tell the same are the same
 
@@ -102,7 +84,3 @@ back-told NotAReply = refl
 
 pub told-one : (a b : Reply) → told a ≡ told b → a ≡ b
 told-one a b e = sym (back-told a) ∙ ap back e ∙ back-told b
-
--- so the promise of the reader determines the case
-pub read-one : (w : Wish) (bs : List ℕ) (r : Reply) → told r ≡ toldOf w bs → r ≡ replyRead w bs
-read-one w bs r e = told-one r (replyRead w bs) (e ∙ sym (told-read w bs))

@@ -12,13 +12,16 @@ use borrow.Author.Tests.{eqb-true, eq-eqb, lt-ltb, ltb-true, not-false}
 use Rattle.wire.specs.Choice.{pick, oneOf, within}
 use Rattle.wire.specs.Number.{number, bytes}
 use Rattle.wire.specs.Signed.{coded}
-use Rattle.wire.specs.Header.{nak, typeRange}
+use Rattle.wire.specs.Header.{nak, headerOf, typeRange}
 use Rattle.wire.proofs.Laws.{and-left, and-right, and-both, or-left, or-right, within-low, within-high, pick-true}
 use Rattle.wire.proofs.Numbers.{bytes-number, number-bytes, number-below}
 use Rattle.rates.specs.Rate.{rateOf, nearestOf, isD}
 use Rattle.rates.specs.Table.{dOf}
 use Rattle.rates.proofs.Rates.{d-of-rate, d-of-found}
 use Rattle.tuning.specs.Bands.{bands, rangeBytes}
+use Rattle.layouts.specs.declared.Layout.{Layout}
+use Rattle.layouts.specs.Layouts.{parametersOf, sizeOf, laid}
+use Rattle.layouts.proofs.Sizes.{length-laid}
 use Rattle.items.specs.declared.Settings.{Settings}
 use Rattle.items.specs.Settings.{isMode, isSerialByte, allSerial, inRange, freshOf, withFrequency, withClock, withDivisor, withRunning, withMode, withGain, withSize, withCount}
 use Rattle.items.specs.Items.{versionTable, run, idle, achievedRate}
@@ -27,15 +30,15 @@ use Rattle.station.proofs.Kept.{Ranges, ranges, message-keeps, serial-kept}
 use Rattle.wishes.specs.declared.StateFields.{StateFields}
 use Rattle.wishes.specs.declared.Wish.{Wish}
 use Rattle.wishes.specs.declared.Wish.the-variants.{AskName, AskSerial, AskInterface, AskVersion, AskStatus, SetState, AskState, SetFrequency, AskFrequency, AskFrequencyRange, SetGain, AskGain, SetClock, AskClock, SetRate, AskRate, SetPacketSize, AskPacketSize}
-use Rattle.wishes.specs.Wishes.{asking, allowed, granted, notNow, messageOf, asMessage}
+use Rattle.wishes.specs.Wishes.{asking, layoutOf, allowed, granted, notNow, messageOf, asMessage}
 use Rattle.wishes.proofs.Allowed.{by-or, one-has, state-has}
 use Rattle.wishes.proofs.Understood.{code-of-wish, row-of-wish, settings-of-wish}
 use Rattle.replies.specs.declared.Reply.the-variants.{Nak, Status, State}
-use Rattle.replies.specs.Awaited.{awaited, isSerial, idleShown, runShown, stateShown, saysState, nameBytes, replyType, replyBytes, numberIn}
-use Rattle.replies.specs.Reading.{isReply, isNak, readCode, replyRead}
+use Rattle.replies.specs.Awaited.{awaited, isSerial, idleShown, runShown, stateShown, saysState, nameBytes, replyType, replyLayout, replyBytes, numberIn}
+use Rattle.replies.specs.Reading.{isReply, isNak, readCode, told, toldOf}
 use Rattle.replies.specs.Saying.{saysOf, saidBy}
-use Rattle.replies.proofs.Layouts.{AreBytes}
 use Rattle.replies.proofs.Same.{same-eq, eq-same}
+use Rattle.replies.proofs.Answers.{read-nak}
 use Rattle.replies.proofs.Recognised.{version-has, reply-read, reply-is-reply, is-reply-bytes, code-accepted, accepted-code}
 
 -- ---- the value that a box shows
@@ -69,7 +72,13 @@ numberOf AskPacketSize s = s .size
 -- a reply around a value's bytes
 abbrev around : Wish → List ℕ → List ℕ
 around w v =
-    framed (replyType (asking w .kind)) (bytes 2 (asking w .item .code) ++ (bytes (asking w .echo .width) (asking w .echo .value) ++ v))
+    framed (replyType (asking w .kind)) (bytes 2 (asking w .item .code) ++ (pick (layoutOf w .echoed) (asking w .echo ∷ []) [] ++ v))
+
+-- a header of the true length before item code and parameters is a message as it is laid out
+framed-laid : (a : Layout) → framed (a .kind) (bytes 2 (a .item) ++ parametersOf a) ≡ laid a
+framed-laid a =
+    let size : 2 + length (bytes 2 (a .item) ++ parametersOf a) ≡ sizeOf a = omega (arith, length-laid a) in
+    ap (λ (n : ℕ). bytes 2 (headerOf (a .kind) n) ++ (bytes 2 (a .item) ++ parametersOf a)) size
 
 -- the box lays its reply out as the harvester waits for it
 reply-around : (w : Wish) (s : Settings) → replyTo (asking w .item) (asking w .kind) s (parameters (asMessage w)) ≡ around w (shown w s)
@@ -97,7 +106,7 @@ reply-around AskPacketSize s = refl
 serial-byte : (b : ℕ) → isSerialByte b ≡ true → b < 256
 serial-byte b = by-or (within 0x41 0x5A b) (within 0x30 0x39 b) (λ (up : within 0x41 0x5A b ≡ true). omega (arith, within-high 0x41 0x5A b up)) (λ (down : within 0x30 0x39 b ≡ true). omega (arith, within-high 0x30 0x39 b down))
 
-serial-bytes : (l : List ℕ) → allSerial l ≡ true → AreBytes l
+serial-bytes : (l : List ℕ) → allSerial l ≡ true → (k : ℕ) → getD l k 0 < 256
 serial-bytes [] e k = omega arith
 serial-bytes (b ∷ l) e zero = serial-byte b (and-left (isSerialByte b) (allSerial l) e)
 serial-bytes (b ∷ l) e (suc k) = serial-bytes l (and-right (isSerialByte b) (allSerial l) e) k
@@ -256,7 +265,9 @@ module _ (w : Wish) (s : Settings) (e : allowed w ≡ true) (valid : inRange s �
     unfolding replyOf replyBytes
     reply-shown =
         rw (code-of-wish w s e, now, row-of-wish w, after)
-        (reply-around w (granted w s) ∙ ap (around w) (shown-number w (granted w s) e (ranges (granted w s) granted-valid) granted-eight))
+        (reply-around w (granted w s)
+        ∙ ap (around w) (shown-number w (granted w s) e (ranges (granted w s) granted-valid) granted-eight)
+        ∙ framed-laid (replyLayout w (numberOf w (granted w s))))
 
   -- what the box says is accepted
   box-reply-accepted : isNak (replyOf s (asMessage w)) || isReply w (replyOf s (asMessage w)) ≡ true
@@ -270,15 +281,15 @@ module _ (w : Wish) (s : Settings) (e : allowed w ≡ true) (valid : inRange s �
           (reply-is-reply w (numberOf w (granted w s)) e (could-shown w s e (ranges s valid) eight now)))
 
   -- and read as what it says
-  pub box-reply-is-read : replyRead w (replyOf s (asMessage w)) ≡ saidBy w s
-  unfolding replyRead
+  pub box-reply-is-read : toldOf w (replyOf s (asMessage w)) ≡ told (saidBy w s)
   box-reply-is-read = go (notNow w s) refl
     where
-      go : (t : Bool) → notNow w s ≡ t → replyRead w (replyOf s (asMessage w)) ≡ pick t Nak (saysOf w (granted w s))
-      go true later = rw (refused-nak later, e)
+      go : (t : Bool) → notNow w s ≡ t → toldOf w (replyOf s (asMessage w)) ≡ told (pick t Nak (saysOf w (granted w s)))
+      go true later = rw (refused-nak later) (sym (read-nak w nak e refl))
       go false now =
           rw (reply-shown now)
-          (reply-read w (numberOf w (granted w s)) e (could-shown w s e (ranges s valid) eight now) ∙ says-shown w (granted w s) (ranges (granted w s) (granted-valid now)))
+          (sym (reply-read w (numberOf w (granted w s)) e (could-shown w s e (ranges s valid) eight now))
+          ∙ ap told (says-shown w (granted w s) (ranges (granted w s) (granted-valid now))))
 
 -- ---- what is read, a valid box says
 

@@ -13,63 +13,24 @@ use Rattle.wire.specs.Choice.{pick}
 use Rattle.wire.specs.Number.{number, bytes}
 use Rattle.wire.specs.Signed.{coded}
 use Rattle.wire.specs.Header.{nak, headerOf}
-use Rattle.wire.proofs.Laws.{true-not-false, pick-false, and-left, and-right, within-high}
+use Rattle.wire.proofs.Laws.{true-not-false, and-left, and-right, within-high}
 use Rattle.rates.specs.Rate.{rateOf, nearestOf, mayAsk, isD}
 use Rattle.rates.specs.Table.{dOf}
 use Rattle.rates.proofs.Rates.{rate-asked, nearest-d, d-of-found}
 use Rattle.tuning.specs.Bands.{bands, rangeBytes}
+use Rattle.layouts.specs.Layouts.{laid}
+use Rattle.layouts.proofs.Sizes.{least, length-laid}
+use Rattle.layouts.proofs.Values.{value-read}
 use Rattle.items.specs.Items.{versionTable}
 use Rattle.items.specs.Settings.{allSerial}
 use Rattle.wishes.specs.declared.Wish.{Wish}
 use Rattle.wishes.specs.declared.Wish.the-variants.{AskName, AskSerial, AskInterface, AskVersion, AskStatus, SetState, AskState, SetFrequency, AskFrequency, AskFrequencyRange, SetGain, AskGain, SetClock, AskClock, SetRate, AskRate, SetPacketSize, AskPacketSize}
-use Rattle.wishes.specs.Wishes.{asking, allowed, laid}
+use Rattle.wishes.specs.Wishes.{allowed}
 use Rattle.wishes.proofs.Allowed.{one-has, state-has, bands-high, gain-below, value-fits}
-use Rattle.wishes.proofs.Laying.{length-laid}
-use Rattle.replies.specs.declared.Reply.the-variants.{FrequencyRange, NotAReply}
 use Rattle.replies.specs.Awaited.{awaited, idleShown, runShown, stateShown, nameBytes, replyLayout, replyBytes, numberIn}
-use Rattle.replies.specs.Reading.{same, isNak, isReply, readCode, valueRead, replyRead}
-use Rattle.replies.proofs.Layouts.{Laid, laid-parts}
+use Rattle.replies.specs.Reading.{same, isNak, isReply, readCode, told, toldOf}
+use Rattle.replies.proofs.Answers.{read-reply}
 use Rattle.replies.proofs.Same.{same-eq, same-refl, ne-same}
-
-pub code-below : (w : Wish) → asking w .item .code < 65536
-code-below AskName = omega arith
-code-below AskSerial = omega arith
-code-below AskInterface = omega arith
-code-below (AskVersion id) = omega arith
-code-below AskStatus = omega arith
-code-below (SetState f) = omega arith
-code-below AskState = omega arith
-code-below (SetFrequency hz) = omega arith
-code-below AskFrequency = omega arith
-code-below AskFrequencyRange = omega arith
-code-below (SetGain g) = omega arith
-code-below AskGain = omega arith
-code-below (SetClock hz) = omega arith
-code-below AskClock = omega arith
-code-below (SetRate hz) = omega arith
-code-below AskRate = omega arith
-code-below (SetPacketSize n) = omega arith
-code-below AskPacketSize = omega arith
-
-pub echo-fits : (w : Wish) → allowed w ≡ true → asking w .echo .value < 256 ^ asking w .echo .width
-echo-fits AskName e = omega arith
-echo-fits AskSerial e = omega arith
-echo-fits AskInterface e = omega arith
-echo-fits (AskVersion id) e = omega (arith, leb-true id 3 e)
-echo-fits AskStatus e = omega arith
-echo-fits (SetState f) e = omega arith
-echo-fits AskState e = omega arith
-echo-fits (SetFrequency hz) e = omega arith
-echo-fits AskFrequency e = omega arith
-echo-fits AskFrequencyRange e = omega arith
-echo-fits (SetGain g) e = omega arith
-echo-fits AskGain e = omega arith
-echo-fits (SetClock hz) e = omega arith
-echo-fits AskClock e = omega arith
-echo-fits (SetRate hz) e = omega arith
-echo-fits AskRate e = omega arith
-echo-fits (SetPacketSize n) e = omega arith
-echo-fits AskPacketSize e = omega arith
 
 -- what holds of each version's id
 pub version-has : (P : ℕ → Type 0) → P 0 → P 1 → P 2 → P 3 → (id : ℕ) → leb id 3 ≡ true → P id
@@ -115,14 +76,14 @@ could-fits AskRate n e h = let d = d-of-found n (ltb-true 0 (dOf n) h) in rate-b
 could-fits (SetPacketSize m) n e h = rw (eqb-true n m h) (value-fits (SetPacketSize m) e)
 could-fits AskPacketSize n e h = omega (arith, leb-true n 1 h)
 
--- the reply with a value, part by part
-pub reply-parts : (w : Wish) (n : ℕ) → allowed w ≡ true → n < 256 ^ awaited w .width → Laid (replyLayout w n) (replyBytes w n)
+-- so it is read back
+pub reply-value : (w : Wish) (n : ℕ) → n < 256 ^ awaited w .width → numberIn w (replyBytes w n) ≡ n
 unfolding replyBytes
-reply-parts w n e small = laid-parts (replyLayout w n) (code-below w) (echo-fits w e) small
+reply-value w n small = value-read (replyLayout w n) small
 
 pub reply-is-reply : (w : Wish) (n : ℕ) → allowed w ≡ true → awaited w .could n ≡ true → isReply w (replyBytes w n) ≡ true
 unfolding isReply
-reply-is-reply w n e h = rw (reply-parts w n e (could-fits w n e h) .value, h) (same-refl (replyBytes w n))
+reply-is-reply w n e h = rw (reply-value w n (could-fits w n e h), h) (same-refl (replyBytes w n))
 
 -- a reply is longer than NAK
 pub reply-no-nak : (w : Wish) (n : ℕ) → isNak (replyBytes w n) ≡ false
@@ -130,12 +91,11 @@ unfolding replyBytes
 reply-no-nak w n = ne-same (replyBytes w n) nak (λ is. absurd (two (ap length is)))
   where
     two : length (laid (replyLayout w n)) ≡ 2 → ⊥
-    two is = omega (arith, length-laid (replyLayout w n))
+    two is = omega (arith, length-laid (replyLayout w n), least (replyLayout w n))
 
-pub reply-read : (w : Wish) (n : ℕ) → allowed w ≡ true → awaited w .could n ≡ true → replyRead w (replyBytes w n) ≡ awaited w .says n
-unfolding replyRead
+pub reply-read : (w : Wish) (n : ℕ) → allowed w ≡ true → awaited w .could n ≡ true → told (awaited w .says n) ≡ toldOf w (replyBytes w n)
 reply-read w n e h =
-    rw (e, reply-no-nak w n, reply-is-reply w n e h, reply-parts w n e (could-fits w n e h) .value)
+    read-reply w (replyBytes w n) e (reply-no-nak w n) n (reply-is-reply w n e h) (reply-value w n (could-fits w n e h))
 
 -- and a reply that is accepted is the reply with the value in it
 pub is-reply-bytes : (w : Wish) (bs : List ℕ) → isReply w bs ≡ true → (awaited w .could (numberIn w bs) ≡ true) × (bs ≡ replyBytes w (numberIn w bs))
@@ -157,10 +117,10 @@ range-written l₁ l₂ l₃ h is first second third = rw (third, second, first,
 
 -- one reply alone is accepted
 pub range-read : (bs l : List ℕ) (t : Bool) → l ≡ replyBytes AskFrequencyRange rangeNumber → (t ≡ true → bs ≡ l) → (bs ≡ l → t ≡ true)
-    → pick t FrequencyRange NotAReply ≡ valueRead AskFrequencyRange bs
+    → isReply AskFrequencyRange bs ≡ t
 range-read bs l true is to from =
-    rw (to refl ∙ is, reply-is-reply AskFrequencyRange rangeNumber refl (eq-eqb rangeNumber rangeNumber refl))
-range-read bs l false is to from = sym (pick-false (isReply AskFrequencyRange bs) FrequencyRange NotAReply (go (isReply AskFrequencyRange bs) refl))
+    rw (to refl ∙ is) (reply-is-reply AskFrequencyRange rangeNumber refl (eq-eqb rangeNumber rangeNumber refl))
+range-read bs l false is to from = go (isReply AskFrequencyRange bs) refl
   where
     go : (t : Bool) → isReply AskFrequencyRange bs ≡ t → t ≡ false
     go true e =

@@ -1,9 +1,8 @@
 -- In an arm that several wishes share, only their places in the enum are known: what each place has.
-use Prim.Native.Nat.{ℕ, _≤_}
-use mathlib.Core.Path.{_≡_, refl, sym, _∙_}
+use Prim.Native.Nat.{ℕ}
+use mathlib.Core.Path.{_≡_, refl, sym, ap, _∙_}
 use mathlib.Core.Bool.{true, false}
 use mathlib.Core.List.{List, [], _∷_}
-use native.Mathlib.Omega.{arith}
 use types.Run.{OneOf}
 use denote.Enum.Declared.{tagOf}
 use lib.Dec.{eqb}
@@ -15,7 +14,7 @@ use Rattle.items.proofs.Keys.{allIn, matched}
 use Rattle.wishes.proofs.Wish.{the-type}
 use Rattle.wishes.specs.declared.Wish.{Wish}
 use Rattle.wishes.specs.declared.Wish.the-variants.{AskName, AskSerial, AskInterface, AskVersion, AskStatus, SetState, AskState, SetFrequency, AskFrequency, AskFrequencyRange, SetGain, AskGain, SetClock, AskClock, SetRate, AskRate, SetPacketSize, AskPacketSize}
-use Rattle.wishes.specs.Wishes.{asking}
+use Rattle.wishes.specs.Wishes.{layoutOf}
 use Rattle.wishes.proofs.Allowed.{each, one-has}
 use Rattle.replies.specs.declared.Reply.{Reply}
 use Rattle.replies.specs.declared.Reply.the-variants.{Name, Serial, Interface, Status, Frequency, FrequencyRange, Gain, Clock, Rate, PacketSize, NotAReply}
@@ -95,51 +94,31 @@ says-in n r keys w t all h =
 unfoldable pub echoed : List ℕ
 echoed = 7 ∷ 9 ∷ 10 ∷ 12 ∷ 16 ∷ []
 
-pub echoes : (w : Wish) (n : ℕ) → oneOf (place w) echoed ≡ true → awaited w .width ≤ 9 → eqb n (asking w .value .value) ≡ awaited w .could n
+pub echoes : (w : Wish) (n : ℕ) → oneOf (place w) echoed ≡ true → (w ≡ AskFrequencyRange → ⊥) → eqb n (layoutOf w .value) ≡ awaited w .could n
 unfolding echoed
-echoes AskName n h short = absurd (true-not-false (sym h))
-echoes AskSerial n h short = absurd (true-not-false (sym h))
-echoes AskInterface n h short = absurd (true-not-false (sym h))
-echoes (AskVersion id) n h short = absurd (true-not-false (sym h))
-echoes AskStatus n h short = absurd (true-not-false (sym h))
-echoes (SetState f) n h short = absurd (true-not-false (sym h))
-echoes AskState n h short = absurd (true-not-false (sym h))
-echoes (SetFrequency hz) n h short = refl
-echoes AskFrequency n h short = absurd (true-not-false (sym h))
-echoes AskFrequencyRange n h short = absurd (long short)
-  where
-    long : 31 ≤ 9 → ⊥
-    long h = omega arith
-echoes (SetGain g) n h short = refl
-echoes AskGain n h short = absurd (true-not-false (sym h))
-echoes (SetClock hz) n h short = refl
-echoes AskClock n h short = absurd (true-not-false (sym h))
-echoes (SetRate hz) n h short = absurd (true-not-false (sym h))
-echoes AskRate n h short = absurd (true-not-false (sym h))
-echoes (SetPacketSize m) n h short = refl
-echoes AskPacketSize n h short = absurd (true-not-false (sym h))
+echoes AskName n h other = absurd (true-not-false (sym h))
+echoes AskSerial n h other = absurd (true-not-false (sym h))
+echoes AskInterface n h other = absurd (true-not-false (sym h))
+echoes (AskVersion id) n h other = absurd (true-not-false (sym h))
+echoes AskStatus n h other = absurd (true-not-false (sym h))
+echoes (SetState f) n h other = absurd (true-not-false (sym h))
+echoes AskState n h other = absurd (true-not-false (sym h))
+echoes (SetFrequency hz) n h other = refl
+echoes AskFrequency n h other = absurd (true-not-false (sym h))
+echoes AskFrequencyRange n h other = absurd (other refl)
+echoes (SetGain g) n h other = refl
+echoes AskGain n h other = absurd (true-not-false (sym h))
+echoes (SetClock hz) n h other = refl
+echoes AskClock n h other = absurd (true-not-false (sym h))
+echoes (SetRate hz) n h other = absurd (true-not-false (sym h))
+echoes AskRate n h other = absurd (true-not-false (sym h))
+echoes (SetPacketSize m) n h other = refl
+echoes AskPacketSize n h other = absurd (true-not-false (sym h))
 
 -- every place but the range's
 unfoldable pub unranged : List ℕ
 unranged = 0 ∷ 1 ∷ 2 ∷ 3 ∷ 4 ∷ 5 ∷ 6 ∷ 7 ∷ 8 ∷ 10 ∷ 11 ∷ 12 ∷ 13 ∷ 14 ∷ 15 ∷ 16 ∷ 17 ∷ []
 
-pub unranged-short : (w : Wish) → oneOf (place w) unranged ≡ true → awaited w .width ≤ 9
+pub not-range : (w : Wish) → oneOf (place w) unranged ≡ true → w ≡ AskFrequencyRange → ⊥
 unfolding unranged
-unranged-short AskName h = omega arith
-unranged-short AskSerial h = omega arith
-unranged-short AskInterface h = omega arith
-unranged-short (AskVersion id) h = omega arith
-unranged-short AskStatus h = omega arith
-unranged-short (SetState f) h = omega arith
-unranged-short AskState h = omega arith
-unranged-short (SetFrequency hz) h = omega arith
-unranged-short AskFrequency h = omega arith
-unranged-short AskFrequencyRange h = absurd (true-not-false (sym h))
-unranged-short (SetGain g) h = omega arith
-unranged-short AskGain h = omega arith
-unranged-short (SetClock hz) h = omega arith
-unranged-short AskClock h = omega arith
-unranged-short (SetRate hz) h = omega arith
-unranged-short AskRate h = omega arith
-unranged-short (SetPacketSize m) h = omega arith
-unranged-short AskPacketSize h = omega arith
+not-range w h is = true-not-false (sym h ∙ ap (λ (v : Wish). oneOf (place v) unranged) is)

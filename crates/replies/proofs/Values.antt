@@ -1,84 +1,55 @@
--- Reading a reply whose value has at most eight bytes, a serial's ninth being zero.
-use Prim.Native.Nat.{ℕ, zero, suc, _+_, _*_, _^_, _≤_, _<_}
-use mathlib.Core.Path.{_≡_, refl, sym, ap, subst, _∙_}
-use mathlib.Core.Bool.{Bool, true, false}
+-- Reading a reply other than the range's: its value has at most eight bytes, and a serial's ninth is zero.
+use Prim.Native.Nat.{ℕ, zero, suc, _+_, _*_, _/_, _^_, _≤_, _<_}
+use mathlib.Core.Path.{_≡_, refl, sym, ap, _∙_}
+use mathlib.Core.Bool.{Bool, true, false, _&&_}
 use mathlib.Core.List.{List, [], _∷_}
-use native.Mathlib.Nat.{mul-assoc, pow-succ', lt-of-lt-of-le, pow-le-pow-right}
+use native.Mathlib.Nat.{le-refl, mul-assoc, pow-succ', lt-of-lt-of-le, pow-le-pow-right}
 use native.Mathlib.Omega.{arith}
 use lib.Dec.{ltb, lit≤}
-use lib.ListN.{length, take, drop, length-drop}
-use lib.Seq.{take-all, drop-drop}
+use lib.ListN.{length, take, drop, replicate, length-drop}
+use lib.Seq.{sets, take-all, drop-drop}
 use borrow.Author.Tests.{ltb-true}
 use Rattle.wire.specs.Number.{number, bytes, field}
-use Rattle.wire.proofs.Laws.{true-not-false, and-right, and-both, and-not-left, pick-true, pick-false}
-use Rattle.wire.proofs.Numbers.{field-below}
+use Rattle.wire.proofs.Laws.{true-not-false, and-right}
+use Rattle.wire.proofs.Numbers.{length-bytes, bytes-below, number-below}
+use Rattle.wire.proofs.Stores.{sets-taken}
+use Rattle.layouts.proofs.Sizes.{greatest, length-laid}
+use Rattle.layouts.proofs.Writing.{Put, written-whole}
+use Rattle.layouts.proofs.Values.{value-last}
 use Rattle.items.specs.Settings.{allSerial}
-use Rattle.wishes.specs.declared.Layout.{Layout}
 use Rattle.wishes.specs.declared.Wish.{Wish}
 use Rattle.wishes.specs.declared.Wish.the-variants.{AskName, AskSerial, AskInterface, AskVersion, AskStatus, SetState, AskState, SetFrequency, AskFrequency, AskFrequencyRange, SetGain, AskGain, SetClock, AskClock, SetRate, AskRate, SetPacketSize, AskPacketSize}
-use Rattle.wishes.specs.Wishes.{asking, layoutOf, allowed}
-use Rattle.replies.specs.declared.Reply.the-variants.{NotAReply}
-use Rattle.replies.specs.Awaited.{awaited, replyType, replyLayout, replyBytes, numberIn}
-use Rattle.replies.specs.Reading.{same, hasParts, isReply, valueRead}
-use Rattle.replies.proofs.Same.{eq-same}
-use Rattle.replies.proofs.Layouts.{AreBytes, Laid, parts-laid, laid-tested, tested-laid}
-use Rattle.replies.proofs.Recognised.{could-fits, reply-parts, is-reply-bytes}
+use Rattle.wishes.specs.Wishes.{asking, allowed}
+use Rattle.replies.specs.Awaited.{awaited, replyType, replyLayout, replyBytes, valueAt, numberIn}
+use Rattle.replies.specs.Reading.{same, isReply}
+use Rattle.replies.proofs.Same.{same-eq, eq-same}
+use Rattle.replies.proofs.Recognised.{could-fits, is-reply-bytes}
 
-long : 31 ≤ 9 → ⊥
-long h = omega arith
+-- a value that has eight bytes at most
+word : (w : Wish) → awaited w .width ≤ 8 → (n : ℕ) → allowed w ≡ true → awaited w .could n ≡ true → n < 256 ^ 8
+word w few n e h = lt-of-lt-of-le (could-fits w n e h) (pow-le-pow-right {n = 256} (lit≤ tt) few)
 
--- such a reply is no range reply
-pub plain-reply : (w : Wish) → awaited w .width ≤ 9 → replyType (asking w .kind) ≡ 0
-plain-reply AskName short = refl
-plain-reply AskSerial short = refl
-plain-reply AskInterface short = refl
-plain-reply (AskVersion id) short = refl
-plain-reply AskStatus short = refl
-plain-reply (SetState f) short = refl
-plain-reply AskState short = refl
-plain-reply (SetFrequency hz) short = refl
-plain-reply AskFrequency short = refl
-plain-reply AskFrequencyRange short = absurd (long short)
-plain-reply (SetGain g) short = refl
-plain-reply AskGain short = refl
-plain-reply (SetClock hz) short = refl
-plain-reply AskClock short = refl
-plain-reply (SetRate hz) short = refl
-plain-reply AskRate short = refl
-plain-reply (SetPacketSize m) short = refl
-plain-reply AskPacketSize short = refl
-
--- the layout that the reader makes is the reply's
-pub reply-layout-is : (w : Wish) (a : Layout) (width : ℕ) → awaited w .width ≤ 9 → a ≡ layoutOf w → width ≡ awaited w .width
-    → record { kind = 0; item = a .item; echoed = a .echoed; echo = a .echo; width = width; value = 0 } ≡ replyLayout w 0
-reply-layout-is w a width short is wide =
-    ap (λ (b : Layout). record { kind = 0; item = b .item; echoed = b .echoed; echo = b .echo; width = width; value = 0 }) is
-    ∙ ap (λ (k : ℕ). record { kind = 0; item = layoutOf w .item; echoed = layoutOf w .echoed; echo = layoutOf w .echo; width = k; value = 0 }) wide
-    ∙ ap (λ (k : ℕ). record { kind = k; item = layoutOf w .item; echoed = layoutOf w .echoed; echo = layoutOf w .echo; width = awaited w .width; value = 0 }) (sym (plain-reply w short))
-
-within-word : (n k : ℕ) → k ≤ 8 → n < 256 ^ k → n < 256 ^ 8
-within-word n k few small = lt-of-lt-of-le small (pow-le-pow-right {n = 256} (lit≤ tt) few)
-
--- the values of such a reply have eight bytes
-could-word : (w : Wish) (n : ℕ) → allowed w ≡ true → awaited w .width ≤ 9 → awaited w .could n ≡ true → n < 256 ^ 8
-could-word AskName n e short h = within-word n (awaited AskName .width) (lit≤ tt) (could-fits AskName n e h)
-could-word AskSerial n e short h = ltb-true n (256 ^ 8) (and-right (allSerial (bytes 8 n)) (ltb n (256 ^ 8)) h)
-could-word AskInterface n e short h = within-word n (awaited AskInterface .width) (lit≤ tt) (could-fits AskInterface n e h)
-could-word (AskVersion id) n e short h = within-word n (awaited (AskVersion id) .width) (lit≤ tt) (could-fits (AskVersion id) n e h)
-could-word AskStatus n e short h = within-word n (awaited AskStatus .width) (lit≤ tt) (could-fits AskStatus n e h)
-could-word (SetState f) n e short h = within-word n (awaited (SetState f) .width) (lit≤ tt) (could-fits (SetState f) n e h)
-could-word AskState n e short h = within-word n (awaited AskState .width) (lit≤ tt) (could-fits AskState n e h)
-could-word (SetFrequency hz) n e short h = within-word n (awaited (SetFrequency hz) .width) (lit≤ tt) (could-fits (SetFrequency hz) n e h)
-could-word AskFrequency n e short h = within-word n (awaited AskFrequency .width) (lit≤ tt) (could-fits AskFrequency n e h)
-could-word AskFrequencyRange n e short h = absurd (long short)
-could-word (SetGain g) n e short h = within-word n (awaited (SetGain g) .width) (lit≤ tt) (could-fits (SetGain g) n e h)
-could-word AskGain n e short h = within-word n (awaited AskGain .width) (lit≤ tt) (could-fits AskGain n e h)
-could-word (SetClock hz) n e short h = within-word n (awaited (SetClock hz) .width) (lit≤ tt) (could-fits (SetClock hz) n e h)
-could-word AskClock n e short h = within-word n (awaited AskClock .width) (lit≤ tt) (could-fits AskClock n e h)
-could-word (SetRate hz) n e short h = within-word n (awaited (SetRate hz) .width) (lit≤ tt) (could-fits (SetRate hz) n e h)
-could-word AskRate n e short h = within-word n (awaited AskRate .width) (lit≤ tt) (could-fits AskRate n e h)
-could-word (SetPacketSize m) n e short h = within-word n (awaited (SetPacketSize m) .width) (lit≤ tt) (could-fits (SetPacketSize m) n e h)
-could-word AskPacketSize n e short h = within-word n (awaited AskPacketSize .width) (lit≤ tt) (could-fits AskPacketSize n e h)
+-- such a reply has nine bytes of value at most, is no range reply, and a value in it that a box could give has eight
+pub plain : (w : Wish) → (w ≡ AskFrequencyRange → ⊥)
+    → (awaited w .width ≤ 9) × (replyType (asking w .kind) ≡ 0) × ((n : ℕ) → allowed w ≡ true → awaited w .could n ≡ true → n < 256 ^ 8)
+plain AskName other = (lit≤ tt, refl, word AskName (lit≤ tt))
+plain AskSerial other = (lit≤ tt, refl, λ n e h. ltb-true n (256 ^ 8) (and-right (allSerial (bytes 8 n)) (ltb n (256 ^ 8)) h))
+plain AskInterface other = (lit≤ tt, refl, word AskInterface (lit≤ tt))
+plain (AskVersion id) other = (lit≤ tt, refl, word (AskVersion id) (lit≤ tt))
+plain AskStatus other = (lit≤ tt, refl, word AskStatus (lit≤ tt))
+plain (SetState f) other = (lit≤ tt, refl, word (SetState f) (lit≤ tt))
+plain AskState other = (lit≤ tt, refl, word AskState (lit≤ tt))
+plain (SetFrequency hz) other = (lit≤ tt, refl, word (SetFrequency hz) (lit≤ tt))
+plain AskFrequency other = (lit≤ tt, refl, word AskFrequency (lit≤ tt))
+plain AskFrequencyRange other = absurd (other refl)
+plain (SetGain g) other = (lit≤ tt, refl, word (SetGain g) (lit≤ tt))
+plain AskGain other = (lit≤ tt, refl, word AskGain (lit≤ tt))
+plain (SetClock hz) other = (lit≤ tt, refl, word (SetClock hz) (lit≤ tt))
+plain AskClock other = (lit≤ tt, refl, word AskClock (lit≤ tt))
+plain (SetRate hz) other = (lit≤ tt, refl, word (SetRate hz) (lit≤ tt))
+plain AskRate other = (lit≤ tt, refl, word AskRate (lit≤ tt))
+plain (SetPacketSize m) other = (lit≤ tt, refl, word (SetPacketSize m) (lit≤ tt))
+plain AskPacketSize other = (lit≤ tt, refl, word AskPacketSize (lit≤ tt))
 
 -- a number of k + 1 bytes is the one of k bytes, and the last byte 256 ^ k times
 number-split : (k : ℕ) (l : List ℕ) → number (take (suc k) l) ≡ number (take k l) + 256 ^ k * number (take 1 (drop k l))
@@ -98,58 +69,77 @@ rest-number bs at width size few =
     ∙ number-split 8 (drop at bs)
     ∙ ap (λ (l : List ℕ). field at 8 bs + 256 ^ 8 * number (take 1 l)) (drop-drop 8 at bs)
 
-refuted : (t : Bool) → (t ≡ true → ⊥) → t ≡ false
-refuted true no-way = absurd (no-way refl)
-refuted false no-way = refl
+-- past the bytes that a number has, there are zeros
+past-zero : (k n v : ℕ) → v < 256 ^ k → number (take 1 (drop k (bytes n v))) ≡ 0
+past-zero zero zero v small = refl
+past-zero zero (suc n) v small = omega arith
+past-zero (suc k) zero v small = refl
+past-zero (suc k) (suc n) v small = past-zero k n (v / 256) (omega arith)
 
--- what is not a reply is read as none
-not-read : (w : Wish) (bs : List ℕ) → isReply w bs ≡ false → NotAReply ≡ valueRead w bs
-not-read w bs h = sym (pick-false (isReply w bs) (awaited w .says (numberIn w bs)) NotAReply h)
+-- a reply is as long as its parts
+reply-long : (w : Wish) (n : ℕ) → length (replyBytes w n) ≡ valueAt w + awaited w .width
+unfolding replyBytes
+reply-long w n = length-laid (replyLayout w n)
 
-module _ (w : Wish) (bs : List ℕ) (e : allowed w ≡ true) where
-  -- what is accepted has its parts
-  accepted-laid : isReply w bs ≡ true → Laid (replyLayout w (numberIn w bs)) bs
-  accepted-laid h =
-      let n = numberIn w bs in
-      let p = is-reply-bytes w bs h in
-      subst (λ (l : List ℕ). Laid (replyLayout w n) l) (sym (p .1)) (reply-parts w n e (could-fits w n e (p .0)))
+reply-last : (w : Wish) (n : ℕ) → drop (valueAt w) (replyBytes w n) ≡ bytes (awaited w .width) n
+unfolding replyBytes
+reply-last w n = value-last (replyLayout w n)
 
-  pub value-not-laid : hasParts (replyLayout w 0) bs ≡ false → NotAReply ≡ valueRead w bs
-  value-not-laid no-parts =
-      not-read w bs (refuted (isReply w bs) (λ (h : isReply w bs ≡ true). true-not-false (sym (laid-tested (replyLayout w (numberIn w bs)) bs (accepted-laid h)) ∙ no-parts)))
+-- a reply that is written into sixteen bytes
+module _ (w : Wish) (n : ℕ) (other : w ≡ AskFrequencyRange → ⊥) (r : ℕ) (k : List ℕ) (put : Put (replicate 16 0) (replyLayout w n) r k) where
+  written : (r ≡ length (replyBytes w n)) × (k ≡ sets (replicate 16 0) 0 (replyBytes w n))
+  unfolding replyBytes
+  written = written-whole (replicate 16 0) (replyLayout w n) r k (omega (arith, greatest (replyLayout w n), plain w other .0)) put
 
-  module _ (short : awaited w .width ≤ 9) (parts : hasParts (replyLayout w 0) bs ≡ true) where
-    laid-so : Laid (replyLayout w (numberIn w bs)) bs
-    laid-so = tested-laid (replyLayout w (numberIn w bs)) bs parts refl
+  pub written-few : r ≤ 16
+  written-few = omega (arith, written .0, reply-long w n, greatest (replyLayout w n), plain w other .0)
 
-    split : numberIn w bs ≡ field (4 + asking w .echo .width) 8 bs + 256 ^ 8 * field (4 + asking w .echo .width + 8) 1 bs
-    split = rest-number bs (4 + asking w .echo .width) (awaited w .width) (laid-so .long) short
+  pub written-reply : take r k ≡ replyBytes w n
+  written-reply = rw (written .0, written .1) (sets-taken (replicate 16 0) 0 (replyBytes w n) (rw (← written .0) (omega (arith, written-few))))
 
-    pub value-ninth : (field (4 + asking w .echo .width + 8) 1 bs ≡ 0 → ⊥) → NotAReply ≡ valueRead w bs
-    value-ninth some = not-read w bs (refuted (isReply w bs) zero-ninth)
-      where
-        zero-ninth : isReply w bs ≡ true → ⊥
-        zero-ninth h = some (omega (arith, split, could-word w (numberIn w bs) e short (is-reply-bytes w bs h .0)))
+module _ (w : Wish) (bs : List ℕ) (other : w ≡ AskFrequencyRange → ⊥) where
+  -- the first eight bytes in the value's place
+  abbrev eight : ℕ
+  eight = field (valueAt w) 8 bs
 
-    module _ (are : AreBytes bs) (none : field (4 + asking w .echo .width + 8) 1 bs ≡ 0) where
-      -- the value is in the first eight bytes
-      pub value-word : field (4 + asking w .echo .width) 8 bs ≡ numberIn w bs
-      value-word = omega (arith, split, none)
+  split : (n : ℕ) → bs ≡ replyBytes w n → numberIn w bs ≡ eight + 256 ^ 8 * field (valueAt w + 8) 1 bs
+  split n is = rest-number bs (valueAt w) (awaited w .width) (ap length is ∙ reply-long w n) (plain w other .0)
 
-      pub value-fits-width : field (4 + asking w .echo .width) 8 bs < 256 ^ awaited w .width
-      value-fits-width = rw value-word (field-below (4 + asking w .echo .width) (awaited w .width) bs are)
+  -- where the bytes are the reply that gives this number, it is the number in it
+  pub word-in : same bs (replyBytes w eight) ≡ true → eight < 256 ^ 8 → numberIn w bs ≡ eight
+  word-in so small =
+      let is : bs ≡ replyBytes w eight = same-eq bs (replyBytes w eight) so in
+      let none : field (valueAt w + 8) 1 bs ≡ 0
+      = ap (λ (l : List ℕ). number (take 1 l)) (sym (drop-drop 8 (valueAt w) bs) ∙ ap (λ (l : List ℕ). drop 8 (drop (valueAt w) l)) is ∙ ap (drop 8) (reply-last w eight))
+      ∙ past-zero 8 (awaited w .width) eight small in
+      omega (arith, split eight is, none)
 
-      pub value-told : awaited w .could (field (4 + asking w .echo .width) 8 bs) ≡ true → awaited w .says (field (4 + asking w .echo .width) 8 bs) ≡ valueRead w bs
-      unfolding isReply replyBytes
-      value-told could =
-          let n = numberIn w bs in
-          let is : bs ≡ replyBytes w n = parts-laid (replyLayout w n) bs are laid-so in
-          ap (awaited w .says) value-word
-          ∙ sym (pick-true (isReply w bs) (awaited w .says n) NotAReply
-          (and-both (awaited w .could n) (same bs (replyBytes w n)) (sym (ap (awaited w .could) value-word) ∙ could) (eq-same bs (replyBytes w n) is)))
+  -- and it fits the reply's field
+  pub word-fits : same bs (replyBytes w eight) ≡ true → eight < 256 ^ 8 → eight < 256 ^ awaited w .width
+  word-fits so small =
+      let width = awaited w .width in
+      let long : length (bytes width eight) ≡ width = length-bytes width eight in
+      let all : take width (bytes width eight) ≡ bytes width eight = take-all width (bytes width eight) (rw long (le-refl width)) in
+      let is : numberIn w bs ≡ number (bytes width eight)
+      = ap (λ (l : List ℕ). number (take width l)) (ap (drop (valueAt w)) (same-eq bs (replyBytes w eight) so) ∙ reply-last w eight) ∙ ap number all in
+      rw (← (sym is ∙ word-in so small)) (rw long at (number-below (bytes width eight) (bytes-below width eight)))
 
-      pub value-not-could : awaited w .could (field (4 + asking w .echo .width) 8 bs) ≡ false → NotAReply ≡ valueRead w bs
-      unfolding isReply
-      value-not-could could =
-          not-read w bs
-          (and-not-left (awaited w .could (numberIn w bs)) (same bs (replyBytes w (numberIn w bs))) (sym (ap (awaited w .could) value-word) ∙ could))
+  -- where they are not, they are no reply
+  pub not-given : allowed w ≡ true → same bs (replyBytes w eight) ≡ false → isReply w bs ≡ false
+  not-given e differs = go (isReply w bs) refl
+    where
+      go : (t : Bool) → isReply w bs ≡ t → t ≡ false
+      go true h =
+          let p = is-reply-bytes w bs h in
+          let n : eight ≡ numberIn w bs = omega (arith, split (numberIn w bs) (p .1), plain w other .2 (numberIn w bs) e (p .0)) in
+          absurd (true-not-false (sym (eq-same bs (replyBytes w eight) (p .1 ∙ ap (replyBytes w) (sym n))) ∙ differs))
+      go false h = refl
+
+  -- and where they are, they are a reply if a valid box could give the value
+  pub given-could : (t : Bool) → same bs (replyBytes w eight) ≡ true → numberIn w bs ≡ eight → awaited w .could eight ≡ t → isReply w bs ≡ t
+  unfolding isReply
+  given-could t so is could = rw (is, so, could) (and-true t)
+    where
+      and-true : (t : Bool) → t && true ≡ t
+      and-true true = refl
+      and-true false = refl

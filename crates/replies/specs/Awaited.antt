@@ -1,6 +1,6 @@
 -- The replies that some valid box could give to a wish. "Replies have the item's set layout with the current value; the
 -- channel byte or id is echoed."
-use Prim.Native.Nat.{ℕ, _+_, _^_}
+use Prim.Native.Nat.{ℕ, _^_}
 use mathlib.Core.Bool.{Bool, _&&_}
 use mathlib.Core.List.{List, [], _∷_, _++_}
 use lib.Dec.{eqb, ltb}
@@ -13,13 +13,14 @@ use Rattle.rates.specs.Rate.{rateOf, nearestOf}
 use Rattle.rates.specs.Table.{dOf}
 use Rattle.tuning.specs.Bands.{bands, inBands, rangeBytes}
 use Rattle.tuning.specs.Word.{isClock}
-use Rattle.items.specs.Settings.{isGain, isSize, allSerial}
-use Rattle.items.specs.Items.{versionTable, idle, run}
+use Rattle.layouts.specs.declared.Layout.{Layout}
+use Rattle.layouts.specs.Layouts.{laid}
+use Rattle.items.specs.Settings.{isGain, isSize, allSerial, freshOf}
+use Rattle.items.specs.Items.{name, versionTable, idle, run}
 use Rattle.wishes.specs.declared.StateFields.{StateFields}
-use Rattle.wishes.specs.declared.Layout.{Layout}
 use Rattle.wishes.specs.declared.Wish.{Wish}
 use Rattle.wishes.specs.declared.Wish.the-variants.{AskName, AskSerial, AskInterface, AskVersion, AskStatus, SetState, AskState, SetFrequency, AskFrequency, AskFrequencyRange, SetGain, AskGain, SetClock, AskClock, SetRate, AskRate, SetPacketSize, AskPacketSize}
-use Rattle.wishes.specs.Wishes.{asking, laid}
+use Rattle.wishes.specs.Wishes.{asking, layoutOf}
 use Rattle.replies.specs.declared.Reply.{Reply}
 use Rattle.replies.specs.declared.Reply.the-variants.{Name, Serial, Interface, Version, Status, State, Frequency, FrequencyRange, Gain, Clock, Rate, PacketSize}
 
@@ -32,9 +33,9 @@ pub record Awaited : Type 0 where
 abbrev pub value : ℕ → (ℕ → Bool) → (ℕ → Reply) → Awaited
 value width could says = record { width = width; could = could; says = says }
 
--- 0001 name: "NetSDR" and a zero byte
+-- 0001 name: the same in every box
 abbrev pub nameBytes : List ℕ
-nameBytes = 0x4E ∷ 0x65 ∷ 0x74 ∷ 0x53 ∷ 0x44 ∷ 0x52 ∷ 0x00 ∷ []
+nameBytes = name .value (freshOf []) []
 
 -- 0002 serial: eight characters and a zero byte
 abbrev pub isSerial : ℕ → Bool
@@ -105,8 +106,8 @@ replyLayout w n =
     record {
       kind = replyType (asking w .kind);
       item = asking w .item .code;
-      echoed = asking w .echo .width;
-      echo = asking w .echo .value;
+      echoed = layoutOf w .echoed;
+      echo = asking w .echo;
       width = awaited w .width;
       value = n;
     }
@@ -114,6 +115,10 @@ replyLayout w n =
 unfoldable pub replyBytes : Wish → ℕ → List ℕ
 replyBytes w n = laid (replyLayout w n)
 
--- the number that stands in the value's place
+-- the value stands past header, item code and the echoed byte
+abbrev pub valueAt : Wish → ℕ
+valueAt w = pick (layoutOf w .echoed) 5 4
+
+-- the number that stands in its place
 abbrev pub numberIn : Wish → List ℕ → ℕ
-numberIn w bs = field (4 + asking w .echo .width) (awaited w .width) bs
+numberIn w bs = field (valueAt w) (awaited w .width) bs

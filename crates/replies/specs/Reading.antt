@@ -1,16 +1,13 @@
 -- Reading a reply to a wish.
-use Prim.Native.Nat.{ℕ, _+_}
+use Prim.Native.Nat.{ℕ}
 use mathlib.Core.Bool.{Bool, true, false, _&&_, _||_, not}
 use mathlib.Core.List.{List, [], _∷_, map}
 use lib.Dec.{eqb}
-use lib.ListN.{length}
 use lib.IntN.{ℤ, pos}
 use Rattle.wire.specs.Choice.{pick, Check, check, firstOf}
-use Rattle.wire.specs.Number.{field}
-use Rattle.wire.specs.Header.{nak, headerOf}
+use Rattle.wire.specs.Header.{nak}
 use Rattle.tuning.specs.Bands.{Band, bands}
 use Rattle.items.specs.Items.{name, serial, interface, versions, status, state, frequency, gain, clock, rate, packetSize}
-use Rattle.wishes.specs.declared.Layout.{Layout}
 use Rattle.wishes.specs.declared.Wish.{Wish}
 use Rattle.wishes.specs.Wishes.{allowed}
 use Rattle.replies.specs.declared.Reply.{Reply}
@@ -30,14 +27,6 @@ isNak bs = same bs nak
 -- the bytes are the reply with the value that they hold, and a valid box could give it
 unfoldable pub isReply : Wish → List ℕ → Bool
 isReply w bs = awaited w .could (numberIn w bs) && same bs (replyBytes w (numberIn w bs))
-
--- the bytes have the length, header, item code and echo of a layout
-abbrev pub hasParts : Layout → List ℕ → Bool
-hasParts a bs =
-    eqb (length bs) (4 + a .echoed + a .width)
-    && eqb (field 0 2 bs) (headerOf (a .kind) (4 + a .echoed + a .width))
-    && eqb (field 2 2 bs) (a .item)
-    && eqb (field 4 (a .echoed) bs) (a .echo)
 
 -- "one the writer would refuse is 16; it accepts NAK for any other, and exactly those further replies that some valid box
 -- could give to it; else 28"
@@ -89,10 +78,3 @@ told NotAReply = refused 28
 -- what reading the bytes that came answers
 unfoldable pub toldOf : Wish → List ℕ → Told
 toldOf w bs = pick (eqb (readCode w bs) 1) (told (heard w bs)) (refused (readCode w bs))
-
--- the same as cases of the enum: of bytes that are not NAK, and of all
-abbrev pub valueRead : Wish → List ℕ → Reply
-valueRead w bs = pick (isReply w bs) (awaited w .says (numberIn w bs)) NotAReply
-
-unfoldable pub replyRead : Wish → List ℕ → Reply
-replyRead w bs = pick (allowed w) (pick (isNak bs) Nak (valueRead w bs)) NotAllowed

@@ -1,13 +1,14 @@
 // The harvester's reply reader: given a wish and the bytes that came, what a box said to it.
 ghost use mathlib.Core.Path.{_≡_};
-ghost use mathlib.Core.Bool.{true};
-ghost use Prim.Native.Nat.{_^_, _≤_, _<_};
+ghost use mathlib.Core.Bool.{true, false};
+ghost use Prim.Native.Nat.{_^_, _<_};
+ghost use Rattle.wire.specs.Number.{field};
 ghost use Rattle.wire.specs.Signed.{signed};
-ghost use Rattle.wishes.specs.Wishes.{asking, allowed};
-ghost use Rattle.replies.specs.Awaited.{awaited, isSerial, isStatus, isState, stateCould, saysState, versionNumber};
+ghost use Rattle.wishes.specs.Wishes.{allowed};
+ghost use Rattle.replies.specs.Awaited.{awaited, isSerial, isStatus, isState, stateCould, saysState, versionNumber, replyLayout, replyBytes, valueAt};
 ghost use Rattle.replies.specs.declared.Reply.the-variants.{State};
-ghost use Rattle.replies.specs.Reading.{isNak, valueRead, hasParts, told, toldOf};
-use wishes::Layout;
+ghost use Rattle.replies.specs.Reading.{same, isNak, told, toldOf};
+use layouts::Layout;
 use wishes::StateFields;
 use wishes::Wish;
 
@@ -39,7 +40,7 @@ pub enum Reply {
 const NAME: u64 = 0x00_52_44_53_74_65_4E;
 
 // How many bytes the value has in a reply to a wish.
-fn width_of(w: Wish) -> usize
+fn width_of(w: Wish) -> u8
     ensures { λ r. ⌜ r ≡ awaited w .width ⌝ }
 {
     match w {
@@ -119,10 +120,10 @@ fn state_could(fields: StateFields, n: u64) -> bool
     n == 0x0280 + 65536 * fields.mode as u64
 }
 
-// A valid box could give the value n to the wish, whose own value was sent as `sent`: a set is answered with the value set,
-// but for a rate, which is achieved, and for idle, which keeps the mode.
-fn could_say(w: Wish, sent: u64, n: u64) -> bool
-    requires { ⌜ (allowed w ≡ true) × (sent ≡ asking w .value .value) × (awaited w .width ≤ 9) × (n < 256 ^ awaited w .width) ⌝ }
+// A valid box could give the value n to the wish: a set is answered with the value that was sent, but for a rate, which is
+// achieved, and for idle, which keeps the mode.
+fn could_say(w: Wish, n: u64) -> bool
+    requires { ⌜ (allowed w ≡ true) × (w ≡ Wish.AskFrequencyRange → ⊥) × (n < 256 ^ awaited w .width) ⌝ }
     ensures { λ r. ⌜ r ≡ awaited w .could n ⌝ }
 {
     match w {
@@ -139,7 +140,7 @@ fn could_say(w: Wish, sent: u64, n: u64) -> bool
         Wish::SetRate(hz) => n == rates::achieved(rates::nearest(hz)) as u64,
         Wish::AskRate => 0 < rates::d_of(n as u32),
         Wish::AskPacketSize => items::ranges::is_size(n as u8),
-        _ => n == sent,
+        _ => n == wishes::layout_of(w).value,
     }
 }
 
@@ -184,48 +185,54 @@ fn says(w: Wish, n: u64) -> Reply
     }
 }
 
-// The bytes have the length, header, item code and echo of a layout.
-fn has_parts(bytes: &[u8], a: Layout) -> bool
-    requires { ⌜ (a .echoed ≤ 1) × (a .width ≤ 31) ⌝ }
-    ensures { λ r. ⌜ r ≡ hasParts a (now (bytes .entry)) ⌝ }
-{
-    let total = 4 + a.echoed + a.width;
-    if bytes.len() != total {
-        return false;
-    }
-    if wire::number_at(bytes, 0, 2) != wire::header_of(a.kind, total as u16) as u64 {
-        return false;
-    }
-    if wire::number_at(bytes, 2, 2) != a.item as u64 {
-        return false;
-    }
-    wire::number_at(bytes, 4, a.echoed) == a.echo as u64
-}
-
-// A reply to a wish other than the one for the range, of which the value has at most eight bytes: a serial's ninth is zero,
-// and past every other value nothing is left.
-fn read_value(w: Wish, bytes: &[u8]) -> Reply
-    requires { ⌜ (allowed w ≡ true) × (awaited w .width ≤ 9) ⌝ }
-    ensures { λ r. ⌜ r ≡ valueRead w (now (bytes .entry)) ⌝ }
+// How the reply to a wish other than the one for the range is laid out that gives the value n.
+fn reply_layout(w: Wish, n: u64) -> Layout
+    requires { ⌜ (w ≡ Wish.AskFrequencyRange → ⊥) ⌝ }
+    ensures { λ r. ⌜ r ≡ replyLayout w n ⌝ }
 {
     let asked = wishes::layout_of(w);
-    let a = Layout {
+    Layout {
         kind: 0,
         item: asked.item,
         echoed: asked.echoed,
         echo: asked.echo,
         width: width_of(w),
-        value: 0,
-    };
-    if !has_parts(bytes, a) {
+        value: n,
+    }
+}
+
+// The bytes are the reply to the wish that gives the value n.
+fn gives(w: Wish, n: u64, bytes: &[u8]) -> bool
+    requires { ⌜ (w ≡ Wish.AskFrequencyRange → ⊥) ⌝ }
+    ensures { λ r. ⌜ r ≡ same (now (bytes .entry)) (replyBytes w n) ⌝ }
+{
+    let mut reply = [0u8; 16];
+    let size = layouts::put_message(&mut reply, reply_layout(w, n));
+    check::same(bytes, &reply[..size])
+}
+
+// The number that stands in the value's place, of which no reply but the one with the range has more than eight bytes: a
+// serial's ninth is zero.
+fn number_in(w: Wish, bytes: &[u8]) -> u64
+    ensures { λ r. ⌜ r ≡ field (valueAt w) 8 (now (bytes .entry)) ⌝ }
+{
+    let asked = wishes::layout_of(w);
+    if asked.echoed {
+        return wire::number_at(bytes, 5, 8);
+    }
+    wire::number_at(bytes, 4, 8)
+}
+
+// A reply to a wish other than the one for the range.
+fn read_value(w: Wish, bytes: &[u8]) -> Reply
+    requires { ⌜ (allowed w ≡ true) × (w ≡ Wish.AskFrequencyRange → ⊥) × (isNak (now bytes) ≡ false) ⌝ }
+    ensures { λ r. ⌜ told r ≡ toldOf w (now (bytes .entry)) ⌝ }
+{
+    let n = number_in(w, bytes);
+    if !gives(w, n, bytes) {
         return Reply::NotAReply;
     }
-    let at = 4 + asked.echoed;
-    if wire::number_at(bytes, at + 8, 1) != 0 {
-        return Reply::NotAReply;
-    }
-    let n = wire::number_at(bytes, at, 8);
-    if could_say(w, asked.value, n) {
+    if could_say(w, n) {
         return says(w, n);
     }
     Reply::NotAReply
@@ -233,7 +240,8 @@ fn read_value(w: Wish, bytes: &[u8]) -> Reply
 
 // The one reply to the wish for the range, with both bands.
 fn read_range(bytes: &[u8]) -> Reply
-    ensures { λ r. ⌜ r ≡ valueRead Wish.AskFrequencyRange (now (bytes .entry)) ⌝ }
+    requires { ⌜ isNak (now bytes) ≡ false ⌝ }
+    ensures { λ r. ⌜ told r ≡ toldOf Wish.AskFrequencyRange (now (bytes .entry)) ⌝ }
 {
     let mut range = [0u8; 36];
     wire::put(&mut range, 0, 2, wire::header_of(2, 36) as u64);

@@ -19,7 +19,7 @@ use Rattle.wishes.proofs.Wish.{the-type}
 use Rattle.wishes.specs.declared.StateFields.{StateFields}
 use Rattle.wishes.specs.declared.Wish.{Wish}
 use Rattle.wishes.specs.declared.Wish.the-variants.{AskName, AskSerial, AskInterface, AskVersion, AskStatus, SetState, AskState, SetFrequency, AskFrequency, AskFrequencyRange, SetGain, AskGain, SetClock, AskClock, SetRate, AskRate, SetPacketSize, AskPacketSize}
-use Rattle.wishes.specs.Wishes.{asking, allowed, stateNumber}
+use Rattle.wishes.specs.Wishes.{asking, layoutOf, allowed, stateNumber}
 
 -- a test splits
 pub by-test : {P : Type 0} (t : Bool) → (t ≡ true → P) → (t ≡ false → P) → P
@@ -60,7 +60,7 @@ state-has P idle wide narrow f =
     (one-has (λ (m : ℕ). P (record { run = 2; mode = m })) (f .mode) (0x80 ∷ 0x00 ∷ []) (wide, (narrow, tt)) (and-right (eqb (f .run) 2) (isMode (f .mode)) is)))
 
 -- an allowed value fits its field
-pub value-fits : (w : Wish) → allowed w ≡ true → asking w .value .value < 256 ^ asking w .value .width
+pub value-fits : (w : Wish) → allowed w ≡ true → asking w .value < 256 ^ layoutOf w .width
 value-fits AskName e = omega arith
 value-fits AskSerial e = omega arith
 value-fits AskInterface e = omega arith
@@ -81,10 +81,10 @@ value-fits (SetPacketSize n) e = omega (arith, leb-true n 1 e)
 value-fits AskPacketSize e = omega arith
 
 -- and so the box reads it back
-pub value-back : (w : Wish) → allowed w ≡ true → number (bytes (asking w .value .width) (asking w .value .value)) ≡ asking w .value .value
-value-back w e = number-bytes (asking w .value .width) (asking w .value .value) (value-fits w e)
+pub value-back : (w : Wish) → allowed w ≡ true → number (bytes (layoutOf w .width) (asking w .value)) ≡ asking w .value
+value-back w e = number-bytes (layoutOf w .width) (asking w .value) (value-fits w e)
 
-pub byte-back : (w : Wish) → allowed w ≡ true → asking w .value .width ≡ 1 → asking w .value .value % 256 ≡ asking w .value .value
+pub byte-back : (w : Wish) → allowed w ≡ true → layoutOf w .width ≡ 1 → asking w .value % 256 ≡ asking w .value
 byte-back w e one = mod-eq-of-lt (rw one at (value-fits w e))
 
 -- the wishes that hold no value, by their place in the enum, are always allowed

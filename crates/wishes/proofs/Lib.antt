@@ -1,5 +1,5 @@
 pub mod Gains
-pub mod Laying
+pub mod Rows
 pub mod Allowed
 pub mod Understood
 pub mod Answers

@@ -1,13 +1,12 @@
 -- What the harvester asks is what the box understands: the message of an allowed wish is refused only where the box is
 -- running and its row is locked, and a box that takes it has the settings that the wish means.
-use Prim.Native.Nat.{ℕ, _%_}
+use Prim.Native.Nat.{ℕ}
 use mathlib.Core.Path.{_≡_, refl, ap, _∙_}
 use mathlib.Core.Bool.{Bool, true, false, not, _&&_}
 use mathlib.Core.List.{[], _∷_}
-use native.Mathlib.Omega.{arith}
 use lib.Dec.{eqb}
-use borrow.Author.Tests.{leb-true}
 use Rattle.wire.specs.Choice.{pick, check, firstOf}
+use Rattle.wire.specs.Number.{number, bytes}
 use Rattle.wire.specs.Header.{typeSet}
 use Rattle.rates.specs.Rate.{nearestOf}
 use Rattle.items.specs.declared.Settings.{Settings}
@@ -17,6 +16,7 @@ use Rattle.items.specs.Answer.{codeOf, settingsAfter, valueAllowed, row, parame
 use Rattle.wishes.specs.declared.Wish.{Wish}
 use Rattle.wishes.specs.declared.Wish.the-variants.{AskName, AskSerial, AskInterface, AskVersion, AskStatus, SetState, AskState, SetFrequency, AskFrequency, AskFrequencyRange, SetGain, AskGain, SetClock, AskClock, SetRate, AskRate, SetPacketSize, AskPacketSize}
 use Rattle.wishes.specs.Wishes.{asking, allowed, granted, notNow, messageOf, asMessage}
+use Rattle.wishes.proofs.Rows.{of-row}
 use Rattle.wishes.proofs.Allowed.{state-has, value-back, byte-back}
 
 -- the value that the box reads in a wish's message is allowed
@@ -50,9 +50,7 @@ unfolding messageOf
 value-taken AskName e = refl
 value-taken AskSerial e = refl
 value-taken AskInterface e = refl
-value-taken (AskVersion id) e =
-    let same : id % 256 ≡ id = omega (arith, leb-true id 3 e) in
-    rw same e
+value-taken (AskVersion id) e = e
 value-taken AskStatus e = refl
 value-taken (SetState f) e = state-has (λ f. valueTaken (SetState f) ≡ true) (λ m. refl) refl refl f e
 value-taken AskState e = refl
@@ -75,24 +73,7 @@ code-of-wish w s e = checked w s ∙ rw (value-taken w e) refl
 -- the box finds the wish's row
 pub row-of-wish : (w : Wish) → row (asMessage w) ≡ asking w .item
 unfolding rowOf messageOf
-row-of-wish AskName = refl
-row-of-wish AskSerial = refl
-row-of-wish AskInterface = refl
-row-of-wish (AskVersion id) = refl
-row-of-wish AskStatus = refl
-row-of-wish (SetState f) = refl
-row-of-wish AskState = refl
-row-of-wish (SetFrequency hz) = refl
-row-of-wish AskFrequency = refl
-row-of-wish AskFrequencyRange = refl
-row-of-wish (SetGain g) = refl
-row-of-wish AskGain = refl
-row-of-wish (SetClock hz) = refl
-row-of-wish AskClock = refl
-row-of-wish (SetRate hz) = refl
-row-of-wish AskRate = refl
-row-of-wish (SetPacketSize n) = refl
-row-of-wish AskPacketSize = refl
+row-of-wish = of-row (λ i k. rowOf (number (bytes 2 (i .code))) ≡ i) refl refl refl refl refl refl refl refl refl refl refl refl refl refl refl refl refl refl
 
 -- the settings that a taken message leaves
 abbrev taken : Wish → Settings → Settings

@@ -1,52 +1,44 @@
 -- Harvester's wishes: "One wish for each kind and item above, channel byte 00."
-use Prim.Native.Nat.{ℕ, _-_}
+use Prim.Native.Nat.{ℕ, _+_, _-_}
 use mathlib.Core.Bool.{Bool, true, false, _&&_, _||_}
 use mathlib.Core.List.{List, [], _∷_, _++_}
 use lib.Dec.{eqb, leb}
 use lib.ListN.{length, replicate}
 use Rattle.wire.specs.Choice.{pick}
-use Rattle.wire.specs.Number.{bytes, number}
+use Rattle.wire.specs.Number.{number}
 use Rattle.wire.specs.Signed.{coded}
 use Rattle.wire.specs.Header.{typeSet, typeRequest, typeRange}
 use Rattle.rates.specs.Rate.{mayAsk, nearestOf}
 use Rattle.tuning.specs.Bands.{inBands}
 use Rattle.tuning.specs.Word.{isClock}
+use Rattle.layouts.specs.declared.Layout.{Layout}
+use Rattle.layouts.specs.Layouts.{parametersOf, laid}
 use Rattle.items.specs.declared.Settings.{Settings}
 use Rattle.items.specs.Settings.{isGain, isMode, isSize, withFrequency, withCount, withClock, withDivisor, withRunning, withMode, withGain, withSize}
-use Rattle.items.specs.Items.{Item, name, serial, interface, versions, status, state, frequency, gain, clock, rate, packetSize, idle, run}
-use Rattle.items.specs.Answer.{Message, framed, refusedRunning}
+use Rattle.items.specs.Items.{Offer, total, dash, Item, name, serial, interface, versions, status, state, frequency, gain, clock, rate, packetSize, idle, run}
+use Rattle.items.specs.Table.{offered}
+use Rattle.items.specs.Answer.{Message, refusedRunning}
 use Rattle.wishes.specs.declared.StateFields.{StateFields}
-use Rattle.wishes.specs.declared.Layout.{Layout}
 use Rattle.wishes.specs.declared.Wish.{Wish}
 use Rattle.wishes.specs.declared.Wish.the-variants.{AskName, AskSerial, AskInterface, AskVersion, AskStatus, SetState, AskState, SetFrequency, AskFrequency, AskFrequencyRange, SetGain, AskGain, SetClock, AskClock, SetRate, AskRate, SetPacketSize, AskPacketSize}
 
--- a number in so many bytes
-pub record Field : Type 0 where
-  pub width : ℕ
-  pub value : ℕ
-
-abbrev pub nothing : Field
-nothing = record { width = 0; value = 0 }
-
-abbrev pub inBytes : ℕ → ℕ → Field
-inBytes n v = record { width = n; value = v }
-
--- What a wish asks for: an item of the table, the kind, the channel byte or id that the reply echoes, and the value.
+-- What a wish asks for: an item of the table, the kind, the channel byte or id, which comes first where the item has one,
+-- and the value.
 pub record Asking : Type 0 where
   pub item : Item
   pub kind : ℕ
-  pub echo : Field
-  pub value : Field
+  pub echo : ℕ
+  pub value : ℕ
 
 -- "channel byte 00"
-abbrev pub channel : Field
-channel = inBytes 1 0x00
+abbrev pub channel : ℕ
+channel = 0x00
 
-abbrev pub request : Item → Field → Asking
-request item echo = record { item = item; kind = typeRequest; echo = echo; value = nothing }
+abbrev pub request : Item → Asking
+request item = record { item = item; kind = typeRequest; echo = channel; value = 0 }
 
-abbrev pub setting : Item → Field → Field → Asking
-setting item echo value = record { item = item; kind = typeSet; echo = echo; value = value }
+abbrev pub setting : Item → ℕ → Asking
+setting item value = record { item = item; kind = typeSet; echo = channel; value = value }
 
 -- "Idle is sent as 00 01 00 00, run as 80 02, mode, 00."
 abbrev pub stateBytes : StateFields → List ℕ
@@ -59,43 +51,41 @@ stateNumber f = number (stateBytes f)
 
 -- The table of wishes, over the table of items.
 abbrev pub asking : Wish → Asking
-asking AskName = request name nothing
-asking AskSerial = request serial nothing
-asking AskInterface = request interface nothing
-asking (AskVersion id) = request versions (inBytes 1 id)
-asking AskStatus = request status nothing
-asking (SetState f) = setting state nothing (inBytes 4 (stateNumber f))
-asking AskState = request state nothing
-asking (SetFrequency hz) = setting frequency channel (inBytes 5 hz)
-asking AskFrequency = request frequency channel
-asking AskFrequencyRange = record { item = frequency; kind = typeRange; echo = channel; value = nothing }
-asking (SetGain g) = setting gain channel (inBytes 1 (coded 8 g))
-asking AskGain = request gain channel
-asking (SetClock hz) = setting clock channel (inBytes 4 hz)
-asking AskClock = request clock channel
-asking (SetRate hz) = setting rate channel (inBytes 4 hz)
-asking AskRate = request rate channel
-asking (SetPacketSize n) = setting packetSize nothing (inBytes 1 n)
-asking AskPacketSize = request packetSize nothing
+asking AskName = request name
+asking AskSerial = request serial
+asking AskInterface = request interface
+asking (AskVersion id) = record { item = versions; kind = typeRequest; echo = id; value = 0 }
+asking AskStatus = request status
+asking (SetState f) = setting state (stateNumber f)
+asking AskState = request state
+asking (SetFrequency hz) = setting frequency hz
+asking AskFrequency = request frequency
+asking AskFrequencyRange = record { item = frequency; kind = typeRange; echo = channel; value = 0 }
+asking (SetGain g) = setting gain (coded 8 g)
+asking AskGain = request gain
+asking (SetClock hz) = setting clock hz
+asking AskClock = request clock
+asking (SetRate hz) = setting rate hz
+asking AskRate = request rate
+asking (SetPacketSize n) = setting packetSize n
+asking AskPacketSize = request packetSize
 
--- the row in the numbers of the code
+-- "Lengths are totals": header and item code are four bytes, then comes the echoed byte, and the rest is the value
+abbrev pub widthIn : Item → Offer → ℕ
+widthIn i (total n) = n - (4 + i .echoed)
+widthIn i dash = 0
+
+-- the row as it is laid out
 abbrev pub layoutOf : Wish → Layout
 layoutOf w =
     record {
       kind = asking w .kind;
       item = asking w .item .code;
-      echoed = asking w .echo .width;
-      echo = asking w .echo .value;
-      width = asking w .value .width;
-      value = asking w .value .value;
+      echoed = eqb (asking w .item .echoed) 1;
+      echo = asking w .echo;
+      width = widthIn (asking w .item) (offered (asking w .item) (asking w .kind));
+      value = asking w .value;
     }
-
--- "Control messages have a 16-bit item code after the header, then parameters."
-abbrev pub parametersOf : Layout → List ℕ
-parametersOf a = bytes (a .echoed) (a .echo) ++ bytes (a .width) (a .value)
-
-abbrev pub laid : Layout → List ℕ
-laid a = framed (a .kind) (bytes 2 (a .item) ++ parametersOf a)
 
 unfoldable pub messageOf : Wish → List ℕ
 messageOf w = laid (layoutOf w)

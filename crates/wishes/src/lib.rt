@@ -1,11 +1,11 @@
 // Harvester's wishes of document 01: what the harvester can ask of a box, and the messages that ask it.
 ghost use mathlib.Core.Path.{_≡_};
-ghost use Prim.Native.Nat.{_≤_};
 ghost use lib.ListN.{length};
 ghost use lib.Seq.{sets};
 ghost use Rattle.wire.specs.Signed.{coded};
-ghost use Rattle.wishes.specs.Wishes.{layoutOf, stateNumber, laid, allowed, mayWishState};
+ghost use Rattle.wishes.specs.Wishes.{layoutOf, stateNumber, allowed, mayWishState};
 ghost use Rattle.wishes.specs.Writing.{told, toldOf, bytesWritten};
+use layouts::Layout;
 
 // The state that is wished for: its run byte, 1 for idle or 2 for run, and its capture mode, which idle does not look at.
 pub struct StateFields {
@@ -43,17 +43,6 @@ pub enum Written {
     Short,
 }
 
-// How a wish is laid out in its message: the kind, the item's code, then the channel byte or id that the reply echoes,
-// a number in `echoed` bytes, and the value, a number in `width` bytes.
-pub struct Layout {
-    pub kind: u8,
-    pub item: u16,
-    pub echoed: usize,
-    pub echo: u8,
-    pub width: usize,
-    pub value: u64,
-}
-
 // The bits of a gain's signed byte.
 fn gain_byte(g: i8) -> u8
     ensures { λ r. ⌜ r ≡ coded 8 g ⌝ }
@@ -72,7 +61,7 @@ fn state_number(fields: StateFields) -> u64
 }
 
 // A request has no value.
-fn request(item: u16, echoed: usize, echo: u8) -> Layout
+fn request(item: u16, echoed: bool, echo: u8) -> Layout
     ensures { λ r. ⌜ r ≡ record { kind = 1; item = item; echoed = echoed; echo = echo; width = 0; value = 0 } ⌝ }
 {
     Layout {
@@ -86,7 +75,7 @@ fn request(item: u16, echoed: usize, echo: u8) -> Layout
 }
 
 // A set has "channel byte 00", where it has one.
-fn setting(item: u16, echoed: usize, width: usize, value: u64) -> Layout
+fn setting(item: u16, echoed: bool, width: u8, value: u64) -> Layout
     ensures { λ r. ⌜ r ≡ record { kind = 0; item = item; echoed = echoed; echo = 0; width = width; value = value } ⌝ }
 {
     Layout {
@@ -99,51 +88,37 @@ fn setting(item: u16, echoed: usize, width: usize, value: u64) -> Layout
     }
 }
 
-// The table of wishes.
+// The table of wishes: how each is laid out in its message.
 pub fn layout_of(w: Wish) -> Layout
     ensures { λ r. ⌜ r ≡ layoutOf w ⌝ }
 {
     match w {
-        Wish::AskName => request(0x0001, 0, 0),
-        Wish::AskSerial => request(0x0002, 0, 0),
-        Wish::AskInterface => request(0x0003, 0, 0),
-        Wish::AskVersion(id) => request(0x0004, 1, id),
-        Wish::AskStatus => request(0x0005, 0, 0),
-        Wish::SetState(fields) => setting(0x0018, 0, 4, state_number(fields)),
-        Wish::AskState => request(0x0018, 0, 0),
-        Wish::SetFrequency(hz) => setting(0x0020, 1, 5, hz),
-        Wish::AskFrequency => request(0x0020, 1, 0),
+        Wish::AskName => request(0x0001, false, 0),
+        Wish::AskSerial => request(0x0002, false, 0),
+        Wish::AskInterface => request(0x0003, false, 0),
+        Wish::AskVersion(id) => request(0x0004, true, id),
+        Wish::AskStatus => request(0x0005, false, 0),
+        Wish::SetState(fields) => setting(0x0018, false, 4, state_number(fields)),
+        Wish::AskState => request(0x0018, false, 0),
+        Wish::SetFrequency(hz) => setting(0x0020, true, 5, hz),
+        Wish::AskFrequency => request(0x0020, true, 0),
         Wish::AskFrequencyRange => Layout {
             kind: 2,
             item: 0x0020,
-            echoed: 1,
+            echoed: true,
             echo: 0,
             width: 0,
             value: 0,
         },
-        Wish::SetGain(g) => setting(0x0038, 1, 1, gain_byte(g) as u64),
-        Wish::AskGain => request(0x0038, 1, 0),
-        Wish::SetClock(hz) => setting(0x00B0, 1, 4, hz as u64),
-        Wish::AskClock => request(0x00B0, 1, 0),
-        Wish::SetRate(hz) => setting(0x00B8, 1, 4, hz as u64),
-        Wish::AskRate => request(0x00B8, 1, 0),
-        Wish::SetPacketSize(n) => setting(0x00C4, 0, 1, n as u64),
-        Wish::AskPacketSize => request(0x00C4, 0, 0),
+        Wish::SetGain(g) => setting(0x0038, true, 1, gain_byte(g) as u64),
+        Wish::AskGain => request(0x0038, true, 0),
+        Wish::SetClock(hz) => setting(0x00B0, true, 4, hz as u64),
+        Wish::AskClock => request(0x00B0, true, 0),
+        Wish::SetRate(hz) => setting(0x00B8, true, 4, hz as u64),
+        Wish::AskRate => request(0x00B8, true, 0),
+        Wish::SetPacketSize(n) => setting(0x00C4, false, 1, n as u64),
+        Wish::AskPacketSize => request(0x00C4, false, 0),
     }
-}
-
-// Writes a message as it is laid out, at the start of the buffer, and says how long it is.
-fn put_message(buffer: &mut [u8], a: Layout) -> usize
-    requires { ⌜ (a .echoed ≤ 1) × (a .width ≤ 5) ⌝ }
-    ensures { λ r. ⌜ (r ≡ length (laid a)) × (now (buffer .exit) ≡ sets (now (buffer .entry)) 0 (laid a)) ⌝ }
-{
-    let value_at = 4 + a.echoed;
-    let total = value_at + a.width;
-    wire::put(buffer, 0, 2, wire::header_of(a.kind, total as u16) as u64);
-    wire::put(buffer, 2, 2, a.item as u64);
-    wire::put(buffer, 4, a.echoed, a.echo as u64);
-    wire::put(buffer, value_at, a.width, a.value);
-    total
 }
 
 // The box takes the state: idle always, run in one of the two modes.
@@ -184,5 +159,5 @@ pub fn write(w: Wish, buffer: &mut [u8]) -> Written
     if buffer.len() < 16 {
         return Written::Short;
     }
-    Written::Message(put_message(buffer, layout_of(w)))
+    Written::Message(layouts::put_message(buffer, layout_of(w)))
 }

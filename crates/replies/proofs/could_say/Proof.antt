@@ -2,6 +2,7 @@
 use mathlib.Core.Path.{refl, ap, _∙_}
 use lib.Dec.{eqb, ltb}
 use borrow.Author.Needs.{needs}
+use Rattle.layouts.specs.declared.Layout.{Layout}
 use Rattle.items.proofs.Keys.{matched}
 use Rattle.replies.proofs.Tags.{echoed, echoes}
 use Rattle.replies.proofs.Recognised.{rate-achieved}
@@ -54,7 +55,7 @@ enum-told-7 : tie.Need-enum-told-7
 enum-told-7 c = search needs
 
 cast-is-gain : tie.Need-cast-is-gain
-cast-is-gain c = record { fits = rw (c .enum-told7 .given .1) at (c .before .before .pre .3) }
+cast-is-gain c = record { fits = rw (c .enum-told7 .given .1) at (c .before .before .pre .2) }
 
 is-gain-requires : tie.Need-is-gain-requires
 is-gain-requires c κs = search needs
@@ -63,7 +64,7 @@ enum-told-8 : tie.Need-enum-told-8
 enum-told-8 c = search needs
 
 cast-is-clock : tie.Need-cast-is-clock
-cast-is-clock c = record { fits = rw (c .enum-told8 .given .1) at (c .before .before .pre .3) }
+cast-is-clock c = record { fits = rw (c .enum-told8 .given .1) at (c .before .before .pre .2) }
 
 is-clock-requires : tie.Need-is-clock-requires
 is-clock-requires c κs = search needs
@@ -84,7 +85,7 @@ enum-told-9 : tie.Need-enum-told-9
 enum-told-9 c = search needs
 
 cast-d-of : tie.Need-cast-d-of
-cast-d-of c = record { fits = rw (c .enum-told9 .given .1) at (c .before .before .pre .3) }
+cast-d-of c = record { fits = rw (c .enum-told9 .given .1) at (c .before .before .pre .2) }
 
 d-of-requires : tie.Need-d-of-requires
 d-of-requires c κs = search needs
@@ -93,10 +94,13 @@ enum-told-10 : tie.Need-enum-told-10
 enum-told-10 c = search needs
 
 cast-is-size : tie.Need-cast-is-size
-cast-is-size c = record { fits = rw (c .enum-told10 .given .1) at (c .before .before .pre .3) }
+cast-is-size c = record { fits = rw (c .enum-told10 .given .1) at (c .before .before .pre .2) }
 
 is-size-requires : tie.Need-is-size-requires
 is-size-requires c κs = search needs
+
+layout-of-requires : tie.Need-layout-of-requires
+layout-of-requires c κs = search needs
 
 returns : tie.Need-returns
 returns c = rw (c .enum-told .given .1)
@@ -144,8 +148,9 @@ returns-13 c = rw (c .before .enum-told10 .given .1) (c .is-size .ensures)
 returns-14 : tie.Need-returns-14
 unfolding echoed
 returns-14 c =
-    let start = c .before in
-    ap (eqb (start .args .n)) (start .pre .1) ∙ echoes (start .args .w) (start .args .n) (matched echoed echoed _ refl (c .match .keys14)) (start .pre .2)
+    let start = c .before .before .before in
+    ap (λ (a : Layout). eqb (start .args .n) (a .value)) (c .before .layout-of .ensures)
+    ∙ echoes (start .args .w) (start .args .n) (matched echoed echoed _ refl (c .before .before .match .keys14)) (start .pre .1)
 
 pub could-say-spec : {M : Type 1} → statement M
 could-say-spec =
@@ -181,6 +186,7 @@ could-say-spec =
     enum-told-10
     cast-is-size
     is-size-requires
+    layout-of-requires
     returns
     returns-2
     returns-3

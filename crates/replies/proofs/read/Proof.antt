@@ -6,9 +6,9 @@ use borrow.Author.Tests.{not-true, not-false}
 use Rattle.items.proofs.Keys.{matched}
 use Rattle.wishes.specs.declared.Wish.{Wish}
 use Rattle.wishes.specs.Wishes.{allowed}
-use Rattle.replies.specs.Reading.{isNak, valueRead}
-use Rattle.replies.proofs.Tags.{unranged, unranged-short}
-use Rattle.replies.proofs.Answers.{read-refused, read-nak, read-value}
+use Rattle.replies.specs.Reading.{isNak, toldOf}
+use Rattle.replies.proofs.Tags.{unranged, not-range}
+use Rattle.replies.proofs.Answers.{read-refused, read-nak}
 use Rattle.replies.proofs.read.Statement.{statement}
 use Rattle.replies.proofs.read.Tie as tie
 
@@ -38,25 +38,20 @@ enum-told : tie.Need-enum-told
 enum-told c = search needs
 
 read-range-requires : tie.Need-read-range-requires
-read-range-requires c κs = search needs
+read-range-requires c κs = no-nak (c .before .before)
 
 returns-3 : tie.Need-returns-3
 returns-3 c =
-    let m = c .before .before .before in
-    let a = m .before .before .before .before .before .args in
-    read-value (a .w) (a .bytes .now) _ (allowed-here (m .before .before)) (no-nak m)
-    (c .read-range .ensures ∙ ap (λ (w : Wish). valueRead w (a .bytes .now)) (sym (c .before .enum-told .given .1)))
+    let a = c .before .before .before .before .before .before .before .before .args in
+    c .read-range .ensures ∙ ap (λ (w : Wish). toldOf w (a .bytes .now)) (sym (c .before .enum-told .given .1))
 
 read-value-requires : tie.Need-read-value-requires
 unfolding unranged
 read-value-requires c κs =
-    (allowed-here (c .before .before .before), unranged-short (c .before .before .before .before .before .before .args .w) (matched unranged unranged _ refl (c .match .keys2)))
+    (allowed-here (c .before .before .before), not-range (c .before .before .before .before .before .before .args .w) (matched unranged unranged _ refl (c .match .keys2)), no-nak (c .before))
 
 returns-4 : tie.Need-returns-4
-returns-4 c =
-    let m = c .before .before in
-    let a = m .before .before .before .before .before .args in
-    read-value (a .w) (a .bytes .now) _ (allowed-here (m .before .before)) (no-nak m) (c .read-value .ensures)
+returns-4 c = c .read-value .ensures
 
 pub read-spec : {M : Type 1} → statement M
 read-spec =

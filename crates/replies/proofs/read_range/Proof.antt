@@ -1,16 +1,15 @@
 -- The one reply is written and compared.
-use mathlib.Core.Path.{_≡_}
+use mathlib.Core.Path.{_≡_, refl, _∙_}
 use borrow.Author.Needs.{needs}
-use Rattle.wire.specs.Choice.{pick}
 use Rattle.wishes.specs.declared.Wish.the-variants.{AskFrequencyRange}
-use Rattle.replies.specs.declared.Reply.the-variants.{FrequencyRange, NotAReply}
-use Rattle.replies.specs.Reading.{valueRead}
+use Rattle.replies.specs.Reading.{isReply}
 use Rattle.replies.proofs.Recognised.{range-written, range-read}
+use Rattle.replies.proofs.Answers.{read-none, read-reply}
 use Rattle.replies.proofs.read_range.Statement.{statement}
 use Rattle.replies.proofs.read_range.Tie as tie
 
 whole : (c : tie.After-same) → (let bytes = c .before .before .before .before .before .before .before .before .before .before .before .before .before .args .bytes .now in
-    pick (c .same .result) FrequencyRange NotAReply ≡ valueRead AskFrequencyRange bytes)
+    isReply AskFrequencyRange bytes ≡ c .same .result)
 whole c =
     let bands = c .before .before .before in
     let code = bands .before .before .before in
@@ -49,10 +48,14 @@ same-requires : tie.Need-same-requires
 same-requires c κs = search needs
 
 returns : tie.Need-returns
-returns c = (rw (c .if1 .taken) at (whole (c .before)))
+returns c =
+    let a = c .before .before .before .before .before .before .before .before .before .before .before .before .before .before in
+    read-reply AskFrequencyRange (a .args .bytes .now) refl (a .pre) _ (whole (c .before) ∙ c .if1 .taken) refl
 
 returns-2 : tie.Need-returns-2
-returns-2 c = (rw (c .if1 .left) at (whole (c .before)))
+returns-2 c =
+    let a = c .before .before .before .before .before .before .before .before .before .before .before .before .before .before in
+    read-none AskFrequencyRange (a .args .bytes .now) refl (a .pre) (whole (c .before) ∙ c .if1 .left)
 
 pub read-range-spec : {M : Type 1} → statement M
 read-range-spec =

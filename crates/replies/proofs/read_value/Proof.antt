@@ -1,152 +1,97 @@
--- Parts, ninth byte and value are tested one after the other; what passes is the reply with its value.
-use Prim.Native.Nat.{_+_, _^_, _≤_, _<_}
+-- Bytes that are not the reply with the number in them are none; those that are, are a reply if a box could give it.
+use Prim.Native.Nat.{ℕ, _^_, _<_}
 use mathlib.Core.Path.{_≡_, sym, ap, _∙_}
 use mathlib.Core.Bool.{true}
 use native.Mathlib.Omega.{arith}
+use denote.Ref.{now}
 use borrow.Author.Needs.{needs}
 use borrow.Author.Tests.{not-true, not-false}
 use Rattle.wire.specs.Number.{field}
-use Rattle.wishes.specs.declared.Layout.{Layout}
-use Rattle.wishes.specs.Wishes.{asking}
-use Rattle.wishes.proofs.Laying.{short-layout}
-use Rattle.replies.specs.Awaited.{awaited, replyLayout}
-use Rattle.replies.specs.Reading.{hasParts}
-use Rattle.replies.proofs.Layouts.{AreBytes}
-use Rattle.replies.proofs.Values.{reply-layout-is, value-not-laid, value-ninth, value-fits-width, value-told, value-not-could}
+use Rattle.replies.specs.Awaited.{awaited, replyBytes, valueAt, numberIn}
+use Rattle.replies.specs.Reading.{same, isReply, told}
+use Rattle.replies.proofs.Answers.{read-none, read-reply}
+use Rattle.replies.proofs.Values.{word-in, word-fits, not-given, given-could}
 use Rattle.replies.proofs.read_value.Statement.{statement}
 use Rattle.replies.proofs.read_value.Tie as tie
 
-tested : (c : tie.After-has-parts)
-    → (let a = c .before .before .before .before .args in
-    c .has-parts .result ≡ hasParts (replyLayout (a .w) 0) (a .bytes .now))
+-- what `gives` tested
+tested : (c : tie.After-gives)
+    → (let a = c .before .before .before .args in
+    c .gives .result ≡ same (now (a .bytes)) (replyBytes (a .w) (field (valueAt (a .w)) 8 (now (a .bytes)))))
 tested c =
-    let a = c .before .before .before .before in
-    c .has-parts .ensures
-    ∙ ap (λ (l : Layout). hasParts l (a .args .bytes .now))
-    (reply-layout-is (a .args .w) _ _ (a .pre .1) (c .before .before .layout-of .ensures) (c .before .width-of .ensures))
+    let a = c .before .before .before .args in
+    c .gives .ensures ∙ ap (λ (n : ℕ). same (now (a .bytes)) (replyBytes (a .w) n)) (c .before .number-in .ensures)
 
-parted : (c : tie.Else1)
-    → (let a = c .before .before .before .before .before .args in
-    hasParts (replyLayout (a .w) 0) (a .bytes .now) ≡ true)
-parted c = sym (tested (c .before)) ∙ not-false (c .before .has-parts .result) (c .if1 .left)
+small : (c : tie.After-number-in)
+    → (let a = c .before .before .args in
+    field (valueAt (a .w)) 8 (now (a .bytes)) < 256 ^ 8)
+small c = rw (← c .number-in .ensures) (omega (arith, c .number-in .ok))
 
-ninth : (c : tie.After-number-at)
-    → (let a = c .before .before .before .before .before .before .before .args in
-    c .number-at .result ≡ field (4 + asking (a .w) .echo .width + 8) 1 (a .bytes .now))
-ninth c =
-    let l = c .before .before .before .before .before in
-    let a = l .before .before .args in
-    c .number-at .ensures ∙ ap (λ (m : Layout). field (4 + m .echoed + 8) 1 (a .bytes .now)) (l .layout-of .ensures)
+-- where it held
+given : (c : tie.Else1)
+    → (let a = c .before .before .before .before .args in
+    same (now (a .bytes)) (replyBytes (a .w) (field (valueAt (a .w)) 8 (now (a .bytes)))) ≡ true)
+given c = sym (tested (c .before)) ∙ not-false (c .before .gives .result) (c .if1 .left)
 
-word : (c : tie.After-number-at2)
-    → (let a = c .before .before .before .before .before .before .before .before .before .args in
-    c .number-at2 .result ≡ field (4 + asking (a .w) .echo .width) 8 (a .bytes .now))
+word : (c : tie.Else1)
+    → (let a = c .before .before .before .before .args in
+    numberIn (a .w) (now (a .bytes)) ≡ field (valueAt (a .w)) 8 (now (a .bytes)))
 word c =
-    let l = c .before .before .before .before .before .before .before in
-    let a = l .before .before .args in
-    c .number-at2 .ensures ∙ ap (λ (m : Layout). field (4 + m .echoed) 8 (a .bytes .now)) (l .layout-of .ensures)
+    let a = c .before .before .before .before in
+    word-in (a .args .w) (now (a .args .bytes)) (a .pre .1) (given c) (small (c .before .before))
 
-few : (c : tie.After-layout-of) → c .layout-of .result .echoed ≤ 1
-few c = omega (arith, short-layout (c .before .before .args .w) .0, ap (λ (m : Layout). m .echoed) (c .layout-of .ensures))
-
-are : (c : tie.After-shared-slice-known) → AreBytes (c .before .args .bytes .now)
-are c k = omega (arith, c .shared-slice-known .given k)
-
-none : (c : tie.Else2)
-    → (let a = c .before .before .before .before .before .before .before .before .args in
-    field (4 + asking (a .w) .echo .width + 8) 1 (a .bytes .now) ≡ 0)
-none c = sym (ninth (c .before)) ∙ c .if2 .left
-
-fitting : (c : tie.After-number-at2)
-    → (let a = c .before .before .before .before .before .before .before .before .before .args in
-    c .number-at2 .result < 256 ^ awaited (a .w) .width)
+fitting : (c : tie.Else1) → c .before .before .number-in .result < 256 ^ awaited (c .before .before .before .before .args .w) .width
 fitting c =
-    let p = c .before .before .before .before in
-    let known = p .before .before .before .before in
-    let a = known .before in
-    rw (word c)
-    (value-fits-width (a .args .w) (a .args .bytes .now) (a .pre .0) (a .pre .1) (parted p) (are known) (none (c .before)))
+    let a = c .before .before .before .before in
+    rw (c .before .before .number-in .ensures) (word-fits (a .args .w) (now (a .args .bytes)) (a .pre .1) (given c) (small (c .before .before)))
 
+-- the bytes are a reply where the box could say so
 could : (c : tie.After-could-say)
-    → (let a = c .before .before .before .before .before .before .before .before .before .before .args in
-    awaited (a .w) .could (field (4 + asking (a .w) .echo .width) 8 (a .bytes .now)) ≡ c .could-say .result)
+    → (let a = c .before .before .before .before .before .args in
+    isReply (a .w) (now (a .bytes)) ≡ c .could-say .result)
 could c =
-    let a = c .before .before .before .before .before .before .before .before .before .before in
-    sym (c .could-say .ensures ∙ ap (awaited (a .args .w) .could) (word (c .before)))
+    let a = c .before .before .before .before .before in
+    given-could (a .args .w) (now (a .args .bytes)) (a .pre .1) (c .could-say .result) (given (c .before)) (word (c .before))
+    (sym (c .could-say .ensures ∙ ap (awaited (a .args .w) .could) (c .before .before .before .number-in .ensures)))
 
-layout-of-requires : tie.Need-layout-of-requires
-layout-of-requires c κs = search needs
+number-in-requires : tie.Need-number-in-requires
+number-in-requires c κs = search needs
 
-width-of-requires : tie.Need-width-of-requires
-width-of-requires c κs = search needs
-
-has-parts-requires : tie.Need-has-parts-requires
-has-parts-requires c κs = (few (c .before), omega (arith, c .width-of .ensures, c .before .before .before .pre .1))
+gives-requires : tie.Need-gives-requires
+gives-requires c κs = c .before .before .pre .1
 
 returns : tie.Need-returns
 returns c =
-    let a = c .before .before .before .before .before in
-    value-not-laid (a .args .w) (a .args .bytes .now) (a .pre .0) (sym (tested (c .before)) ∙ not-true (c .before .has-parts .result) (c .if1 .taken))
-
-add-at : tie.Need-add-at
-add-at c = omega (arith, few (c .before .before .before .before))
-
-add-number-at : tie.Need-add-number-at
-add-number-at c = omega (arith, few (c .before .before .before .before))
-
-number-at-requires : tie.Need-number-at-requires
-number-at-requires c κs = search needs
-
-returns-2 : tie.Need-returns-2
-returns-2 c =
-    let p = c .before .before .before in
-    let a = p .before .before .before .before .before in
-    value-ninth (a .args .w) (a .args .bytes .now) (a .pre .0) (a .pre .1) (parted p) (λ z. c .if2 .taken (ninth (c .before) ∙ z))
-
-number-at-requires-2 : tie.Need-number-at-requires-2
-number-at-requires-2 c κs = search needs
+    let a = c .before .before .before .before in
+    read-none (a .args .w) (now (a .args .bytes)) (a .pre .0) (a .pre .2)
+    (not-given (a .args .w) (now (a .args .bytes)) (a .pre .1) (a .pre .0) (sym (tested (c .before)) ∙ not-true (c .before .gives .result) (c .if1 .taken)))
 
 could-say-requires : tie.Need-could-say-requires
-could-say-requires c κs =
-    let l = c .before .before .before .before .before .before .before in
-    let a = l .before .before in
-    (a .pre .0, ap (λ (m : Layout). m .value) (l .layout-of .ensures), a .pre .1, fitting c)
+could-say-requires c κs = let a = c .before .before .before .before in (a .pre .0, a .pre .1, fitting c)
 
 says-requires : tie.Need-says-requires
 says-requires c κs = fitting (c .before .before)
 
+returns-2 : tie.Need-returns-2
+returns-2 c =
+    let e = c .before .before .before in
+    let a = e .before .before .before .before in
+    ap told (c .says .ensures)
+    ∙ read-reply (a .args .w) (now (a .args .bytes)) (a .pre .0) (a .pre .2) _ (could (c .before .before) ∙ c .before .if2 .taken) (word e ∙ sym (e .before .before .number-in .ensures))
+
 returns-3 : tie.Need-returns-3
 returns-3 c =
-    let n = c .before .before .before in
-    let p = n .before .before .before .before in
-    let known = p .before .before .before .before in
-    let a = known .before in
-    c .says .ensures
-    ∙ ap (awaited (a .args .w) .says) (word n)
-    ∙ value-told (a .args .w) (a .args .bytes .now) (a .pre .0) (a .pre .1) (parted p) (are known) (none (n .before)) (could (c .before .before) ∙ c .before .if3 .taken)
-
-returns-4 : tie.Need-returns-4
-returns-4 c =
-    let n = c .before .before in
-    let p = n .before .before .before .before in
-    let known = p .before .before .before .before in
-    let a = known .before in
-    value-not-could (a .args .w) (a .args .bytes .now) (a .pre .0) (a .pre .1) (parted p) (are known) (none (n .before)) (could (c .before) ∙ c .if3 .left)
+    let a = c .before .before .before .before .before .before in
+    read-none (a .args .w) (now (a .args .bytes)) (a .pre .0) (a .pre .2) (could (c .before) ∙ c .if2 .left)
 
 pub read-value-spec : {M : Type 1} → statement M
 read-value-spec =
     tie.close
     (tie.spec
-    layout-of-requires
-    width-of-requires
-    has-parts-requires
+    number-in-requires
+    gives-requires
     returns
-    add-at
-    add-number-at
-    number-at-requires
-    returns-2
-    number-at-requires-2
     could-say-requires
     says-requires
-    returns-3
-    returns-4)
+    returns-2
+    returns-3)

@@ -2,13 +2,14 @@
 use mathlib.Core.Path.{_≡_, sym, ap, _∙_}
 use mathlib.Core.Bool.{true, false}
 use lib.ListN.{length}
-use lib.Seq.{sets}
+use lib.Dec.{lit≤}
+use native.Mathlib.Nat.{le-trans}
 use borrow.Author.Needs.{needs}
 use borrow.Author.Tests.{not-true, not-false}
-use Rattle.wishes.specs.declared.Layout.{Layout}
-use Rattle.wishes.specs.Wishes.{allowed, laid, messageOf}
+use Rattle.wishes.specs.Wishes.{allowed, layoutOf, messageOf}
 use Rattle.wishes.specs.Writing.{bytesWritten}
-use Rattle.wishes.proofs.Laying.{short-layout}
+use Rattle.layouts.proofs.Writing.{written-whole}
+use Rattle.wishes.proofs.Rows.{short-message}
 use Rattle.wishes.proofs.Answers.{code-not-allowed, code-short, code-written}
 use Rattle.wishes.proofs.write.Statement.{statement}
 use Rattle.wishes.proofs.write.Tie as tie
@@ -40,7 +41,7 @@ layout-of-requires : tie.Need-layout-of-requires
 layout-of-requires c κs = search needs
 
 put-message-requires : tie.Need-put-message-requires
-put-message-requires c κs = rw (c .layout-of .ensures) (short-layout (c .before .before .before .before .before .before .args .w))
+put-message-requires c κs = search needs
 
 same-length : tie.Need-same-length
 same-length c = search needs
@@ -53,10 +54,9 @@ returns-3 c =
     let room = l .before .before in
     let a = room .before .before .before .before .args in
     let e = code-written (a .w) (length (a .buffer .now)) (taken (room .before)) (room .if2 .left) in
-    let same = l .layout-of .ensures in (
-      rw e (ap (λ n. record { code = 1; wrote = n }) (p .put-message .ensures .0 ∙ ap (λ (m : Layout). length (laid m)) same)),
-      rw e (p .put-message .ensures .1 ∙ ap (λ (m : Layout). sets (a .buffer .now) 0 (laid m)) same),
-    )
+    let put = rw (l .layout-of .ensures) at (p .put-message .ensures) in
+    let whole = written-whole (a .buffer .now) (layoutOf (a .w)) _ _ (le-trans (short-message (a .w)) (le-trans (lit≤ tt) (room .if2 .left))) put in
+    (rw e (ap (λ n. record { code = 1; wrote = n }) (whole .0)), rw e (whole .1))
 
 pub write-spec : {M : Type 1} → statement M
 write-spec =

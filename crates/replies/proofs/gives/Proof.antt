@@ -1,0 +1,64 @@
+-- The reply is written and compared.
+use Prim.Native.Nat.{_≤_}
+use mathlib.Core.Path.{sym, ap, subst, _∙_}
+use native.Mathlib.Omega.{arith}
+use lib.ListN.{length, replicate}
+use lib.Seq.{length-take-le}
+use denote.Ref.{now}
+use borrow.Author.Needs.{needs}
+use Rattle.layouts.specs.declared.Layout.{Layout}
+use Rattle.layouts.proofs.Writing.{Put}
+use Rattle.replies.specs.Awaited.{replyLayout}
+use Rattle.replies.specs.Reading.{same}
+use Rattle.replies.proofs.Same.{same-test}
+use Rattle.replies.proofs.Values.{written-few, written-reply}
+use Rattle.replies.proofs.gives.Statement.{statement}
+use Rattle.replies.proofs.gives.Tie as tie
+
+put : (c : tie.After-put-message)
+    → (let a = c .before .before .before .before .args in
+    Put (replicate 16 0) (replyLayout (a .w) (a .n)) (c .put-message .result) (c .put-message .last .0))
+put c =
+    subst (λ (a : Layout). Put (replicate 16 0) a (c .put-message .result) (c .put-message .last .0)) (c .before .reply-layout .ensures) (c .put-message .ensures)
+
+room : (c : tie.After-put-message) → c .put-message .result ≤ length (c .put-message .last .0)
+room c =
+    let a = c .before .before .before .before in
+    omega (arith, written-few (a .args .w) (a .args .n) (a .pre) _ _ (put c), c .put-message .kept .0)
+
+slice-aggregate-put-message : tie.Need-slice-aggregate-put-message
+slice-aggregate-put-message c = search needs
+
+reply-layout-requires : tie.Need-reply-layout-requires
+reply-layout-requires c κs = search needs
+
+put-message-requires : tie.Need-put-message-requires
+put-message-requires c κs = search needs
+
+array-share-prefix-reply : tie.Need-array-share-prefix-reply
+array-share-prefix-reply c = room (c .before)
+
+slice-aggregate-same : tie.Need-slice-aggregate-same
+slice-aggregate-same c = sym (length-take-le _ _ (room (c .before .before)))
+
+same-requires : tie.Need-same-requires
+same-requires c κs = search needs
+
+returns : tie.Need-returns
+returns c =
+    let p = c .before .before .before in
+    let a = p .before .before .before .before in
+    same-test (c .same .result) _ _ (c .same .ensures .0) (c .same .ensures .1)
+    ∙ ap (same (now (a .args .bytes))) (written-reply (a .args .w) (a .args .n) (a .pre) _ _ (put p))
+
+pub gives-spec : {M : Type 1} → statement M
+gives-spec =
+    tie.close
+    (tie.spec
+    slice-aggregate-put-message
+    reply-layout-requires
+    put-message-requires
+    array-share-prefix-reply
+    slice-aggregate-same
+    same-requires
+    returns)
