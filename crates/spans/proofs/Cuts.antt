@@ -1,38 +1,39 @@
 -- However the input is cut into pieces, the same is printed.
-use Prim.Native.Nat.{ℕ, zero, suc, _+_, _-_, _^_, _≤_, _<_, min}
+use Prim.Native.Nat.{ℕ, zero, suc, _+_, _-_, _≤_, _<_}
 use mathlib.Core.Path.{_≡_, refl, sym, ap, subst, _∙_}
-use mathlib.Core.Bool.{Bool, true, false, _&&_, not}
-use mathlib.Core.List.{List, [], _∷_, _++_, append-assoc, append-nil}
+use mathlib.Core.Bool.{Bool, true, false}
+use mathlib.Core.List.{List, [], _∷_, _++_, append-assoc}
 use native.Mathlib.Decide.{decLt, ℕ-discrete}
 use native.Mathlib.Omega.{arith}
 use lib.Dec.{eqb, ltb}
 use lib.ListN.{length, take, drop, length-append, length-drop, drop-of-length-le}
-use lib.Seq.{sets, length-sets, take-append-le, drop-append-le, take-append-add, drop-append-add, take-all, drop-length, length-take-le}
-use borrow.Author.Tests.{not-false, lt-ltb, le-ltb, eq-eqb, ne-eqb, ltb-true, ltb-false, eqb-true, eqb-false}
+use lib.Seq.{sets, length-sets, take-append-le, drop-append-le, take-append-add, drop-append-add, take-all, drop-length}
+use borrow.Author.Tests.{not-false, lt-ltb, le-ltb, ne-eqb, eqb-true}
 use Rattle.wire.specs.Choice.{pick}
-use Rattle.wire.proofs.Laws.{pick-keeps, true-not-false}
+use Rattle.wire.proofs.Laws.{true-not-false}
 use Rattle.wire.proofs.Stores.{sets-append}
 use Rattle.heads.specs.declared.Head.{Head}
 use Rattle.wire.specs.Number.{number, field}
 use Rattle.heads.specs.Head.{mark, version, headLength, formIn, allowed, headIn}
 use Rattle.heads.specs.Head.{readCode as headCode}
 use Rattle.heads.proofs.Codes.{codeBy, code-by}
-use Rattle.spans.specs.declared.Tally.{Tally}
-use Rattle.spans.specs.declared.Reach.{Reach}
+use Rattle.hearing.specs.declared.Tally.{Tally}
+use Rattle.hearing.specs.declared.Reach.{Reach}
 use Rattle.spans.specs.declared.Span.{Span}
-use Rattle.spans.specs.Lines.{Line, textOf, openingLine, refusalLine}
-use Rattle.spans.specs.Hearing.{accepting, reaching, goesOn}
-use Rattle.spans.specs.Eating.{freshSpan, farthest, validSpan, headOf, withTally, lacking, headTaken, headLines, headRead, heardLines, heardSpan, Eating, refused, silently, saying, opening, openingBy, listening, listeningBy, eatingOf, lastLines, finishingOf}
-use Rattle.spans.specs.Due.{Telling, telling}
+use Rattle.lines.specs.Lines.{Line, textOf, openingLine, refusalLine}
+use Rattle.hearing.specs.Hearing.{farthest, accepting, reaching}
+use Rattle.spans.specs.Eating.{freshSpan, headOf, withTally, lacking, headTaken, headLines, headRead, heardLines, heardSpan, Eating, silently, saying, opening, openingBy, listening, listeningBy, eatingOf, lastLines, finishingOf}
+use Rattle.lines.specs.Due.{Telling, telling}
 use Rattle.spans.specs.Pieces.{room, Handed, handing, handed, printedFrom, printed, joinedOf}
-use Rattle.spans.proofs.Dues.{text-append}
-use Rattle.spans.proofs.Heard.{Accepted, accepted, heard-small, sane-accepting}
-use Rattle.spans.proofs.Goings.{Is-due, reach-due}
+use Rattle.lines.proofs.Dues.{text-append}
+use Rattle.hearing.proofs.Heard.{accepted, heard-small, sane-accepting}
+use Rattle.hearing.proofs.Goings.{Is-due, reach-due}
 use Rattle.spans.proofs.Eats.{opening-waits, opening-says, listening-by, listening-waits, listening-says, eating-stopped, eating-head, eating-packets, finishing-stopped, finishing-says}
 use Rattle.spans.proofs.Rooms.{Short, head-room, heard-room, end-room}
 use Rattle.spans.proofs.Telling.{endLines, toldBy, reach-ahead, reach-used, told-on, told-first}
 use Rattle.spans.proofs.Within.{reach-within}
-use Rattle.spans.proofs.Going.{Counted, Going, fresh-going, going-valid, going-short, stopped-valid, passedBy, passed-reach, passed-accepting, counted-sane, sane-counted, reach-sane}
+use Rattle.spans.proofs.Going.{Counted, Going, fresh-going, going-valid, going-short, stopped-valid, passedBy, passed-reach, passed-accepting, counted-sane, sane-counted}
+use Rattle.hearing.proofs.Ranges.{reach-sane}
 
 -- ---- all lines of the bytes to come
 
@@ -168,6 +169,13 @@ module _ (s : Span) (used : ℕ) (b : ℕ) (bs rest : List ℕ) (goes : s .stopp
             ∙ sym (told-packets (withTally false s (accepting (r .tally))) (drop (r .at) piece ++ rest) refl whole))
         by false e = rw e (sym (told-stopped (withTally true s (r .tally)) (drop (r .at) piece ++ rest) refl))
 
+    after-going : heardSpan s r .stopped ≡ false → Going (heardSpan s r) (used + r .at)
+    after-going = by (eqb (r .code) 1) refl
+      where
+        by : (one : Bool) → eqb (r .code) 1 ≡ one → heardSpan s r .stopped ≡ false → Going (heardSpan s r) (used + r .at)
+        by true e z = rw e (accepted-going (eqb-true _ _ e))
+        by false e z = absurd (true-not-false (rw e at z))
+
     call-says : OneCall s used piece rest (record { eaten = record { code = 1; consumed = r .at; wrote = length (textOf (heardLines h r)); span = heardSpan s r }; bytes = textOf (heardLines h r) })
     call-says =
         record {
@@ -176,7 +184,7 @@ module _ (s : Span) (used : ℕ) (b : ℕ) (bs rest : List ℕ) (goes : s .stopp
               ∙ text-append (heardLines h r) (told (heardSpan s r) (drop (r .at) piece ++ rest));
           moves = reach-ahead b bs 0 (formIn h) (s .tally);
           inside = within;
-          goes = pick-keeps (λ (x : Span). x .stopped ≡ false → Going x (used + r .at)) (eqb (r .code) 1) _ _ (λ e z. accepted-going (eqb-true _ _ e)) (λ e z. absurd (true-not-false z));
+          goes = after-going;
         }
 
   call-packets : OneCall s used piece rest (listening s piece room)

@@ -1,14 +1,13 @@
 -- What the functions over a span need of its definitions.
 use Prim.Native.Nat.{ℕ, _+_, _-_, _≤_, _<_, min}
 use mathlib.Core.Path.{_≡_, refl, sym, ap, subst, _∙_}
-use mathlib.Core.Bool.{Bool, true, false, _&&_, _||_, not}
-use mathlib.Core.List.{List, [], _∷_, _++_}
+use mathlib.Core.Bool.{Bool, true, false, _&&_, _||_}
+use mathlib.Core.List.{List, []}
 use native.Mathlib.Omega.{arith}
-use lib.Dec.{eqb, leb, ltb}
+use lib.Dec.{eqb, ltb}
 use lib.ListN.{length, take}
 use lib.Seq.{sets, length-take-le}
-use borrow.Author.Tests.{leb-true, lt-ltb, le-ltb, eqb-true, eq-eqb, ne-eqb}
-use Rattle.wire.specs.Choice.{pick}
+use borrow.Author.Tests.{lt-ltb, le-ltb, eqb-true, eq-eqb, ne-eqb}
 use Rattle.wire.proofs.Laws.{and-left, and-right, or-rest}
 use Rattle.reader.specs.Reading.{last}
 use Rattle.packets.proofs.Forms.{is-listed-form}
@@ -17,45 +16,27 @@ use Rattle.heads.specs.declared.Head.{Head}
 use Rattle.heads.specs.Head.{headLength, formIn, allowed, Reading, openedSays, readingOf}
 use Rattle.heads.proofs.Rounds.{form-listed, divisor-small, passed}
 use Rattle.heads.specs.Head.{readCode as headCode}
-use Rattle.spans.specs.declared.Tally.{Tally}
+use Rattle.hearing.specs.declared.Tally.{Tally}
 use Rattle.spans.specs.declared.Span.{Span}
-use Rattle.spans.specs.declared.Due.{Due}
-use Rattle.spans.specs.declared.Told.{Told}
+use Rattle.lines.specs.declared.Due.{Due}
+use Rattle.lines.specs.declared.Told.{Told}
 use Rattle.spans.specs.declared.Eaten.{Eaten}
-use Rattle.spans.specs.declared.Reach.{Reach}
-use Rattle.spans.specs.Lines.{Line, textOf}
-use Rattle.spans.specs.Due.{dueLines, Sized, Telling, telling}
-use Rattle.spans.specs.Hearing.{reaching, Sane}
-use Rattle.spans.specs.Eating.{farthest, inRange, headOk, validSpan, headOf, withTally, lacking, headTaken, headLines, headRead, heardLines, heardSpan, dueNow, Eating, refused, silently, saying, opening, openingBy, listening, listeningBy, eatingOf, lastLines, silentEnd, finishingOf}
+use Rattle.hearing.specs.declared.Reach.{Reach}
+use Rattle.lines.specs.Lines.{Line, textOf}
+use Rattle.lines.specs.Due.{dueLines, sized, Telling, silentWith, telling, tellingOf}
+use Rattle.lines.proofs.Dues.{is-sized, telling-sized}
+use Rattle.hearing.specs.Hearing.{inRange, reaching}
+use Rattle.spans.specs.Eating.{headOk, validSpan, headOf, withTally, lacking, headTaken, headLines, headRead, heardLines, heardSpan, Eating, refused, silently, saying, opening, openingBy, listening, listeningBy, eatingOf, lastLines, finishingOf}
+use Rattle.spans.specs.Dues.{dueNow}
 
 -- the number of what was read is the code
 pub code-said : (o : Opened) (s : List ℕ) → openedSays o ≡ readingOf s → openedSays o .code ≡ headCode s
 unfolding readingOf
 code-said o s e = ap (λ (r : Reading). r .code) e
 
-pub range-by : (t : Tally) {a b c d : Bool} → leb (t .begins + t .taken) farthest ≡ a → leb (t .heard) (t .begins) ≡ b → leb (t .captures) (t .begins) ≡ c → leb (t .position) last ≡ d
-    → inRange t ≡ a && b && c && d
-range-by t p q r s = rw (p, q, r, s)
-
 pub valid-by : (s : Span) {a b c : Bool} → s .stopped ≡ a → inRange (s .tally) ≡ b → headOk s ≡ c → validSpan s ≡ a || (b && c)
 unfolding validSpan
 valid-by s p q r = cc
-
--- a tally in range is sane while a piece is taken
-pub range-sane : (t : Tally) (n : ℕ) → inRange t ≡ true → n < 0x8000_0000_0000_0000 → Sane n t
-range-sane t n e short =
-    let a : Bool = leb (t .begins + t .taken) farthest in
-    let b : Bool = leb (t .heard) (t .begins) in
-    let c : Bool = leb (t .captures) (t .begins) in
-    let d : Bool = leb (t .position) last in
-    let abc = and-left (a && b && c) d e in
-    let ab = and-left (a && b) c abc in
-    record {
-      room = omega (arith, leb-true (t .begins + t .taken) farthest (and-left a b ab));
-      heard = leb-true _ _ (and-right a b ab);
-      captures = leb-true _ _ (and-right (a && b) c abc);
-      position = leb-true _ _ (and-right (a && b && c) d e);
-    }
 
 -- ---- the head
 
@@ -68,13 +49,13 @@ head-taken s piece held k is stored = rw (stored, is)
 
 -- ---- the lines that are due
 
-pub due-sized : (h : Head) (t : Tally) (ending code offset : ℕ) → allowed h ≡ true → t .position ≤ last → Sized (dueNow h t ending code offset)
+pub due-sized : (h : Head) (t : Tally) (ending code offset : ℕ) → allowed h ≡ true → t .position ≤ last → sized (dueNow h t ending code offset) ≡ true
 due-sized h t ending code offset ok fits =
-    record { position = fits; pairs = is-listed-form (formIn h) (form-listed h ok) .few; divisor = divisor-small h ok }
+    is-sized (dueNow h t ending code offset) fits (is-listed-form (formIn h) (form-listed h ok) .few) (divisor-small h ok)
 
 -- a record that is another has its lines and its sizes
-pub due-is : {d e : Due} {ls : List Line} → d ≡ e → dueLines e ≡ ls → Sized e → (dueLines d ≡ ls) × Sized d
-due-is p q s = (ap dueLines p ∙ q, subst Sized (sym p) s)
+pub due-is : {d e : Due} {ls : List Line} → d ≡ e → dueLines e ≡ ls → sized e ≡ true → (dueLines d ≡ ls) × (sized d ≡ true)
+due-is p q s = (ap dueLines p ∙ q, ap sized p ∙ s)
 
 -- ---- what a call answers
 
@@ -144,10 +125,10 @@ pub listening-says : (s : Span) (room : ℕ) (r : Reach) → (r .code ≡ 0 → 
 listening-says s room r e = rw (ne-eqb (r .code) 0 e)
 
 -- The two answers of a call for which lines are due: those of d, told in a slice `out` that is `after` then.
-module _ (s next : Span) (n : ℕ) (lines : List Line) (d : Due) (are : dueLines d ≡ lines) (out after : List ℕ) (told : Told)
-    (did : (told ≡ telling (textOf (dueLines d)) (length out) .told) × (after ≡ sets out 0 (telling (textOf (dueLines d)) (length out) .bytes))) (x : Eating) (is : x ≡ saying s (length out) n lines next) where
-  same-lines : telling (textOf (dueLines d)) (length out) ≡ telling (textOf lines) (length out)
-  same-lines = ap (λ (ls : List Line). telling (textOf ls) (length out)) are
+module _ (s next : Span) (n : ℕ) (lines : List Line) (d : Due) (are : dueLines d ≡ lines) (fit : sized d ≡ true) (out after : List ℕ) (told : Told)
+    (did : (told ≡ tellingOf d (length out) .told) × (after ≡ sets out 0 (tellingOf d (length out) .bytes))) (x : Eating) (is : x ≡ saying s (length out) n lines next) where
+  same-lines : tellingOf d (length out) ≡ telling (textOf lines) (length out)
+  same-lines = telling-sized d (length out) fit ∙ ap (λ (ls : List Line). telling (textOf ls) (length out)) are
 
   told-is : told ≡ telling (textOf lines) (length out) .told
   told-is = did .0 ∙ ap (λ (t : Telling). t .told) same-lines
@@ -201,11 +182,11 @@ module _ (s : Span) (piece : List ℕ) (room′ : ℕ) where
   eating-packets v p h = rw (v, p, le-ltb (s .taken) headLength h)
 
 module _ (s : Span) (room′ : ℕ) where
-  pub finishing-broken : validSpan s ≡ false → finishingOf s room′ ≡ silentEnd 21
+  pub finishing-broken : validSpan s ≡ false → finishingOf s room′ ≡ silentWith 21
   unfolding finishingOf
   finishing-broken v = rw v
 
-  pub finishing-stopped : validSpan s ≡ true → s .stopped ≡ true → finishingOf s room′ ≡ silentEnd 2
+  pub finishing-stopped : validSpan s ≡ true → s .stopped ≡ true → finishingOf s room′ ≡ silentWith 2
   unfolding finishingOf
   finishing-stopped v p = rw (v, p)
 

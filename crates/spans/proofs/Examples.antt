@@ -8,7 +8,7 @@ use Rattle.reader.specs.Reading.{readCode}
 use Rattle.heads.specs.declared.Head.{Head}
 use Rattle.heads.specs.Head.{headBytes}
 use Rattle.heads.specs.Head.{readCode as headCode}
-use Rattle.spans.specs.Lines.{Line, digitsIn, decimal, textOf, openingLine, captureLine, refusalLine, endLine}
+use Rattle.lines.specs.Lines.{digitsIn, decimal, openingLine, endLine}
 use Rattle.spans.specs.Report.{linesFrom, linesOf, report, packetCode}
 
 -- "Head D = 100, 24 bits, small"

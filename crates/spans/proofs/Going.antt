@@ -1,31 +1,28 @@
 -- Spans that some bytes have left: they are valid, each call leaves another such span, and the lines of a call fit 256 bytes.
-use Prim.Native.Nat.{ℕ, zero, suc, _+_, _-_, _^_, _≤_, _<_, min}
-use mathlib.Core.Path.{_≡_, refl, sym, ap, subst, _∙_}
-use mathlib.Core.Bool.{Bool, true, false, _&&_, _||_, not}
-use mathlib.Core.List.{List, [], _∷_, _++_}
+use Prim.Native.Nat.{ℕ, _+_, _^_, _≤_, _<_}
+use mathlib.Core.Path.{_≡_, refl, ap}
+use mathlib.Core.Bool.{true, false, _&&_, not}
+use mathlib.Core.List.{List, [], _∷_}
 use native.Mathlib.Decide.{decLt}
 use native.Mathlib.Omega.{arith}
-use lib.Dec.{eqb, leb, ltb}
-use lib.ListN.{length, take, drop}
-use lib.Seq.{sets, length-sets}
-use borrow.Author.Tests.{lt-ltb, le-ltb, le-leb, eq-eqb, ltb-true, ltb-false}
-use Rattle.wire.specs.Choice.{pick}
+use lib.Dec.{eqb, ltb}
+use lib.ListN.{length}
+use borrow.Author.Tests.{lt-ltb, le-leb, eq-eqb}
 use Rattle.wire.proofs.Laws.{pick-keeps, or-right, or-left, and-both}
 use Rattle.packets.specs.declared.Form.{Form}
 use Rattle.reader.specs.Reading.{last}
-use Rattle.heads.specs.declared.Head.{Head}
-use Rattle.heads.specs.Head.{headLength, formIn, allowed}
+use Rattle.heads.specs.Head.{headLength}
 use Rattle.heads.specs.Head.{readCode as headCode}
 use Rattle.heads.proofs.Rounds.{passed}
-use Rattle.spans.specs.declared.Tally.{Tally}
-use Rattle.spans.specs.declared.Reach.{Reach}
+use Rattle.hearing.specs.declared.Tally.{Tally}
+use Rattle.hearing.specs.declared.Reach.{Reach}
 use Rattle.spans.specs.declared.Span.{Span}
-use Rattle.spans.specs.Hearing.{taking, accepting, positionNow, heardCode, closes, cameTo, reaching, Sane}
-use Rattle.spans.specs.Eating.{freshTally, freshSpan, farthest, inRange, headOk, validSpan, headOf, lacking, headTaken}
-use Rattle.spans.proofs.Heard.{Accepted, accepted, sane-accepting, sane-taking, sane-came, sane-less}
-use Rattle.spans.proofs.Goings.{taken-some, Is-due, reach-due}
-use Rattle.spans.proofs.Reaches.{came-at}
-use Rattle.spans.proofs.Eats.{range-by, valid-by}
+use Rattle.hearing.specs.Hearing.{farthest, inRange, taking, accepting, heardCode, closes, cameTo, reaching}
+use Rattle.hearing.specs.Steps.{Sane}
+use Rattle.spans.specs.Eating.{freshTally, freshSpan, headOk, validSpan, headOf}
+use Rattle.hearing.proofs.Reaches.{came-at}
+use Rattle.hearing.proofs.Ranges.{range-by}
+use Rattle.spans.proofs.Eats.{valid-by}
 use Rattle.spans.proofs.Rooms.{Short}
 
 -- ---- spans that bytes have left
@@ -118,13 +115,3 @@ counted-sane t rest c near = record { room = near; heard = c .heard; captures = 
 
 pub sane-counted : {rest : ℕ} {t : Tally} → Sane rest t → Counted t
 sane-counted s = record { heard = s .heard; captures = s .captures; position = s .position }
-
-pub reach-sane : (bs : List ℕ) (n rest : ℕ) (f : Form) (t : Tally) → Sane (rest + length bs) t → Sane rest (reaching n f t bs .tally)
-unfolding reaching
-reach-sane [] n rest f t s = sane-less rest (omega arith) s
-reach-sane (b ∷ bs) n rest f t s =
-    let more : rest + length bs + 1 ≡ rest + length (b ∷ bs) = omega arith in
-    let after : Sane (rest + length bs) (taking t b) = sane-taking (rest + length bs) t b (rw more s) in
-    let came = sane-came (rest + length bs) (n + 1) f (taking t b) after (taken-some t b) in
-    pick-keeps (λ (r : Reach). Sane rest (r .tally)) (eqb (cameTo (n + 1) f (taking t b) .code) 0) _ _
-    (λ e. reach-sane bs (n + 1) rest f (cameTo (n + 1) f (taking t b) .tally) came) (λ e. sane-less rest (omega arith) came)

@@ -1,27 +1,28 @@
 -- What is printed for pieces of an input is the report of the input.
-use Prim.Native.Nat.{ℕ, zero, suc, _+_, _-_, _≤_, _<_, min}
-use mathlib.Core.Path.{_≡_, refl, sym, ap, subst, _∙_}
+use Prim.Native.Nat.{ℕ, zero, suc, _+_, _-_, _≤_, _<_}
+use mathlib.Core.Path.{_≡_, refl, sym, ap, _∙_}
 use mathlib.Core.Bool.{Bool, true, false}
 use mathlib.Core.List.{List, [], _∷_, _++_}
 use native.Mathlib.Decide.{decLt}
 use native.Mathlib.Nat.{zero-add, suc-add}
 use native.Mathlib.Omega.{arith}
-use lib.Dec.{eqb, ltb}
-use lib.ListN.{length, getD, take, drop, replicate, length-drop}
+use lib.Dec.{eqb}
+use lib.ListN.{length, take, drop, replicate, length-drop}
 use lib.Seq.{sets, take-take, take-nil, length-take-le}
 use borrow.Author.Tests.{lt-ltb, le-ltb, eqb-true}
 use Rattle.wire.specs.Choice.{pick}
 use Rattle.wire.specs.Number.{number, field}
 use Rattle.wire.proofs.Stores.{sets-whole}
 use Rattle.heads.specs.declared.Head.{Head}
-use Rattle.heads.specs.Head.{mark, version, headLength, formIn, allowed, headIn}
+use Rattle.heads.specs.Head.{mark, version, headLength, allowed, headIn}
 use Rattle.heads.specs.Head.{readCode as headCode}
 use Rattle.heads.proofs.Codes.{code-by}
 use Rattle.heads.proofs.Rounds.{passed, form-listed}
 use Rattle.spans.specs.declared.Span.{Span}
-use Rattle.spans.specs.Lines.{Line, textOf, openingLine, refusalLine}
-use Rattle.spans.specs.Report.{Known, nothing, linesFrom, linesOf, report}
-use Rattle.spans.specs.Eating.{freshTally, freshSpan, farthest, lacking, headTaken, headLines}
+use Rattle.lines.specs.Lines.{Line, textOf, openingLine, refusalLine}
+use Rattle.hearing.specs.Hearing.{farthest}
+use Rattle.spans.specs.Report.{nothing, linesFrom, linesOf, report}
+use Rattle.spans.specs.Eating.{freshTally, freshSpan, lacking, headTaken, headLines}
 use Rattle.spans.specs.Pieces.{printed, joinedOf}
 use Rattle.spans.proofs.Telling.{toldBy}
 use Rattle.spans.proofs.Cuts.{toldHead, told, told-head, headToldBy, printed-is}

@@ -1,10 +1,4 @@
 pub mod Examples
-pub mod Texts
-pub mod Dues
-pub mod Heard
-pub mod Reaches
-pub mod Runs
-pub mod Goings
 pub mod Eats
 pub mod Within
 pub mod Telling

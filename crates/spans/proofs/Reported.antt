@@ -1,15 +1,15 @@
 -- The lines that packets bring byte by byte are those of the report.
-use Prim.Native.Nat.{ℕ, zero, suc, _+_, _*_, _-_, _%_, _≤_, _<_}
+use Prim.Native.Nat.{ℕ, zero, suc, _+_, _*_, _-_, _≤_, _<_}
 use mathlib.Core.Path.{_≡_, refl, sym, ap, subst, _∙_}
 use mathlib.Core.Bool.{Bool, true, false, _&&_, not}
-use mathlib.Core.List.{List, [], _∷_, _++_, append-assoc, append-nil}
+use mathlib.Core.List.{List, [], _∷_, _++_, append-nil}
 use native.Mathlib.Decide.{decLt, decLe, ℕ-discrete}
 use native.Mathlib.Omega.{arith}
 use lib.Dec.{eqb, leb, ltb}
 use lib.ListN.{length, getD, take, drop, length-drop}
 use lib.Seq.{length-take-le, drop-drop, getD-take, getD-drop}
-use borrow.Author.Tests.{lt-ltb, le-ltb, le-leb, eq-eqb, ne-eqb, eqb-true, eqb-false, ltb-false}
-use Rattle.wire.specs.Choice.{pick, Check, check, firstOf}
+use borrow.Author.Tests.{le-ltb, le-leb, ne-eqb}
+use Rattle.wire.specs.Choice.{pick, check, firstOf}
 use Rattle.wire.specs.Number.{field}
 use Rattle.wire.proofs.Laws.{and-left, and-both, true-not-false}
 use Rattle.packets.specs.declared.Form.{Form}
@@ -17,17 +17,18 @@ use Rattle.packets.specs.Forms.{sameForm, totalOf, listed, formWithHeader, whol
 use Rattle.packets.specs.Numbers.{numberAt, stepOf, numberIn}
 use Rattle.packets.proofs.Numbers.{field-two}
 use Rattle.reader.specs.declared.Reader.{Reader}
-use Rattle.reader.specs.Reading.{last, silent, sound, positionAfter, readCode}
+use Rattle.reader.specs.Reading.{last, sound, positionAfter, readCode}
 use Rattle.heads.specs.declared.Head.{Head}
 use Rattle.heads.specs.Head.{formIn}
-use Rattle.spans.specs.declared.Tally.{Tally}
-use Rattle.spans.specs.declared.Reach.{Reach}
-use Rattle.spans.specs.Lines.{Line, refusalLine, endLine}
+use Rattle.hearing.specs.declared.Tally.{Tally}
+use Rattle.hearing.specs.declared.Reach.{Reach}
+use Rattle.lines.specs.Lines.{Line, refusalLine}
 use Rattle.spans.specs.Report.{Known, lineOf, ended, readerAfter, packetIn, packetCode, begins, knownAfter, atEnd, atRefusal, linesFrom}
-use Rattle.spans.specs.Hearing.{joined, taking, formNow, positionNow, orphan, heardCode, accepting, closes, cameTo, reaching, goesOn}
+use Rattle.hearing.specs.Hearing.{joined, taking, formNow, positionNow, orphan, heardCode, accepting, closes, cameTo, reaching}
+use Rattle.hearing.specs.Steps.{goesOn}
 use Rattle.spans.specs.Eating.{endedNow, heardLines}
-use Rattle.spans.proofs.Heard.{codeBy, heard-by, came-by, Accepted, accepted}
-use Rattle.spans.proofs.Reaches.{heard-waits, tallied, reach-whole, packet-parts, total-least}
+use Rattle.hearing.proofs.Heard.{codeBy, heard-by, came-by, accepted}
+use Rattle.hearing.proofs.Reaches.{heard-waits, tallied, reach-whole, packet-parts, total-least}
 use Rattle.spans.proofs.Telling.{endLines, byReach, toldBy, told-wait, told-due, afterReach, told-reach, reach-from}
 use Rattle.spans.proofs.Wholes.{formAt, not-whole, packet-length, whole-form, whole-packet}
 

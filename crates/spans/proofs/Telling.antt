@@ -1,27 +1,27 @@
 -- All lines that packets bring, byte by byte, to the end of the input; and how the calls that take pieces agree with them.
-use Prim.Native.Nat.{ℕ, zero, suc, _+_, _-_, _≤_, _<_}
+use Prim.Native.Nat.{ℕ, suc, _+_, _-_, _≤_}
 use mathlib.Core.Path.{_≡_, refl, sym, ap, _∙_}
 use mathlib.Core.Bool.{Bool, true, false, _&&_, not}
-use mathlib.Core.List.{List, [], _∷_, _++_, append-assoc}
-use native.Mathlib.Nat.{add-zero}
+use mathlib.Core.List.{List, [], _∷_, _++_}
 use native.Mathlib.Omega.{arith}
 use lib.Dec.{eqb}
 use lib.ListN.{length, drop}
 use lib.Seq.{drop-append-add}
-use borrow.Author.Tests.{eqb-true, eqb-false, eq-eqb, ne-eqb}
+use borrow.Author.Tests.{eqb-false, eq-eqb, ne-eqb}
 use Rattle.wire.specs.Choice.{pick}
 use Rattle.wire.proofs.Laws.{pick-keeps}
 use Rattle.packets.specs.declared.Form.{Form}
 use Rattle.heads.specs.declared.Head.{Head}
 use Rattle.heads.specs.Head.{formIn}
-use Rattle.spans.specs.declared.Tally.{Tally}
-use Rattle.spans.specs.declared.Reach.{Reach}
-use Rattle.spans.specs.Lines.{Line, refusalLine, endLine}
-use Rattle.spans.specs.Hearing.{taking, heardCode, closes, accepting, cameTo, reaching, goesOn}
+use Rattle.hearing.specs.declared.Tally.{Tally}
+use Rattle.hearing.specs.declared.Reach.{Reach}
+use Rattle.lines.specs.Lines.{Line, refusalLine, endLine}
+use Rattle.hearing.specs.Hearing.{taking, heardCode, closes, accepting, cameTo, reaching}
+use Rattle.hearing.specs.Steps.{goesOn}
 use Rattle.spans.specs.Eating.{endedNow, heardLines}
-use Rattle.spans.proofs.Heard.{came-by}
-use Rattle.spans.proofs.Reaches.{came-at, reach-cons}
-use Rattle.spans.proofs.Goings.{came-due}
+use Rattle.hearing.proofs.Heard.{came-by}
+use Rattle.hearing.proofs.Reaches.{came-at, reach-cons}
+use Rattle.hearing.proofs.Goings.{came-due}
 
 -- the lines at the end of the input, with a tally
 abbrev pub endLines : Head → Tally → List Line

@@ -1,23 +1,21 @@
 -- The next packet of the input: when its bytes are a whole packet, and of which form.
-use Prim.Native.Nat.{ℕ, zero, suc, _+_, _*_, _≤_, _<_}
+use Prim.Native.Nat.{ℕ, _≤_}
 use mathlib.Core.Path.{_≡_, refl, sym, ap, _∙_}
 use mathlib.Core.Bool.{Bool, true, false}
-use mathlib.Core.List.{List, [], _∷_}
-use native.Mathlib.Decide.{decLt}
+use mathlib.Core.List.{List}
 use native.Mathlib.Omega.{arith}
 use lib.Dec.{eqb}
-use lib.ListN.{length, take, drop, getD, length-take}
-use lib.Seq.{take-take, length-take-le, take-all}
+use lib.ListN.{length, length-take}
+use lib.Seq.{take-take, length-take-le}
 use borrow.Author.Tests.{eqb-true, eq-eqb}
-use Rattle.wire.specs.Choice.{pick}
 use Rattle.wire.specs.Number.{number, field}
-use Rattle.wire.specs.Header.{lengthIn, headerOf, typeData}
+use Rattle.wire.specs.Header.{lengthIn}
 use Rattle.wire.proofs.Laws.{true-not-false}
 use Rattle.packets.specs.declared.Form.{Form}
-use Rattle.packets.specs.Forms.{totalOf, noForm, listed, formWithHeader, wholeOf, isPacket}
-use Rattle.packets.proofs.Forms.{Whole, packet-is, whole-split}
+use Rattle.packets.specs.Forms.{totalOf, listed, formWithHeader, wholeOf, isPacket}
+use Rattle.packets.proofs.Forms.{packet-is, whole-split}
 use Rattle.spans.specs.Report.{packetIn}
-use Rattle.spans.proofs.Reaches.{form-with-own}
+use Rattle.hearing.proofs.Reaches.{form-with-own}
 
 -- a listed header holds the total of its form
 pub header-length : (h : ℕ) → listed (formWithHeader h) ≡ true → lengthIn h ≡ totalOf (formWithHeader h)

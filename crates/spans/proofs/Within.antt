@@ -1,27 +1,26 @@
 -- A call consumes no more than the piece has, and writes no more than the slice has room for.
-use Prim.Native.Nat.{ℕ, zero, suc, _+_, _-_, _≤_, _<_, min}
-use mathlib.Core.Path.{_≡_, refl, sym, ap, _∙_}
-use mathlib.Core.Bool.{Bool, true, false, not}
+use Prim.Native.Nat.{ℕ, _+_, _≤_}
+use mathlib.Core.Path.{_≡_, ap}
+use mathlib.Core.Bool.{not}
 use mathlib.Core.List.{List, [], _∷_}
 use native.Mathlib.Omega.{arith}
 use lib.Dec.{eqb, ltb}
 use lib.ListN.{length}
 use borrow.Author.Tests.{ltb-false}
-use Rattle.wire.specs.Choice.{pick}
 use Rattle.wire.proofs.Laws.{pick-keeps}
 use Rattle.packets.specs.declared.Form.{Form}
 use Rattle.heads.specs.Head.{headLength, formIn}
 use Rattle.heads.specs.Head.{readCode as headCode}
-use Rattle.spans.specs.declared.Tally.{Tally}
-use Rattle.spans.specs.declared.Reach.{Reach}
+use Rattle.hearing.specs.declared.Tally.{Tally}
+use Rattle.hearing.specs.declared.Reach.{Reach}
 use Rattle.spans.specs.declared.Span.{Span}
 use Rattle.spans.specs.declared.Eaten.{Eaten}
-use Rattle.spans.specs.declared.Told.{Told}
-use Rattle.spans.specs.Lines.{Line, textOf}
-use Rattle.spans.specs.Due.{Telling, telling}
-use Rattle.spans.specs.Hearing.{taking, cameTo, reaching}
+use Rattle.lines.specs.declared.Told.{Told}
+use Rattle.lines.specs.Lines.{Line, textOf}
+use Rattle.lines.specs.Due.{Telling, telling}
+use Rattle.hearing.specs.Hearing.{taking, cameTo, reaching}
 use Rattle.spans.specs.Eating.{validSpan, headOf, lacking, headTaken, headLines, headRead, heardLines, heardSpan, Eating, refused, silently, saying, opening, listening, eatingOf, lastLines, finishingOf}
-use Rattle.spans.proofs.Reaches.{came-at}
+use Rattle.hearing.proofs.Reaches.{came-at}
 
 -- what was reached lies within the bytes
 pub reach-within : (bs : List ℕ) (n : ℕ) (f : Form) (t : Tally) → reaching n f t bs .at ≤ n + length bs

@@ -1,24 +1,21 @@
 -- A span takes the input in pieces: what one call does with a piece, and what the end of the input brings.
 use Prim.Native.Nat.{ℕ, _+_, _-_, min}
-use mathlib.Core.Bool.{Bool, true, false, _&&_, _||_, not}
+use mathlib.Core.Bool.{Bool, false, _&&_, _||_, not}
 use mathlib.Core.List.{List, [], _∷_, _++_}
-use lib.Dec.{eqb, leb, ltb}
+use lib.Dec.{eqb, ltb}
 use lib.ListN.{length, take, replicate}
 use lib.Seq.{sets}
 use Rattle.wire.specs.Choice.{pick}
-use Rattle.reader.specs.Reading.{last}
 use Rattle.heads.specs.declared.Head.{Head}
 use Rattle.heads.specs.Head.{headLength, formIn, headIn}
 use Rattle.heads.specs.Head.{readCode as headCode}
-use Rattle.spans.specs.declared.Tally.{Tally}
-use Rattle.spans.specs.declared.Reach.{Reach}
+use Rattle.hearing.specs.declared.Tally.{Tally}
+use Rattle.hearing.specs.declared.Reach.{Reach}
 use Rattle.spans.specs.declared.Span.{Span}
-use Rattle.spans.specs.declared.Told.{Told}
-use Rattle.spans.specs.declared.Due.{Due}
 use Rattle.spans.specs.declared.Eaten.{Eaten}
-use Rattle.spans.specs.Lines.{Line, textOf, openingLine, captureLine, refusalLine, endLine}
-use Rattle.spans.specs.Due.{Telling, telling}
-use Rattle.spans.specs.Hearing.{accepting, reaching}
+use Rattle.lines.specs.Lines.{Line, textOf, openingLine, captureLine, refusalLine, endLine}
+use Rattle.lines.specs.Due.{Telling, silentWith, telling}
+use Rattle.hearing.specs.Hearing.{inRange, nextTally, reaching}
 
 -- ---- spans
 
@@ -29,23 +26,12 @@ freshTally = record { begins = headLength; taken = 0; header = 0; number = 0; ca
 abbrev pub freshSpan : Span
 freshSpan = record { stopped = false; taken = 0; held = replicate 14 0; tally = freshTally }
 
--- the last input byte that a span counts up to, 2 ^ 63
-abbrev pub farthest : ℕ
-farthest = 0x8000_0000_0000_0000
-
--- each count within its range: no more packets or captures than bytes
-abbrev pub inRange : Tally → Bool
-inRange t =
-    leb (t .begins + t .taken) farthest
-    && leb (t .heard) (t .begins)
-    && leb (t .captures) (t .begins)
-    && leb (t .position) last
-
 -- the head is still coming, or is whole and one that is read
 abbrev pub headOk : Span → Bool
 headOk s = ltb (s .taken) headLength || (eqb (s .taken) headLength && eqb (headCode (s .held)) 1)
 
--- A span is broken where it has not stopped and a count or its head is none that bytes could have left.
+-- A span that has not stopped is broken (21) where a count of its tally is out of its range, or its head is whole and one
+-- that is refused. All else is taken as it is, whether or not some bytes leave it.
 unfoldable pub validSpan : Span → Bool
 validSpan s = s .stopped || (inRange (s .tally) && headOk s)
 
@@ -118,7 +104,7 @@ abbrev pub heardLines : Head → Reach → List Line
 heardLines h r = endedNow h (r .tally) ++ pick (eqb (r .code) 1) [] (refusalLine (r .code) (r .tally .begins) ∷ [])
 
 abbrev pub heardSpan : Span → Reach → Span
-heardSpan s r = pick (eqb (r .code) 1) (withTally false s (accepting (r .tally))) (withTally true s (r .tally))
+heardSpan s r = withTally (not (eqb (r .code) 1)) s (nextTally r)
 
 abbrev pub listeningBy : Span → ℕ → Reach → Eating
 listeningBy s room r =
@@ -143,29 +129,8 @@ lastLines s =
     (endedNow (headOf s) (s .tally)
     ++ pick (eqb (s .tally .taken) 0) (endLine (s .tally .captures) ∷ []) (refusalLine 30 (s .tally .begins) ∷ []))
 
-abbrev pub silentEnd : ℕ → Telling
-silentEnd code = record { told = record { code = code; wrote = 0 }; bytes = [] }
-
 -- 21 for a broken span, 2 for one that has stopped
 unfoldable pub finishingOf : Span → ℕ → Telling
 finishingOf s room =
-    pick (not (validSpan s)) (silentEnd 21)
-    (pick (s .stopped) (silentEnd 2) (telling (textOf (lastLines s)) room))
-
--- ---- the lines as they are handed on
-
--- the open capture's line, and a refusal (1) or the end (2) behind it
-abbrev pub dueNow : Head → Tally → ℕ → ℕ → ℕ → Due
-dueNow h t ending code offset =
-    record {
-      opening = false;
-      capture = t .captures;
-      bits = formIn h .bits;
-      pairs = formIn h .pairs;
-      divisor = h .divisor;
-      heard = t .heard;
-      position = t .position;
-      ending = ending;
-      code = code;
-      offset = offset;
-    }
+    pick (not (validSpan s)) (silentWith 21)
+    (pick (s .stopped) (silentWith 2) (telling (textOf (lastLines s)) room))

@@ -5,7 +5,7 @@ use lib.Dec.{eqb}
 use lib.ListN.{length, drop}
 use Rattle.wire.specs.Choice.{pick}
 use Rattle.spans.specs.declared.Span.{Span}
-use Rattle.spans.specs.Eating.{Eating, eatingOf, finishingOf, freshSpan}
+use Rattle.spans.specs.Eating.{eatingOf, finishingOf, freshSpan}
 
 abbrev pub room : ℕ
 room = 256

@@ -1,12 +1,11 @@
 -- What the span program prints for a whole input.
 use Prim.Native.Nat.{ℕ, zero, suc, _+_}
-use mathlib.Core.Bool.{Bool, true, false, not}
+use mathlib.Core.Bool.{Bool, true, not}
 use mathlib.Core.List.{List, [], _∷_, _++_}
 use lib.Dec.{eqb}
 use lib.ListN.{length, take, drop}
-use Rattle.wire.specs.Choice.{pick, Check, check, firstOf}
+use Rattle.wire.specs.Choice.{pick, check, firstOf}
 use Rattle.wire.specs.Number.{field}
-use Rattle.packets.specs.declared.Form.{Form}
 use Rattle.packets.specs.Forms.{sameForm, totalOf, formWithHeader, wholeOf, isPacket}
 use Rattle.packets.specs.Numbers.{numberIn}
 use Rattle.reader.specs.declared.Reader.{Reader}
@@ -14,7 +13,7 @@ use Rattle.reader.specs.Reading.{silent, positionAfter, readCode}
 use Rattle.heads.specs.declared.Head.{Head}
 use Rattle.heads.specs.Head.{headLength, formIn, headIn}
 use Rattle.heads.specs.Head.{readCode as headCode}
-use Rattle.spans.specs.Lines.{Line, textOf, openingLine, captureLine, refusalLine, endLine}
+use Rattle.lines.specs.Lines.{Line, textOf, openingLine, captureLine, refusalLine, endLine}
 
 -- What is known where a packet begins: how many captures have begun, the positions of the packets that the open one has
 -- had accepted, the last first (none: no capture is open), and the input byte.

@@ -2,27 +2,23 @@
 ghost use mathlib.Core.Path.{_≡_};
 ghost use Prim.Native.Nat.{_-_, _<_, _≤_, min};
 ghost use mathlib.Core.Bool.{true, false};
-ghost use lib.Dec.{eqb, ltb};
 ghost use lib.ListN.{length};
 ghost use lib.Seq.{sets};
-ghost use Rattle.heads.specs.Head.{headIn, formIn, allowed};
-ghost use Rattle.heads.specs.Head.{readCode as headCode};
-ghost use Rattle.spans.specs.Hearing.{reaching, Sane};
-ghost use Rattle.spans.specs.Eating.{freshSpan, inRange, headOk, validSpan, headOf, headTaken, headLines, heardLines, lastLines, dueNow, refused, headRead, withTally, heardSpan, opening, listening, eatingOf, finishingOf};
 ghost use Rattle.reader.specs.Reading.{last};
-ghost use Rattle.spans.specs.Due.{dueLines, Sized};
-use crate::Due;
+ghost use Rattle.heads.specs.Head.{allowed};
+ghost use Rattle.heads.specs.Head.{readCode as headCode};
+ghost use Rattle.lines.specs.Due.{dueLines, sized};
+ghost use Rattle.hearing.specs.Hearing.{inRange};
+ghost use Rattle.spans.specs.Eating.{freshSpan, headOk, validSpan, headOf, headTaken, headLines, heardLines, lastLines, refused, headRead, withTally, opening, listening, eatingOf, finishingOf};
+ghost use Rattle.spans.specs.Dues.{dueNow};
 use crate::Eaten;
-use crate::Reach;
 use crate::Span;
-use crate::Tally;
-use crate::Told;
-use crate::hearing::accept;
-use crate::hearing::hear;
-use crate::lines::tell;
-use crate::text::copy;
 use heads::Head;
 use heads::Opened;
+use hearing::Reach;
+use hearing::Tally;
+use lines::Due;
+use lines::Told;
 
 // A span before its first byte.
 pub fn fresh() -> Span
@@ -56,25 +52,6 @@ fn head_code(s: &[u8]) -> u8
     }
 }
 
-// Whether each count is within its range.
-fn in_range(t: Tally) -> bool
-    ensures { λ r. ⌜ r ≡ inRange t ⌝ }
-{
-    if 0x8000_0000_0000_0000 < t.begins {
-        return false;
-    }
-    if 0x8000_0000_0000_0000 - t.begins < t.taken {
-        return false;
-    }
-    if t.begins < t.heard {
-        return false;
-    }
-    if t.begins < t.captures {
-        return false;
-    }
-    t.position <= 3_999_999_999
-}
-
 // Whether the head is still coming, or is whole and one that is read.
 fn head_ok(s: Span) -> bool
     ensures { λ r. ⌜ r ≡ headOk s ⌝ }
@@ -89,14 +66,14 @@ fn head_ok(s: Span) -> bool
     head_code(&held) == 1
 }
 
-// Whether a span is one that bytes could have left.
+// Whether a span is not broken: no count of it is out of its range, and no whole head of it is refused.
 fn is_valid(s: Span) -> bool
     ensures { λ r. ⌜ r ≡ validSpan s ⌝ }
 {
     if s.stopped {
         return true;
     }
-    if !in_range(s.tally) {
+    if !hearing::in_range(s.tally) {
         return false;
     }
     head_ok(s)
@@ -117,7 +94,7 @@ fn take_head(s: Span, piece: &[u8]) -> Span
     let taken = s.taken;
     let k = lesser(14 - taken, piece.len());
     let mut held = s.held;
-    copy(&piece[..k], &mut held, taken);
+    lines::copy(&piece[..k], &mut held, taken);
     let tally = s.tally;
     Span {
         stopped: false,
@@ -141,7 +118,7 @@ fn refuse(code: u8, s: Span) -> Eaten
 
 // The lines after a whole head that reads with a code.
 fn head_due(code: u8) -> Due
-    ensures { λ r. ⌜ (dueLines r ≡ headLines code) × Sized r ⌝ }
+    ensures { λ r. ⌜ (dueLines r ≡ headLines code) × (sized r ≡ true) ⌝ }
 {
     if code == 1 {
         return Due {
@@ -193,7 +170,7 @@ fn ended_due(h: Head, t: Tally, ending: u8, code: u64, offset: u64) -> Due
 // The lines that are due where hearing a piece was cut short.
 fn heard_due(h: Head, r: Reach) -> Due
     requires { ⌜ (allowed h ≡ true) × (r .tally .position ≤ last) ⌝ }
-    ensures { λ d. ⌜ (dueLines d ≡ heardLines h r) × Sized d ⌝ }
+    ensures { λ d. ⌜ (dueLines d ≡ heardLines h r) × (sized d ≡ true) ⌝ }
 {
     let t = r.tally;
     if r.code == 1 {
@@ -205,7 +182,7 @@ fn heard_due(h: Head, r: Reach) -> Due
 // The lines that the end of the input brings.
 fn last_due(s: Span) -> Due
     requires { ⌜ (s .tally .position ≤ last) × (14 ≤ s .taken → allowed (headOf s) ≡ true) ⌝ }
-    ensures { λ d. ⌜ (dueLines d ≡ lastLines s) × Sized d ⌝ }
+    ensures { λ d. ⌜ (dueLines d ≡ lastLines s) × (sized d ≡ true) ⌝ }
 {
     if s.taken < 14 {
         return head_due(40);
@@ -250,7 +227,7 @@ fn open(s: Span, piece: &[u8], out: &mut [u8]) -> Eaten
     }
     let held = after.held;
     let code = head_code(&held);
-    let told = tell(head_due(code), out);
+    let told = lines::tell(head_due(code), out);
     if told.code == 20 {
         return refuse(20, s);
     }
@@ -275,26 +252,15 @@ fn with_tally(stopped: bool, s: Span, t: Tally) -> Span
     }
 }
 
-// The span after the lines where hearing a piece was cut short.
-fn heard_span(s: Span, r: Reach) -> Span
-    requires { ⌜ (r .code ≡ 1 → Sane 0 (r .tally) × (0 < r .tally .taken)) ⌝ }
-    ensures { λ o. ⌜ o ≡ heardSpan s r ⌝ }
-{
-    let t = r.tally;
-    if r.code == 1 {
-        return with_tally(false, s, accept(t));
-    }
-    with_tally(true, s, t)
-}
-
 // The packets' part of a piece.
 fn listen(s: Span, piece: &[u8], out: &mut [u8]) -> Eaten
-    requires { ⌜ (allowed (headOf s) ≡ true) × Sane (length (now piece)) (s .tally) ⌝ }
+    requires { ⌜ (allowed (headOf s) ≡ true) × (inRange (s .tally) ≡ true) ⌝ }
     ensures { λ r. ⌜ (r ≡ listening s (now (piece .entry)) (length (now (out .entry))) .eaten) × (now (out .exit) ≡ sets (now (out .entry)) 0 (listening s (now (piece .entry)) (length (now (out .entry))) .bytes)) ⌝ }
 {
     let held = s.held;
     let h = heads::head_in(&held);
-    let r = hear(heads::form_in(h), s.tally, piece);
+    let heard = hearing::hear(heads::form_in(h), s.tally, piece);
+    let r = heard.reach;
     if r.code == 0 {
         return Eaten {
             code: 0,
@@ -303,7 +269,7 @@ fn listen(s: Span, piece: &[u8], out: &mut [u8]) -> Eaten
             span: with_tally(false, s, r.tally),
         };
     }
-    let told = tell(heard_due(h, r), out);
+    let told = lines::tell(heard_due(h, r), out);
     if told.code == 20 {
         return refuse(20, s);
     }
@@ -311,7 +277,7 @@ fn listen(s: Span, piece: &[u8], out: &mut [u8]) -> Eaten
         code: 1,
         consumed: r.at,
         wrote: told.wrote,
-        span: heard_span(s, r),
+        span: with_tally(r.code != 1, s, heard.next),
     }
 }
 
@@ -350,5 +316,5 @@ pub fn finish(s: Span, out: &mut [u8]) -> Told
     if s.stopped {
         return Told { code: 2, wrote: 0 };
     }
-    tell(last_due(s), out)
+    lines::tell(last_due(s), out)
 }

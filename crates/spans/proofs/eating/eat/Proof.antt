@@ -1,14 +1,12 @@
 -- A broken span, a stopped one, the head's part, the packets' part.
 use borrow.Author.Needs.{needs}
-use Prim.Native.Nat.{ℕ, _≤_, _<_}
-use mathlib.Core.Path.{_≡_, refl, sym, ap, _∙_}
-use mathlib.Core.Bool.{true, false}
-use native.Mathlib.Omega.{arith}
+use mathlib.Core.Path.{_≡_, refl, sym, _∙_}
+use mathlib.Core.Bool.{true}
 use denote.Ref.{now}
 use lib.ListN.{length}
 use borrow.Author.Tests.{not-true, not-false}
 use Rattle.spans.specs.Eating.{validSpan}
-use Rattle.spans.proofs.Eats.{answers, range-sane, valid-range, valid-head, eating-broken, eating-stopped, eating-head, eating-packets}
+use Rattle.spans.proofs.Eats.{answers, valid-range, valid-head, eating-broken, eating-stopped, eating-head, eating-packets}
 use Rattle.spans.proofs.eating.eat.Statement.{statement}
 use Rattle.spans.proofs.eating.eat.Tie as tie
 
@@ -52,7 +50,7 @@ listen-requires c κs =
     let tested = c .before in
     let e = tested .before .before in
     let s = e .before .before .before .before .before in
-    (valid-head (s .args .s) (valid (e .before)) (e .if2 .left) (tested .if3 .left), range-sane _ _ (valid-range (s .args .s) (valid (e .before)) (e .if2 .left)) (omega (arith, s .good)))
+    (valid-head (s .args .s) (valid (e .before)) (e .if2 .left) (tested .if3 .left), valid-range (s .args .s) (valid (e .before)) (e .if2 .left))
 
 same-length-2 : tie.Need-same-length-2
 same-length-2 c = search needs

@@ -1,18 +1,18 @@
 -- A broken span, a stopped one, the last lines.
 use borrow.Author.Needs.{needs}
-use Prim.Native.Nat.{ℕ, _≤_, _<_}
 use mathlib.Core.Path.{_≡_, refl, sym, ap, _∙_}
-use mathlib.Core.Bool.{true, false}
+use mathlib.Core.Bool.{true}
 use native.Mathlib.Omega.{arith}
 use denote.Ref.{now}
 use lib.ListN.{length}
 use borrow.Author.Tests.{not-true, not-false}
 use Rattle.spans.specs.Eating.{validSpan}
-use lib.Seq.{sets}
 use mathlib.Core.List.{List}
-use Rattle.spans.specs.Lines.{Line, textOf}
-use Rattle.spans.specs.Due.{Telling, telling}
-use Rattle.spans.proofs.Eats.{finishes, range-sane, valid-range, valid-head, finishing-broken, finishing-stopped, finishing-says}
+use Rattle.lines.specs.Lines.{Line, textOf}
+use Rattle.lines.specs.Due.{telling}
+use Rattle.spans.proofs.Eats.{finishes, valid-range, valid-head, finishing-broken, finishing-stopped, finishing-says}
+use Rattle.hearing.proofs.Ranges.{range-sane}
+use Rattle.lines.proofs.Dues.{telling-sized}
 use Rattle.spans.proofs.eating.finish.Statement.{statement}
 use Rattle.spans.proofs.eating.finish.Tie as tie
 
@@ -52,7 +52,7 @@ returns-3 c =
     let e = l .before in
     let a = e .before .before .before .before .args in
     finishes (now (a .out)) _
-    (finishing-says (a .s) (length (now (a .out))) (valid (e .before)) (e .if2 .left) ∙ ap (λ (ls : List Line). telling (textOf ls) (length (now (a .out)))) (sym (l .last-due .ensures .0)))
+    (finishing-says (a .s) (length (now (a .out))) (valid (e .before)) (e .if2 .left) ∙ ap (λ (ls : List Line). telling (textOf ls) (length (now (a .out)))) (sym (l .last-due .ensures .0)) ∙ sym (telling-sized (l .last-due .result) (length (now (a .out))) (l .last-due .ensures .1)))
     (t .tell .ensures)
 
 pub finish-spec : {M : Type 1} → statement M

@@ -1,6 +1,6 @@
 -- A span that has stopped is valid; of any other, count and head decide.
 use borrow.Author.Needs.{needs}
-use mathlib.Core.Path.{_≡_, refl, sym, _∙_}
+use mathlib.Core.Path.{refl, sym, _∙_}
 use borrow.Author.Tests.{not-true, not-false}
 use Rattle.spans.proofs.Eats.{valid-by}
 use Rattle.spans.proofs.eating.is_valid.Statement.{statement}

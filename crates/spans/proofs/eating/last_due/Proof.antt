@@ -1,10 +1,10 @@
 -- By how many bytes have come, of the head and of the packet.
 use borrow.Author.Needs.{needs}
-use mathlib.Core.Path.{_≡_, ap, _∙_}
-use Prim.Native.Nat.{ℕ}
+use mathlib.Core.Path.{ap, _∙_}
 use borrow.Author.Tests.{lt-ltb, le-ltb, eq-eqb, ne-eqb}
 use Rattle.heads.specs.declared.Head.{Head}
-use Rattle.spans.specs.Eating.{headOf, dueNow}
+use Rattle.spans.specs.Eating.{headOf}
+use Rattle.spans.specs.Dues.{dueNow}
 use Rattle.spans.proofs.Eats.{due-sized, due-is}
 use Rattle.spans.proofs.eating.last_due.Statement.{statement}
 use Rattle.spans.proofs.eating.last_due.Tie as tie

@@ -1,17 +1,12 @@
 -- The head waits, or its lines are told or do not fit.
 use borrow.Author.Needs.{needs}
-use Prim.Native.Nat.{ℕ, _≤_, _<_, _-_}
-use mathlib.Core.Path.{_≡_, refl, sym, ap, _∙_}
-use mathlib.Core.List.{List}
+use Prim.Native.Nat.{_≤_, _-_}
+use mathlib.Core.Path.{_≡_, refl, ap, _∙_}
 use native.Mathlib.Omega.{arith}
 use denote.Ref.{now}
 use lib.ListN.{length}
-use lib.Seq.{sets}
 use Rattle.spans.specs.declared.Span.{Span}
-use Rattle.spans.specs.declared.Told.{Told}
-use Rattle.spans.specs.Lines.{Line, textOf}
-use Rattle.spans.specs.Due.{dueLines, telling}
-use Rattle.spans.specs.Eating.{headTaken, headLines, headRead, opening, openingBy, saying, refused, silently}
+use Rattle.spans.specs.Eating.{headLines, headRead, opening, saying}
 use Rattle.spans.proofs.Eats.{answers, opening-by, opening-waits, opening-says, no-room, room}
 use Rattle.spans.proofs.eating.open.Statement.{statement}
 use Rattle.spans.proofs.eating.open.Tie as tie
@@ -70,7 +65,7 @@ returns-2 c =
     let t = told .before .before .before .before .before .before .before .before .before .before in
     let a = t .before .before .before .args in
     let code = h .head-code .result in
-    no-room (a .s) (headRead code (t .take-head .result)) (t .take-head .result .taken - a .s .taken) (headLines code) (told .before .before .head-due .result) (told .before .before .head-due .ensures .0) (now (a .out)) _ (told .tell .result) (told .tell .ensures) _ (whole told) _ (c .refuse .ensures) (tested .if2 .taken)
+    no-room (a .s) (headRead code (t .take-head .result)) (t .take-head .result .taken - a .s .taken) (headLines code) (told .before .before .head-due .result) (told .before .before .head-due .ensures .0) (told .before .before .head-due .ensures .1) (now (a .out)) _ (told .tell .result) (told .tell .ensures) _ (whole told) _ (c .refuse .ensures) (tested .if2 .taken)
 
 read-span-requires : tie.Need-read-span-requires
 read-span-requires c κs = search needs
@@ -86,7 +81,7 @@ returns-3 c =
     let t = told .before .before .before .before .before .before .before .before .before .before in
     let a = t .before .before .before .args in
     let code = h .head-code .result in
-    room (a .s) (headRead code (t .take-head .result)) (t .take-head .result .taken - a .s .taken) (headLines code) (told .before .before .head-due .result) (told .before .before .head-due .ensures .0) (now (a .out)) _ (told .tell .result) (told .tell .ensures) _ (whole told) _ (ap (λ (x : Span). record { code = 1; consumed = t .take-head .result .taken - a .s .taken; wrote = told .tell .result .wrote; span = x }) (c .read-span .ensures)) (tested .if2 .left)
+    room (a .s) (headRead code (t .take-head .result)) (t .take-head .result .taken - a .s .taken) (headLines code) (told .before .before .head-due .result) (told .before .before .head-due .ensures .0) (told .before .before .head-due .ensures .1) (now (a .out)) _ (told .tell .result) (told .tell .ensures) _ (whole told) _ (ap (λ (x : Span). record { code = 1; consumed = t .take-head .result .taken - a .s .taken; wrote = told .tell .result .wrote; span = x }) (c .read-span .ensures)) (tested .if2 .left)
 
 pub open-spec : {M : Type 1} → statement M
 open-spec =

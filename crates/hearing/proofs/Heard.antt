@@ -1,0 +1,141 @@
+-- What a byte of a packet comes to, from what the tests came to.
+use Prim.Native.Nat.{ℕ, zero, suc, _+_, _/_, _%_, _≤_, _<_}
+use mathlib.Core.Path.{_≡_, refl, sym, ap, _∙_}
+use mathlib.Core.Bool.{Bool, true, false, _&&_, not}
+use mathlib.Core.List.{List, [], _∷_}
+use native.Mathlib.Decide.{decLt}
+use native.Mathlib.Omega.{arith}
+use lib.Dec.{eqb, ltb}
+use lib.ListN.{getD}
+use borrow.Author.Tests.{ltb-false, eqb-true}
+use Rattle.wire.proofs.Laws.{true-not-false, and-left, pick-keeps}
+use Rattle.wire.specs.Choice.{pick, check, firstOf}
+use Rattle.packets.specs.declared.Form.{Form}
+use Rattle.packets.specs.Forms.{sameForm, totalOf, listed}
+use Rattle.packets.specs.Numbers.{stepOf}
+use Rattle.packets.proofs.Numbers.{step-above, step-not-above}
+use Rattle.reader.specs.Reading.{last}
+use Rattle.hearing.specs.declared.Tally.{Tally}
+use Rattle.hearing.specs.declared.Reach.{Reach}
+use Rattle.hearing.specs.Hearing.{formNow, positionNow, orphan, heardCode, taking, accepting, closes, cameTo}
+use Rattle.hearing.specs.Steps.{Sane, wordAt, twoAt}
+
+abbrev pub codeBy : Bool → Bool → Bool → Bool → Bool → Bool → ℕ
+codeBy few ok short same lone past =
+    firstOf
+    (check 0 few ∷ check 30 (not ok) ∷ check 0 short ∷ check 32 (not same) ∷ check 31 lone ∷ check 33 past ∷ [])
+    1
+
+pub heard-by : (f : Form) (t : Tally) {few ok short same lone past : Bool} → ltb (t .taken) 2 ≡ few → listed (formNow t) ≡ ok → ltb (t .taken) (totalOf (formNow t)) ≡ short
+    → sameForm (formNow t) f ≡ same → orphan t ≡ lone → ltb last (positionNow t) ≡ past → heardCode f t ≡ codeBy few ok short same lone past
+unfolding heardCode
+heard-by f t a b c d e g = cc
+
+abbrev pub reachBy : ℕ → ℕ → Bool → Tally → Reach
+reachBy n code close t =
+    pick (eqb code 0) (record { at = n; code = 0; tally = t })
+    (pick (eqb code 1 && not close) (record { at = n; code = 0; tally = accepting t }) (record { at = n; code = code; tally = t }))
+
+pub came-by : (n : ℕ) (f : Form) (t : Tally) {code : ℕ} {close : Bool} → heardCode f t ≡ code → closes t ≡ close → cameTo n f t ≡ reachBy n code close t
+unfolding cameTo
+came-by n f t p q = cc
+
+-- a code is at most 33
+pub heard-small : (f : Form) (t : Tally) → heardCode f t ≤ 33
+unfolding heardCode
+heard-small f t =
+    pick-keeps (λ (n : ℕ). n ≤ 33) (ltb (t .taken) 2) _ _ (λ e. omega arith)
+    (λ e.
+    pick-keeps (λ (n : ℕ). n ≤ 33) (not (listed (formNow t))) _ _ (λ e. omega arith)
+    (λ e.
+    pick-keeps (λ (n : ℕ). n ≤ 33) (ltb (t .taken) (totalOf (formNow t))) _ _ (λ e. omega arith)
+    (λ e.
+    pick-keeps (λ (n : ℕ). n ≤ 33) (not (sameForm (formNow t) f)) _ _ (λ e. omega arith)
+    (λ e. pick-keeps (λ (n : ℕ). n ≤ 33) (orphan t) _ _ (λ e. omega arith) (λ e. pick-keeps (λ (n : ℕ). n ≤ 33) (ltb last (positionNow t)) _ _ (λ e. omega arith) (λ e. omega arith))))))
+
+-- what `total_of` answers for a listed form
+pub total-is : (f g : Form) (n : ℕ) → n ≡ pick (listed g) (totalOf g) 0 → g ≡ f → listed f ≡ true → n ≡ totalOf f
+total-is f g n is same ok = is ∙ ap (λ (x : Form). pick (listed x) (totalOf x) 0) same ∙ rw ok
+
+-- a step is at most two turns
+pub step-small : (s t : ℕ) → s ≤ 65_535 → t ≤ 65_535 → stepOf s t ≤ 131_070
+step-small s t p q = elim (decLt s t) [ yes l ↦ omega (arith, step-above s t l) | no l ↦ omega (arith, step-not-above s t (omega arith)) ]
+
+pub not-none : (n : ℕ) → not (eqb n 0) ≡ true → 0 < n
+not-none zero e = absurd (true-not-false (sym e))
+not-none (suc n) e = omega arith
+
+-- ---- the four bytes at a place
+
+module _ (piece : List ℕ) (at : ℕ) (small : (k : ℕ) → getD piece k 0 < 256) where
+  pub word-header : wordAt piece at % 65536 ≡ twoAt piece at
+  word-header = omega (arith, small at, small (at + 1), small (at + 2), small (at + 3))
+
+  pub word-number : wordAt piece at / 65536 ≡ twoAt piece (at + 2)
+  word-number =
+      let next : at + 2 + 1 ≡ at + 3 = omega arith in
+      rw next (omega (arith, small at, small (at + 1), small (at + 2), small (at + 3)))
+
+-- what a form with some total has
+pub total-some : (g : Form) (n : ℕ) → n ≡ pick (listed g) (totalOf g) 0 → 0 < n → (listed g ≡ true) × (n ≡ totalOf g)
+total-some g n is some = by (listed g) refl
+  where
+    by : (l : Bool) → listed g ≡ l → (listed g ≡ true) × (n ≡ totalOf g)
+    by true e = (e, is ∙ rw e)
+    by false e =
+        let none : n ≡ 0 = is ∙ rw e in
+        absurd (omega arith)
+
+-- What an accepted packet has.
+pub record Accepted (f : Form) (t : Tally) : Type 0 where
+  pub some : 2 ≤ t .taken
+  pub form : listed (formNow t) ≡ true
+  pub whole : totalOf (formNow t) ≤ t .taken
+  pub same : sameForm (formNow t) f ≡ true
+  pub belongs : orphan t ≡ false
+  pub fits : positionNow t ≤ last
+
+pub accepted : (f : Form) (t : Tally) → heardCode f t ≡ 1 → Accepted f t
+accepted f t e = by (ltb (t .taken) 2) (listed (formNow t)) (ltb (t .taken) (totalOf (formNow t))) (sameForm (formNow t) f) (orphan t) (ltb last (positionNow t)) refl refl refl refl refl refl
+  where
+    by : (few ok short same lone past : Bool) → ltb (t .taken) 2 ≡ few → listed (formNow t) ≡ ok → ltb (t .taken) (totalOf (formNow t)) ≡ short → sameForm (formNow t) f ≡ same → orphan t ≡ lone
+        → ltb last (positionNow t) ≡ past
+        → Accepted f t
+    by true ok short same lone past a b c d g h = absurd (omega (arith, heard-by f t a b c d g h))
+    by false false short same lone past a b c d g h = absurd (omega (arith, heard-by f t a b c d g h))
+    by false true true same lone past a b c d g h = absurd (omega (arith, heard-by f t a b c d g h))
+    by false true false false lone past a b c d g h = absurd (omega (arith, heard-by f t a b c d g h))
+    by false true false true true past a b c d g h = absurd (omega (arith, heard-by f t a b c d g h))
+    by false true false true false true a b c d g h = absurd (omega (arith, heard-by f t a b c d g h))
+    by false true false true false false a b c d g h =
+        record { some = ltb-false _ _ a; form = b; whole = ltb-false _ _ c; same = d; belongs = g; fits = ltb-false _ _ h }
+
+-- ---- sums that fit
+
+-- an accepted packet leaves a sane tally
+pub sane-accepting : (rest : ℕ) (t : Tally) → Sane rest t → 0 < t .taken → positionNow t ≤ last → Sane rest (accepting t)
+unfolding accepting
+sane-accepting rest t s some fits =
+    record {
+      room = omega (arith, s .room);
+      heard = pick-keeps (λ (n : ℕ). n ≤ t .begins + t .taken) (eqb (t .number) 0) 1 (t .heard + 1) (λ e. omega arith) (λ e. omega (arith, s .heard));
+      captures = pick-keeps (λ (n : ℕ). n ≤ t .begins + t .taken) (eqb (t .number) 0) (t .captures + 1) (t .captures) (λ e. omega (arith, s .captures)) (λ e. omega (arith, s .captures));
+      position = fits;
+    }
+
+-- so does each byte
+pub sane-taking : (rest : ℕ) (t : Tally) (b : ℕ) → Sane (rest + 1) t → Sane rest (taking t b)
+unfolding taking
+sane-taking rest t b s = record { room = omega (arith, s .room); heard = s .heard; captures = s .captures; position = s .position }
+
+pub sane-came : (rest n : ℕ) (f : Form) (t : Tally) → Sane rest t → 0 < t .taken → Sane rest (cameTo n f t .tally)
+unfolding cameTo
+sane-came rest n f t s some =
+    pick-keeps (λ (r : Reach). Sane rest (r .tally)) (eqb (heardCode f t) 0) _ _ (λ e. s)
+    (λ e.
+    pick-keeps (λ (r : Reach). Sane rest (r .tally)) (eqb (heardCode f t) 1 && not (closes t)) _ _
+    (λ q. sane-accepting rest t s some (accepted f t (eqb-true _ _ (and-left (eqb (heardCode f t) 1) (not (closes t)) q)) .fits))
+    (λ q. s))
+
+pub sane-less : {rest : ℕ} (less : ℕ) {t : Tally} → less ≤ rest → Sane rest t → Sane less t
+sane-less less h s = record { room = omega (arith, s .room); heard = s .heard; captures = s .captures; position = s .position }

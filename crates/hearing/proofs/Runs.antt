@@ -1,0 +1,123 @@
+-- A run of whole packets that bring no line: what holds from packet to packet.
+use Prim.Native.Nat.{ℕ, zero, suc, _+_, _-_, _%_, _≤_, _<_}
+use mathlib.Core.Path.{_≡_, refl, sym, ap, _∙_}
+use mathlib.Core.Bool.{true}
+use mathlib.Core.List.{List}
+use native.Mathlib.Decide.{decLt}
+use native.Mathlib.Omega.{arith}
+use lib.ListN.{length, drop}
+use Rattle.wire.specs.Header.{headerOf, typeData}
+use Rattle.packets.specs.declared.Form.{Form}
+use Rattle.packets.specs.Forms.{totalOf, listed, formWithHeader}
+use Rattle.packets.specs.Numbers.{numberAt, stepOf}
+use Rattle.packets.proofs.Numbers.{step-above, step-not-above}
+use Rattle.reader.specs.Reading.{last}
+use Rattle.hearing.specs.declared.Tally.{Tally}
+use Rattle.hearing.specs.Hearing.{reaching}
+use Rattle.hearing.specs.Steps.{goesOn, Sane, Goes, Between, Follows, twoAt}
+use Rattle.hearing.proofs.Reaches.{followed, reach-follows, form-with-own, total-least}
+
+-- the number that a step leads to is the number at the position that it leads to
+pub number-step : (p n : ℕ) → 0 < n → n ≤ 65_535 → numberAt (p + stepOf (numberAt p) n) ≡ n
+number-step zero n some small =
+    let go : 0 + stepOf 0 n ≡ suc (n - 1) = omega (arith, step-above 0 n some) in
+    rw go (omega arith)
+number-step (suc p) n some small = elim (decLt (p % 65_535 + 1) n) [ yes l ↦ up l | no l ↦ over (omega arith) ]
+  where
+    up : p % 65_535 + 1 < n → numberAt (suc p + stepOf (p % 65_535 + 1) n) ≡ n
+    up l =
+        let go : suc p + stepOf (p % 65_535 + 1) n ≡ suc (p + (n - (p % 65_535 + 1))) = omega (arith, step-above (p % 65_535 + 1) n l) in
+        rw go (omega arith)
+
+    over : n ≤ p % 65_535 + 1 → numberAt (suc p + stepOf (p % 65_535 + 1) n) ≡ n
+    over l =
+        let go : suc p + stepOf (p % 65_535 + 1) n ≡ suc (p + (n + 65_535 - (p % 65_535 + 1))) = omega (arith, step-not-above (p % 65_535 + 1) n l) in
+        rw go (omega arith)
+
+-- the tally between two packets of the run
+abbrev pub runTally : Tally → ℕ → ℕ → ℕ → ℕ → Tally
+runTally t from at heard position =
+    record {
+      begins = t .begins + (at - from);
+      taken = 0;
+      header = 0;
+      number = 0;
+      captures = t .captures;
+      heard = heard;
+      position = position;
+    }
+
+same-tally : (t : Tally) {a b c d : ℕ} → a ≡ t .begins → b ≡ t .taken → c ≡ t .header → d ≡ t .number
+    → record { begins = a; taken = b; header = c; number = d; captures = t .captures; heard = t .heard; position = t .position } ≡ t
+same-tally t p q r s = rw (p, q, r, s)
+
+-- What holds between two packets. The run knows its form by the header.
+pub record Running (t : Tally) (piece : List ℕ) (from total front at heard position number next : ℕ) : Type 0 where
+  pub low : from ≤ at
+  pub inside : at ≤ length piece
+  pub some : 0 < heard
+  pub few : heard ≤ t .begins + (at - from)
+  pub allowed : position ≤ last
+  pub numbered : number ≡ numberAt position
+  pub follows : 0 < next → Follows piece at front total number position next
+  pub same : reaching at (formWithHeader front) (runTally t from at heard position) (drop at piece) ≡ reaching from (formWithHeader front) t (drop from piece)
+
+module _ (f : Form) (t : Tally) (piece : List ℕ) (from total front : ℕ) (ok : listed f ≡ true) (long : total ≡ totalOf f) (is-front : front ≡ headerOf typeData (totalOf f)) where
+  pub form-is : formWithHeader front ≡ f
+  form-is = ap formWithHeader is-front ∙ form-with-own f ok
+
+  pub running-start : (number next : ℕ) → Between t → Sane (length piece - from) t → from ≤ length piece → number ≡ numberAt (t .position)
+      → (0 < next → Follows piece from front total number (t .position) next) → Running t piece from total front from (t .heard) (t .position) number next
+  running-start number next b s inside numbered follows =
+      let none : t .begins + (from - from) ≡ t .begins = omega arith in
+      record {
+        low = omega arith;
+        inside = inside;
+        some = b .heard;
+        few = omega (arith, s .heard);
+        allowed = s .position;
+        numbered = numbered;
+        follows = follows;
+        same =
+            ap (λ (u : Tally). reaching from (formWithHeader front) u (drop from piece))
+            (same-tally t none (sym (b .taken)) (sym (b .header)) (sym (b .number)));
+      }
+
+  pub running-turn : (at heard position number next after last′ : ℕ) → Running t piece from total front at heard position number next → 0 < next
+      → after ≡ twoAt piece (at + 2) → after ≤ 65_535 → (0 < last′ → Follows piece (at + total) front total after next last′)
+      → Running t piece from total front (at + total) (heard + 1) next after last′
+  running-turn at heard position number next after last′ r some is small follows =
+      let x = r .follows some in
+      let least = total-least f ok in
+      let go : next ≡ position + stepOf (numberAt position) after = x .here ∙ rw (r .numbered, is) in
+      let packet : Follows piece at (headerOf typeData (totalOf f)) total (numberAt position) position next = rw (is-front, r .numbered) at x in
+      let now : Tally = runTally t from at heard position in
+      let step : reaching at (formWithHeader front) now (drop at piece) ≡ reaching (at + total) (formWithHeader front) (followed now total next) (drop (at + total) piece)
+      = rw form-is (reach-follows f now piece at total next ok refl (r .some) long packet) in
+      let on : t .begins + (at - from) + total ≡ t .begins + (at + total - from) = omega (arith, r .low) in
+      record {
+        low = omega (arith, r .low);
+        inside = x .room;
+        some = omega arith;
+        few = omega (arith, r .few, r .low, long, least);
+        allowed = x .fits;
+        numbered = sym (ap numberAt go ∙ number-step position after (omega (arith, is, x .above)) small);
+        follows = follows;
+        same = ap (λ (k : ℕ). reaching (at + total) (formWithHeader front) (record { begins = k; taken = 0; header = 0; number = 0; captures = t .captures; heard = heard + 1; position = next }) (drop (at + total) piece)) (sym on) ∙ sym step ∙ r .same;
+      }
+
+  pub running-end : (at heard position number next : ℕ) → Running t piece from total front at heard position number next → Sane (length piece - from) t
+      → Goes f t piece from (record { at = at; code = 0; tally = runTally t from at heard position })
+  unfolding goesOn
+  running-end at heard position number next r s =
+      record {
+        same = rw form-is at (r .same);
+        inside = r .inside;
+        sane =
+            record {
+              room = omega (arith, r .low, r .inside, s .room);
+              heard = r .few;
+              captures = omega (arith, s .captures);
+              position = r .allowed;
+            };
+      }

@@ -1,0 +1,23 @@
+-- By how many bytes were taken.
+use borrow.Author.Needs.{needs}
+use borrow.Author.Tests.{eq-eqb, ne-eqb}
+use Rattle.hearing.proofs.coming.field_with.Statement.{statement}
+use Rattle.hearing.proofs.coming.field_with.Tie as tie
+
+returns : tie.Need-returns
+returns c = rw (eq-eqb _ _ (c .if1 .taken))
+
+add-if2 : tie.Need-add-if2
+add-if2 c = search needs
+
+joined-of-requires : tie.Need-joined-of-requires
+joined-of-requires c κs = search needs
+
+returns-2 : tie.Need-returns-2
+returns-2 c = rw (ne-eqb _ _ (c .before .before .if1 .left), eq-eqb _ _ (c .before .if2 .taken)) (c .joined-of .ensures)
+
+returns-3 : tie.Need-returns-3
+returns-3 c = rw (ne-eqb _ _ (c .before .if1 .left), ne-eqb _ _ (c .if2 .left))
+
+pub field-with-spec : {M : Type 1} → statement M
+field-with-spec = tie.close (tie.spec returns add-if2 joined-of-requires returns-2 returns-3)

@@ -1,0 +1,128 @@
+-- A capture's packets as they come.
+use Prim.Native.Nat.{ℕ, _+_, _*_, _%_}
+use mathlib.Core.Bool.{Bool, _&&_, not}
+use mathlib.Core.List.{List, [], _∷_}
+use lib.Dec.{eqb, leb, ltb}
+use Rattle.wire.specs.Choice.{pick, Check, check, firstOf}
+use Rattle.packets.specs.declared.Form.{Form}
+use Rattle.packets.specs.Forms.{sameForm, totalOf, listed, formWithHeader}
+use Rattle.reader.specs.declared.Reader.{Reader}
+use Rattle.reader.specs.Reading.{last, positionAfter}
+use Rattle.hearing.specs.declared.Tally.{Tally}
+use Rattle.hearing.specs.declared.Reach.{Reach}
+use Rattle.hearing.specs.declared.Outcome.{Outcome}
+
+-- ---- a tally
+
+-- the last input byte that a tally counts up to, 2 ^ 63
+abbrev pub farthest : ℕ
+farthest = 0x8000_0000_0000_0000
+
+-- Each count within its range: the input byte, no more packets or captures than bytes, and a position that there is. A tally
+-- outside it is broken (21).
+abbrev pub inRange : Tally → Bool
+inRange t =
+    leb (t .begins + t .taken) farthest
+    && leb (t .heard) (t .begins)
+    && leb (t .captures) (t .begins)
+    && leb (t .position) last
+
+-- ---- one byte
+
+-- the number of a low byte and a high byte. (What is no byte counts with its last eight bits.)
+abbrev pub joined : ℕ → ℕ → ℕ
+joined low high = low % 256 + 256 * high
+
+-- a 16-bit field that begins at a place of the packet, after one byte more
+abbrev pub fieldWith : ℕ → ℕ → ℕ → ℕ → ℕ
+fieldWith place taken field b = pick (eqb taken place) b (pick (eqb taken (place + 1)) (joined field b) field)
+
+-- One byte of the packet more. "Header, 16-bit packet number, then I and Q in turn": all but the first four are skipped.
+unfoldable pub taking : Tally → ℕ → Tally
+taking t b =
+    record {
+      begins = t .begins;
+      taken = t .taken + 1;
+      header = fieldWith 0 (t .taken) (t .header) b;
+      number = fieldWith 2 (t .taken) (t .number) b;
+      captures = t .captures;
+      heard = t .heard;
+      position = t .position;
+    }
+
+-- the form that the header has
+abbrev pub formNow : Tally → Form
+formNow t = formWithHeader (t .header)
+
+-- the packet reader in the open capture
+abbrev pub readerNow : Tally → Reader
+readerNow t = record { heard = not (eqb (t .heard) 0); position = t .position; form = formNow t }
+
+-- the position that the packet has
+abbrev pub positionNow : Tally → ℕ
+positionNow t = positionAfter (readerNow t) (t .number)
+
+-- a packet with a number above 0 where no capture is open
+abbrev pub orphan : Tally → Bool
+orphan t = not (eqb (t .number) 0) && eqb (t .heard) 0
+
+-- What the bytes taken come to, in a capture of a form: 0 waits for more. A header that is not listed is refused at once;
+-- all else waits for the whole packet.
+abbrev pub heardChecks : Form → Tally → List Check
+heardChecks f t =
+    check 0 (ltb (t .taken) 2)
+    ∷ check 30 (not (listed (formNow t)))
+    ∷ check 0 (ltb (t .taken) (totalOf (formNow t)))
+    ∷ check 32 (not (sameForm (formNow t) f))
+    ∷ check 31 (orphan t)
+    ∷ check 33 (ltb last (positionNow t))
+    ∷ []
+
+unfoldable pub heardCode : Form → Tally → ℕ
+heardCode f t = firstOf (heardChecks f t) 1
+
+-- the tally after an accepted packet: number 0 begins a new capture
+unfoldable pub accepting : Tally → Tally
+accepting t =
+    record {
+      begins = t .begins + t .taken;
+      taken = 0;
+      header = 0;
+      number = 0;
+      captures = pick (eqb (t .number) 0) (t .captures + 1) (t .captures);
+      heard = pick (eqb (t .number) 0) 1 (t .heard + 1);
+      position = positionNow t;
+    }
+
+-- an accepted packet with which the open capture ends
+abbrev pub closes : Tally → Bool
+closes t = eqb (t .number) 0 && not (eqb (t .heard) 0)
+
+-- What a byte comes to, with n bytes taken in all and the tally after it: a code other than 0 says that a line is due, and
+-- the tally is then left before the packet's effect.
+unfoldable pub cameTo : ℕ → Form → Tally → Reach
+cameTo n f t =
+    pick (eqb (heardCode f t) 0) (record { at = n; code = 0; tally = t })
+    (pick (eqb (heardCode f t) 1 && not (closes t)) (record { at = n; code = 0; tally = accepting t })
+    (record { at = n; code = heardCode f t; tally = t }))
+
+-- Bytes are taken until a line is due or they are used up; n were taken before.
+unfoldable pub reaching : ℕ → Form → Tally → List ℕ → Reach
+reaching n f t [] = record { at = n; code = 0; tally = t }
+reaching n f t (b ∷ bs) =
+    pick (eqb (cameTo (n + 1) f (taking t b) .code) 0) (reaching (n + 1) f (cameTo (n + 1) f (taking t b) .tally) bs)
+    (cameTo (n + 1) f (taking t b))
+
+-- ---- a piece
+
+-- the tally with which hearing goes on: where the open capture ended, the packet numbered 0 that ended it is accepted now
+abbrev pub nextTally : Reach → Tally
+nextTally r = pick (eqb (r .code) 1) (accepting (r .tally)) (r .tally)
+
+abbrev pub outcome : Reach → Outcome
+outcome r = record { reach = r; next = nextTally r }
+
+-- 21 for a broken tally or a form that is not listed
+unfoldable pub hearingOf : Form → Tally → List ℕ → Outcome
+hearingOf f t piece =
+    pick (inRange t && listed f) (outcome (reaching 0 f t piece)) (outcome (record { at = 0; code = 21; tally = t }))

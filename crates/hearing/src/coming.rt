@@ -1,0 +1,191 @@
+// A packet as it comes, byte by byte: its header and its number are read, its samples are counted.
+ghost use mathlib.Core.Path.{_≡_};
+ghost use Prim.Native.Nat.{_+_, _≤_, _<_};
+ghost use Rattle.reader.specs.Reading.{last};
+ghost use Rattle.hearing.specs.Hearing.{inRange, joined, fieldWith, taking, positionNow, orphan, heardCode, accepting, closes, cameTo};
+ghost use Rattle.hearing.specs.Steps.{Sane};
+use crate::Reach;
+use crate::Tally;
+use packets::Form;
+
+// Whether each count of a tally is within its range. A tally that is not is broken.
+pub fn in_range(t: Tally) -> bool
+    ensures { λ r. ⌜ r ≡ inRange t ⌝ }
+{
+    if 0x8000_0000_0000_0000 < t.begins {
+        return false;
+    }
+    if 0x8000_0000_0000_0000 - t.begins < t.taken {
+        return false;
+    }
+    if t.begins < t.heard {
+        return false;
+    }
+    if t.begins < t.captures {
+        return false;
+    }
+    t.position <= 3_999_999_999
+}
+
+// The number of a low byte and a high byte.
+fn joined_of(low: u16, high: u8) -> u16
+    ensures { λ r. ⌜ r ≡ joined low high ⌝ }
+{
+    low % 256 + 256 * high as u16
+}
+
+// A 16-bit field that begins at a place of the packet, after one byte more.
+fn field_with(place: u64, taken: u64, field: u16, b: u8) -> u16
+    requires { ⌜ place ≤ 2 ⌝ }
+    ensures { λ r. ⌜ r ≡ fieldWith place taken field b ⌝ }
+{
+    if taken == place {
+        return b as u16;
+    }
+    if taken == place + 1 {
+        return joined_of(field, b);
+    }
+    field
+}
+
+// One byte of the packet more.
+pub(crate) fn take_byte(t: Tally, b: u8) -> Tally
+    requires { ⌜ t .taken + 1 < 0x1_0000_0000_0000_0000 ⌝ }
+    ensures { λ r. ⌜ r ≡ taking t b ⌝ }
+{
+    Tally {
+        begins: t.begins,
+        taken: t.taken + 1,
+        header: field_with(0, t.taken, t.header, b),
+        number: field_with(2, t.taken, t.number, b),
+        captures: t.captures,
+        heard: t.heard,
+        position: t.position,
+    }
+}
+
+// The position that the packet has.
+fn position_now(t: Tally) -> u64
+    requires { ⌜ t .position ≤ last ⌝ }
+    ensures { λ r. ⌜ r ≡ positionNow t ⌝ }
+{
+    if t.number == 0 {
+        return 0;
+    }
+    t.position + packets::step(packets::number_at_position(t.position), t.number)
+}
+
+// Whether a packet has a number above 0 where no capture is open.
+fn is_orphan(t: Tally) -> bool
+    ensures { λ r. ⌜ r ≡ orphan t ⌝ }
+{
+    if t.number == 0 {
+        return false;
+    }
+    t.heard == 0
+}
+
+// What the bytes taken come to, in a capture of a form: 0 waits for more.
+fn code_of(f: Form, t: Tally) -> u8
+    requires { ⌜ t .position ≤ last ⌝ }
+    ensures { λ r. ⌜ r ≡ heardCode f t ⌝ }
+{
+    let now = packets::form_of_header(t.header);
+    let known = packets::is_listed(now);
+    let total = packets::total_of(now);
+    let same = packets::same_form(now, f);
+    let lone = is_orphan(t);
+    let position = position_now(t);
+    if t.taken < 2 {
+        return 0;
+    }
+    if !known {
+        return 30;
+    }
+    if t.taken < total {
+        return 0;
+    }
+    if !same {
+        return 32;
+    }
+    if lone {
+        return 31;
+    }
+    if 3_999_999_999 < position {
+        return 33;
+    }
+    1
+}
+
+// The tally after an accepted packet.
+pub(crate) fn accept(t: Tally) -> Tally
+    requires { ⌜ Sane 0 t × (0 < t .taken) ⌝ }
+    ensures { λ r. ⌜ r ≡ accepting t ⌝ }
+{
+    let position = position_now(t);
+    let begins = t.begins + t.taken;
+    if t.number == 0 {
+        return Tally {
+            begins,
+            taken: 0,
+            header: 0,
+            number: 0,
+            captures: t.captures + 1,
+            heard: 1,
+            position,
+        };
+    }
+    Tally {
+        begins,
+        taken: 0,
+        header: 0,
+        number: 0,
+        captures: t.captures,
+        heard: t.heard + 1,
+        position,
+    }
+}
+
+// Whether the open capture ends with the packet.
+fn is_close(t: Tally) -> bool
+    ensures { λ r. ⌜ r ≡ closes t ⌝ }
+{
+    if t.number == 0 {
+        return t.heard != 0;
+    }
+    false
+}
+
+// What a byte comes to, with n bytes taken in all and the tally after it.
+pub(crate) fn come_to(n: usize, f: Form, t: Tally) -> Reach
+    requires { ⌜ Sane 0 t × (0 < t .taken) ⌝ }
+    ensures { λ r. ⌜ r ≡ cameTo n f t ⌝ }
+{
+    let code = code_of(f, t);
+    if code == 0 {
+        return Reach {
+            at: n,
+            code: 0,
+            tally: t,
+        };
+    }
+    if code == 1 {
+        if is_close(t) {
+            return Reach {
+                at: n,
+                code: 1,
+                tally: t,
+            };
+        }
+        return Reach {
+            at: n,
+            code: 0,
+            tally: accept(t),
+        };
+    }
+    Reach {
+        at: n,
+        code,
+        tally: t,
+    }
+}

@@ -1,0 +1,18 @@
+-- Each test that fails says no, and the last is the answer.
+use mathlib.Core.Path.{refl, sym}
+use borrow.Author.Tests.{lt-leb, le-leb}
+use Rattle.lines.proofs.Dues.{sized-by}
+use Rattle.lines.proofs.telling.is_sized.Statement.{statement}
+use Rattle.lines.proofs.telling.is_sized.Tie as tie
+
+returns : tie.Need-returns
+returns c = sym (sized-by (c .before .before .args .d) (lt-leb _ _ (c .if1 .taken)) refl refl)
+
+returns-2 : tie.Need-returns-2
+returns-2 c = sym (sized-by (c .before .before .before .before .args .d) (le-leb _ _ (c .before .before .if1 .left)) (lt-leb _ _ (c .if2 .taken)) refl)
+
+returns-3 : tie.Need-returns-3
+returns-3 c = sym (sized-by (c .before .before .before .before .before .args .d) (le-leb _ _ (c .before .before .before .if1 .left)) (le-leb _ _ (c .before .if2 .left)) refl)
+
+pub is-sized-spec : {M : Type 1} → statement M
+is-sized-spec = tie.close (tie.spec returns returns-2 returns-3)

@@ -1,0 +1,49 @@
+-- The lines that are due at one moment, and what writing them answers.
+use Prim.Native.Nat.{ℕ}
+use mathlib.Core.Bool.{Bool, _&&_, not}
+use mathlib.Core.List.{List, [], _∷_, _++_}
+use lib.Dec.{eqb, leb, ltb}
+use lib.ListN.{length}
+use Rattle.wire.specs.Choice.{pick}
+use Rattle.lines.specs.declared.Due.{Due}
+use Rattle.lines.specs.declared.Told.{Told}
+use Rattle.lines.specs.Lines.{Line, textOf, openingLine, captureLine, refusalLine, endLine}
+
+abbrev pub openingIf : Bool → List Line
+openingIf on = pick on (openingLine ∷ []) []
+
+-- the line of a capture in which packets were heard
+abbrev pub captureIf : Due → List Line
+captureIf d =
+    pick (eqb (d .heard) 0) []
+    (captureLine (record { bits = d .bits; pairs = d .pairs }) (d .divisor) (d .capture) (d .heard) (d .position) ∷ [])
+
+abbrev pub endingIf : Due → List Line
+endingIf d =
+    pick (eqb (d .ending) 1) (refusalLine (d .code) (d .offset) ∷ [])
+    (pick (eqb (d .ending) 2) (endLine (d .capture) ∷ []) [])
+
+abbrev pub dueLines : Due → List Line
+dueLines d = openingIf (d .opening) ++ (captureIf d ++ endingIf d)
+
+-- a position, pairs and a D within what a capture can have: the products of its line fit 64 bits then
+unfoldable pub sized : Due → Bool
+sized d = leb (d .position) 3_999_999_999 && leb (d .pairs) 256 && leb (d .divisor) 625
+
+-- what writing answers, and the bytes that it writes at the start of the lent slice
+pub record Telling : Type 0 where
+  pub told : Told
+  pub bytes : List ℕ
+
+-- nothing is written, with a code
+abbrev pub silentWith : ℕ → Telling
+silentWith code = record { told = record { code = code; wrote = 0 }; bytes = [] }
+
+-- a text is written whole, or not at all, with 20, where the slice is shorter
+abbrev pub telling : List ℕ → ℕ → Telling
+telling text room =
+    pick (ltb room (length text)) (silentWith 20) (record { told = record { code = 1; wrote = length text }; bytes = text })
+
+-- 16 for numbers that no capture has, and else the lines' text
+unfoldable pub tellingOf : Due → ℕ → Telling
+tellingOf d room = pick (not (sized d)) (silentWith 16) (telling (textOf (dueLines d)) room)

@@ -1,0 +1,12 @@
+-- What the functions that write text say of one another. No promise of the crate cites it.
+use Prim.Native.Nat.{ℕ, _+_, _≤_}
+use mathlib.Core.Path.{_≡_}
+use mathlib.Core.List.{List}
+use lib.ListN.{length}
+use lib.Seq.{sets}
+
+-- Text stored at a place of a buffer: what the buffer is then, and the place after the text, which is no longer than it may be.
+pub record Stored (most : ℕ) (before : List ℕ) (at : ℕ) (text after : List ℕ) (end : ℕ) : Type 0 where
+  pub stored : after ≡ sets before at text
+  pub ends : end ≡ at + length text
+  pub short : end ≤ at + most

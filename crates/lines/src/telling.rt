@@ -1,0 +1,103 @@
+// The lines that are due, written.
+ghost use mathlib.Core.Path.{_≡_};
+ghost use Prim.Native.Nat.{_+_, _≤_};
+ghost use lib.ListN.{length};
+ghost use lib.Seq.{sets};
+ghost use mathlib.Core.Bool.{true};
+ghost use Rattle.lines.specs.Lines.{textOf};
+ghost use Rattle.lines.specs.Storing.{Stored};
+ghost use Rattle.lines.specs.Due.{openingIf, captureIf, endingIf, dueLines, sized, tellingOf};
+use crate::Due;
+use crate::Told;
+use crate::text::copy;
+use crate::text::put_line;
+
+// "SPAN 1", where it is due.
+fn put_opening(on: bool, buf: &mut [u8], at: usize) -> usize
+    requires { ⌜ at + 26 ≤ length (now buf) ⌝ }
+    ensures { λ r. ⌜ Stored 26 (now (buf .entry)) at (textOf (openingIf on)) (now (buf .exit)) r ⌝ }
+{
+    if on {
+        let ns = [1u64];
+        return put_line(0x4E41_5053, 4, &ns, buf, at);
+    }
+    at
+}
+
+// The line of the capture that ends, where packets were heard in it.
+fn put_capture(d: Due, buf: &mut [u8], at: usize) -> usize
+    requires { ⌜ (at + 149 ≤ length (now buf)) × (sized d ≡ true) ⌝ }
+    ensures { λ r. ⌜ Stored 149 (now (buf .entry)) at (textOf (captureIf d)) (now (buf .exit)) r ⌝ }
+{
+    if d.heard == 0 {
+        return at;
+    }
+    let positions = d.position + 1;
+    let samples = positions * d.pairs;
+    let ns = [
+        d.capture,
+        d.bits,
+        d.pairs,
+        d.heard,
+        positions,
+        samples,
+        samples * d.divisor / 20,
+    ];
+    put_line(0x43, 1, &ns, buf, at)
+}
+
+// The refusal or the end, where one is due.
+fn put_ending(d: Due, buf: &mut [u8], at: usize) -> usize
+    requires { ⌜ at + 44 ≤ length (now buf) ⌝ }
+    ensures { λ r. ⌜ Stored 44 (now (buf .entry)) at (textOf (endingIf d)) (now (buf .exit)) r ⌝ }
+{
+    if d.ending == 1 {
+        let ns = [d.code, d.offset];
+        return put_line(0x52, 1, &ns, buf, at);
+    }
+    if d.ending == 2 {
+        let ns = [d.capture];
+        return put_line(0x45, 1, &ns, buf, at);
+    }
+    at
+}
+
+// All lines that are due, at the start of a buffer.
+fn put_due(d: Due, buf: &mut [u8]) -> usize
+    requires { ⌜ (219 ≤ length (now buf)) × (sized d ≡ true) ⌝ }
+    ensures { λ r. ⌜ Stored 219 (now (buf .entry)) 0 (textOf (dueLines d)) (now (buf .exit)) r ⌝ }
+{
+    let first = put_opening(d.opening, buf, 0);
+    let second = put_capture(d, buf, first);
+    put_ending(d, buf, second)
+}
+
+// Whether the products of a capture's line are those of numbers that a capture can have.
+fn is_sized(d: Due) -> bool
+    ensures { λ r. ⌜ r ≡ sized d ⌝ }
+{
+    if 3_999_999_999 < d.position {
+        return false;
+    }
+    if 256 < d.pairs {
+        return false;
+    }
+    d.divisor <= 625
+}
+
+// Writes the lines that are due at the start of a slice: 219 bytes are room enough. It refuses with 16 a position, pairs
+// or a D that no capture has, and then with 20 a slice that has no room for all lines; nothing is written then.
+pub fn tell(d: Due, out: &mut [u8]) -> Told
+    ensures { λ r. ⌜ (r ≡ tellingOf d (length (now (out .entry))) .told) × (now (out .exit) ≡ sets (now (out .entry)) 0 (tellingOf d (length (now (out .entry))) .bytes)) ⌝ }
+{
+    if !is_sized(d) {
+        return Told { code: 16, wrote: 0 };
+    }
+    let mut text = [0u8; 256];
+    let n = put_due(d, &mut text);
+    if out.len() < n {
+        return Told { code: 20, wrote: 0 };
+    }
+    copy(&text[..n], out, 0);
+    Told { code: 1, wrote: n }
+}

@@ -1,0 +1,23 @@
+-- The lines of a call as they are handed on to be written. No promise of the crate cites it.
+use Prim.Native.Nat.{ℕ}
+use mathlib.Core.Bool.{false}
+use Rattle.heads.specs.declared.Head.{Head}
+use Rattle.heads.specs.Head.{formIn}
+use Rattle.hearing.specs.declared.Tally.{Tally}
+use Rattle.lines.specs.declared.Due.{Due}
+
+-- the open capture's line, and a refusal (1) or the end (2) behind it
+abbrev pub dueNow : Head → Tally → ℕ → ℕ → ℕ → Due
+dueNow h t ending code offset =
+    record {
+      opening = false;
+      capture = t .captures;
+      bits = formIn h .bits;
+      pairs = formIn h .pairs;
+      divisor = h .divisor;
+      heard = t .heard;
+      position = t .position;
+      ending = ending;
+      code = code;
+      offset = offset;
+    }
