@@ -1,0 +1,13 @@
+-- One packet more, and every other setting as it was.
+use borrow.Author.Needs.{needs}
+use Rattle.cutting.proofs.counted.Statement.{statement}
+use Rattle.cutting.proofs.counted.Tie as tie
+
+add-settings : tie.Need-add-settings
+add-settings c = search needs
+
+returns : tie.Need-returns
+returns c = search needs
+
+pub counted-spec : {M : Type 1} → statement M
+counted-spec = tie.close (tie.spec add-settings returns)

@@ -1,0 +1,13 @@
+-- The band's limits are those of the table.
+use borrow.Author.Needs.{needs}
+use Rattle.tuning.proofs.bands.in_first.Statement.{statement}
+use Rattle.tuning.proofs.bands.in_first.Tie as tie
+
+within-requires : tie.Need-within-requires
+within-requires c κs = search needs
+
+returns : tie.Need-returns
+returns c = c .within .ensures
+
+pub in-first-spec : {M : Type 1} → statement M
+in-first-spec = tie.close (tie.spec within-requires returns)
