@@ -12,18 +12,23 @@ use borrow.Author.Tests.{eq-eqb, ne-eqb}
 use Rattle.wire.specs.Choice.{pick}
 use Rattle.wire.proofs.Laws.{true-not-false, test-true, within-low, within-high, is-within, pick-true}
 use Rattle.rates.specs.Rate.{isD, rateOf, mayAsk, nearestOf}
-use Rattle.rates.specs.Table.{rates, dIn, dOf}
-use Rattle.rates.proofs.Rules.{entry, everywhere, falling}
+use Rattle.rates.specs.Table.{ratesFrom, rates, dIn, dOf}
+use Rattle.rates.proofs.Rules.{everywhere, falling}
 use Rattle.rates.proofs.Choosing.{chosen, nearest-chosen, nearest-is}
 
 -- the rounding rule, at each place
+from-rule : (n d k : ℕ) → k < n → getD (ratesFrom d n) k 0 ≡ rateOf (k + d)
+from-rule zero d k h = absurd (not-suc-le-zero h)
+from-rule (suc n) d zero h = ap rateOf (omega arith)
+from-rule (suc n) d (suc k) h = from-rule n (d + 1) k (le-of-suc-le-suc h) ∙ ap rateOf (omega arith)
+
 pub table-rule : (k : ℕ) → k < 616 → getD rates k 0 ≡ rateOf (k + 10)
-unfolding rates rateOf
-table-rule = entry (λ k. rateOf (k + 10)) 616 rates tt refl
+unfolding rates
+table-rule = from-rule 616 10
 
 -- each entry is below those before it, so that all are distinct
 pub table-falls : (j k : ℕ) → j < k → k < 616 → getD rates k 0 < getD rates j 0
-unfolding rates
+unfolding rates rateOf
 table-falls = falling 2000001 rates tt
 
 -- a fact that holds at each place of the table holds of each D
@@ -35,7 +40,7 @@ at-d P h d is =
     rw place at (h (d - 10) (omega arith))
 
 asked : (k : ℕ) → k < 616 → mayAsk (rateOf (k + 10)) ≡ true
-unfolding rates
+unfolding rates rateOf
 asked k h = rw (table-rule k h) at (test-true (mayAsk (getD rates k 0)) (everywhere (λ j x. mayAsk x) 616 rates tt refl k h))
 
 -- an achieved rate lies in 32,000 to 2,000,000
@@ -43,7 +48,7 @@ pub rate-asked : (d : ℕ) → isD d ≡ true → mayAsk (rateOf d) ≡ true
 rate-asked = at-d (λ d. mayAsk (rateOf d) ≡ true) asked
 
 back : (k : ℕ) → k < 616 → chosen (rateOf (k + 10)) ≡ k + 10
-unfolding rates chosen
+unfolding rates rateOf chosen
 back k h = rw (table-rule k h) at (eqb→eq (chosen (getD rates k 0)) (k + 10) (everywhere (λ j x. eqb (chosen x) (j + 10)) 616 rates tt refl k h))
 
 -- and names its D alone: asked for, it gives this D

@@ -5,7 +5,7 @@ use mathlib.Core.List.{List, [], _∷_}
 use Prim.Native.Nat.{ℕ, zero, suc, _+_, _<_}
 use native.Mathlib.Nat.{add-zero, zero-add, le-of-suc-le-suc, not-suc-le-zero}
 use native.Mathlib.Omega.{arith}
-use lib.Dec.{T, eqb, ltb, eqb→eq, ltb→lt}
+use lib.Dec.{T, ltb, ltb→lt}
 use lib.ListN.{length, getD}
 
 both-left : (a b : Bool) → T (a && b) → T a
@@ -34,10 +34,6 @@ at f xs t k h = rw (zero-add k) at (from f xs 0 t k h)
 -- the same, where the table's length is known by an equation
 pub everywhere : (f : ℕ → ℕ → Bool) (n : ℕ) (xs : List ℕ) → T (every f 0 xs) → length xs ≡ n → (k : ℕ) → k < n → T (f k (getD xs k 0))
 everywhere f n xs t e k h = at f xs t k (rw e h)
-
--- each entry is what a rule says of its place
-pub entry : (g : ℕ → ℕ) (n : ℕ) (xs : List ℕ) → T (every (λ k x. eqb x (g k)) 0 xs) → length xs ≡ n → (k : ℕ) → k < n → getD xs k 0 ≡ g k
-entry g n xs t e k h = eqb→eq (getD xs k 0) (g k) (everywhere (λ j x. eqb x (g j)) n xs t e k h)
 
 -- each entry is below the one before it, and the first is below a bound
 abbrev pub falls : ℕ → List ℕ → Bool

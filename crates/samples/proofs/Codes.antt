@@ -14,7 +14,6 @@ use mir.Facts.{toZ-ofZ, toZ-pos}
 use borrow.Author.Tests.{ltb-true, lt-ltb, le-ltb}
 use Rattle.wire.specs.Signed.{coded, signed}
 use Rattle.packets.specs.Samples.{isSample, narrowed}
-use Rattle.samples.specs.Packing.{lowOf}
 
 -- z lifted by h, which is more than -z
 abbrev pub lifted : ℕ → ℤ → ℕ
@@ -61,6 +60,10 @@ shifted-small (negsuc n) l = omega arith
 pub lowered : (z : ℤ) → mag z < 8_388_608 → lifted 8_388_608 z % 65_536 ≡ coded 32 z % 65_536
 lowered (pos n) l = omega arith
 lowered (negsuc n) l = omega arith
+
+-- the low 16 of the 32 bits that stand for what is sent of a number
+abbrev pub lowOf : ℤ → ℕ
+lowOf z = coded 32 (narrowed 16 z) % 65_536
 
 -- of a sample they are the 16 bits that are sent
 pub low-sample : (z : ℤ) → isSample z ≡ true → lowOf z ≡ coded 16 (narrowed 16 z)

@@ -14,7 +14,17 @@ use borrow.Author.Tests.{ltb-true, ltb-false, lt-ltb, le-ltb}
 use Rattle.wire.specs.Choice.{pick}
 use Rattle.wire.proofs.Laws.{pick-ap, pick-same}
 use Rattle.packets.specs.Samples.{isSample, allSamples}
-use Rattle.samples.specs.Extent.{lesserOf, greaterOf, insideOf}
+
+-- the lesser and the greater of two numbers
+abbrev pub lesserOf : ℤ → ℤ → ℤ
+lesserOf a b = pick (ltZ b a) b a
+
+abbrev pub greaterOf : ℤ → ℤ → ℤ
+greaterOf a b = pick (ltZ a b) b a
+
+-- neither is outside "-8,388,608 to 8,388,607" on its side. (`negsuc n` is -n - 1.)
+abbrev pub insideOf : ℤ → ℤ → Bool
+insideOf least greatest = not (ltZ least (negsuc 8_388_607)) && not (ltZ (pos 8_388_607) greatest)
 
 -- z is not below -k - 1, and z is not above k
 abbrev above : ℕ → ℤ → Bool

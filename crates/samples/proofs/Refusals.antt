@@ -3,17 +3,18 @@ use Prim.Native.Nat.{ℕ, _+_, _*_, _/_, _≤_, _<_}
 use mathlib.Core.Path.{_≡_, sym, _∙_}
 use mathlib.Core.Logic.{⊎-elim}
 use mathlib.Core.Bool.{Bool, true, false}
-use mathlib.Core.List.{List}
+use mathlib.Core.List.{List, []}
 use native.Mathlib.Nat.{mul-comm}
 use lib.IntN.{ℤ}
 use lib.ListN.{length, drop}
 use lib.Seq.{sets}
 use borrow.Author.Tests.{eq-eqb, ne-eqb, le-leb, lt-leb}
+use Rattle.wire.specs.Choice.{pick}
 use Rattle.packets.specs.declared.Form.{Form}
 use Rattle.packets.specs.Forms.{listed, totalOf}
-use Rattle.packets.specs.Samples.{allSamples, samplesFrom}
+use Rattle.packets.specs.Samples.{allSamples, samplesBytes, samplesFrom}
 use Rattle.packets.proofs.Forms.{is-listed-form}
-use Rattle.samples.specs.Packing.{mayPack, packedOf, filledOf, mayUnpack, unpackedOf}
+use Rattle.samples.specs.Packing.{mayPack, packedOf, mayUnpack, unpackedOf}
 
 -- a listed form that is not of 24 bits is of 16
 pub other-width : (f : Form) → listed f ≡ true → (f .bits ≡ 24 → ⊥) → f .bits ≡ 16
@@ -41,7 +42,7 @@ module _ (f : Form) (zs : List ℤ) (l : List ℕ) where
 
   -- nothing but a sample outside 24 bits is left to refuse for
   pub pack-done : (bits : ℕ) (r : Bool) (l′ : List ℕ) → listed f ≡ true → length zs ≡ 2 * f .pairs → totalOf f ≤ length l → f .bits ≡ bits
-      → r ≡ allSamples zs → l′ ≡ sets l 4 (filledOf bits zs)
+      → r ≡ allSamples zs → l′ ≡ sets l 4 (pick (allSamples zs) (samplesBytes bits zs) [])
       → (r ≡ mayPack f zs (length l)) × (l′ ≡ sets l 4 (packedOf f zs (length l)))
   pack-done bits r l′ e n room w fit done =
       let may : mayPack f zs (length l) ≡ allSamples zs

@@ -15,8 +15,7 @@ use Rattle.wire.proofs.Laws.{and-left, and-right}
 use Rattle.wire.proofs.Stores.{sets-append}
 use Rattle.wire.proofs.Numbers.{length-bytes}
 use Rattle.packets.specs.Samples.{isSample, allSamples, narrowed, sampleBytes, samplesBytes}
-use Rattle.samples.specs.Packing.{lowOf}
-use Rattle.samples.proofs.Codes.{low-sample}
+use Rattle.samples.proofs.Codes.{lowOf, low-sample}
 
 -- each of them is a sample
 pub sample-at : (zs : List ℤ) (i : ℕ) → allSamples zs ≡ true → i < length zs → isSample (getD zs i (pos 0)) ≡ true

@@ -1,2 +1,1 @@
-pub mod Extent
 pub mod Packing

@@ -1,15 +1,14 @@
 -- Packing and unpacking: when they refuse, and what they write.
-use Prim.Native.Nat.{ℕ, _*_, _%_}
+use Prim.Native.Nat.{ℕ, _*_}
 use mathlib.Core.Bool.{Bool, _&&_}
 use mathlib.Core.List.{List, []}
 use lib.Dec.{eqb, leb}
 use lib.IntN.{ℤ}
 use lib.ListN.{length, drop}
 use Rattle.wire.specs.Choice.{pick}
-use Rattle.wire.specs.Signed.{coded}
 use Rattle.packets.specs.declared.Form.{Form}
 use Rattle.packets.specs.Forms.{listed, totalOf}
-use Rattle.packets.specs.Samples.{allSamples, narrowed, samplesBytes, samplesFrom}
+use Rattle.packets.specs.Samples.{allSamples, samplesBytes, samplesFrom}
 
 -- Samples are packed for a listed form, I and Q of each pair, into a slice that has room for the whole packet.
 abbrev pub mayPack : Form → List ℤ → ℕ → Bool
@@ -18,14 +17,6 @@ mayPack f samples room = listed f && eqb (length samples) (2 * f .pairs) && leb 
 -- the sample bytes, which stand after the packet's four leading bytes; none where packing refuses
 abbrev pub packedOf : Form → List ℤ → ℕ → List ℕ
 packedOf f samples room = pick (mayPack f samples room) (samplesBytes (f .bits) samples) []
-
--- the sample bytes at a width where all are samples, and none where one is not
-abbrev pub filledOf : ℕ → List ℤ → List ℕ
-filledOf bits samples = pick (allSamples samples) (samplesBytes bits samples) []
-
--- the low 16 of the 32 bits that stand for what is sent of a number
-abbrev pub lowOf : ℤ → ℕ
-lowOf z = coded 32 (narrowed 16 z) % 65_536
 
 -- A packet of a listed form is unpacked that is as long as its form says, into a slice that has room for all its samples.
 abbrev pub mayUnpack : Form → ℕ → ℕ → Bool

@@ -1,12 +1,15 @@
 // "Samples come in as whole numbers from -8,388,608 to 8,388,607": found by the least and the greatest of them, in a loop
 // that has no early way out, so that many are looked at in one step of the processor.
 ghost use mathlib.Core.Path.{_≡_};
+ghost use mathlib.Core.Bool.{_&&_, not};
+ghost use lib.IntN.{pos, negsuc};
+ghost use lib.Signed.{ltZ};
+ghost use Rattle.wire.specs.Choice.{pick};
 ghost use Rattle.packets.specs.Samples.{allSamples};
-ghost use Rattle.samples.specs.Extent.{lesserOf, greaterOf, insideOf};
 
 // The lesser of two numbers.
-pub fn lesser(a: i32, b: i32) -> i32
-    ensures { λ r. ⌜ r ≡ lesserOf a b ⌝ }
+pub(crate) fn lesser(a: i32, b: i32) -> i32
+    ensures { λ r. ⌜ r ≡ pick (ltZ b a) b a ⌝ }
 {
     if b < a {
         return b;
@@ -15,8 +18,8 @@ pub fn lesser(a: i32, b: i32) -> i32
 }
 
 // The greater of two numbers.
-pub fn greater(a: i32, b: i32) -> i32
-    ensures { λ r. ⌜ r ≡ greaterOf a b ⌝ }
+pub(crate) fn greater(a: i32, b: i32) -> i32
+    ensures { λ r. ⌜ r ≡ pick (ltZ a b) b a ⌝ }
 {
     if a < b {
         return b;
@@ -25,8 +28,8 @@ pub fn greater(a: i32, b: i32) -> i32
 }
 
 // Whether all numbers from the least to the greatest are samples.
-pub fn inside(least: i32, greatest: i32) -> bool
-    ensures { λ r. ⌜ r ≡ insideOf least greatest ⌝ }
+pub(crate) fn inside(least: i32, greatest: i32) -> bool
+    ensures { λ r. ⌜ r ≡ not (ltZ least (negsuc 8388607)) && not (ltZ (pos 8388607) greatest) ⌝ }
 {
     if least < -8388608 {
         return false;

@@ -6,14 +6,15 @@ use crate::fitting::lesser;
 use packets::Form;
 ghost use mathlib.Core.Path.{_≡_};
 ghost use mathlib.Core.Bool.{true};
-ghost use mathlib.Core.List.{_++_, map};
-ghost use Prim.Native.Nat.{_+_, _*_, _≤_};
+ghost use mathlib.Core.List.{[], _++_, map};
+ghost use Prim.Native.Nat.{_+_, _*_, _%_, _≤_};
 ghost use lib.ListN.{length};
 ghost use lib.Seq.{sets};
+ghost use Rattle.wire.specs.Choice.{pick};
 ghost use Rattle.wire.specs.Number.{bytes};
 ghost use Rattle.wire.specs.Signed.{coded};
-ghost use Rattle.packets.specs.Samples.{isSample, allSamples, narrowed};
-ghost use Rattle.samples.specs.Packing.{mayPack, packedOf, filledOf, lowOf};
+ghost use Rattle.packets.specs.Samples.{isSample, allSamples, narrowed, samplesBytes};
+ghost use Rattle.samples.specs.Packing.{mayPack, packedOf};
 
 // Writes a number in three bytes at a place that the slice has.
 fn put3(dst: &mut [u8], at: usize, v: u32)
@@ -54,7 +55,7 @@ fn code24(x: i32) -> u32
 
 // "16-bit form (house): the value divided by 256, rounded towards minus infinity", as a shift rounds.
 fn code16(x: i32) -> u16
-    ensures { λ r. ⌜ r ≡ lowOf x ⌝ }
+    ensures { λ r. ⌜ r ≡ coded 32 (narrowed 16 x) % 65536 ⌝ }
 {
     let above = ((x >> 8) + 8388608) as u32;
     (above % 65536) as u16
@@ -63,7 +64,7 @@ fn code16(x: i32) -> u16
 // Writes all samples in three bytes each, unless one is outside 24 bits.
 fn pack24(samples: &[i32], packet: &mut [u8]) -> bool
     requires { ⌜ 4 + 3 * length (now samples) ≤ length (now packet) ⌝ }
-    ensures { λ r. ⌜ (r ≡ allSamples (now (samples .entry))) × (now (packet .exit) ≡ sets (now (packet .entry)) 4 (filledOf 24 (now (samples .entry)))) ⌝ }
+    ensures { λ r. ⌜ (r ≡ allSamples (now (samples .entry))) × (now (packet .exit) ≡ sets (now (packet .entry)) 4 (pick (allSamples (now (samples .entry))) (samplesBytes 24 (now (samples .entry))) [])) ⌝ }
 {
     if !all_fit(samples) {
         return false;
@@ -80,7 +81,7 @@ fn pack24(samples: &[i32], packet: &mut [u8]) -> bool
 // the reading of the samples that takes the time.
 fn narrow(samples: &[i32], held: &mut [u16; 512]) -> bool
     requires { ⌜ length (now samples) ≤ 512 ⌝ }
-    ensures { λ r. ⌜ (r ≡ allSamples (now (samples .entry))) × (now (held .exit) ≡ sets (now (held .entry)) 0 (map lowOf (now (samples .entry)))) ⌝ }
+    ensures { λ r. ⌜ (r ≡ allSamples (now (samples .entry))) × (now (held .exit) ≡ sets (now (held .entry)) 0 (map (λ z. coded 32 (narrowed 16 z) % 65536) (now (samples .entry)))) ⌝ }
 {
     let mut least = 0;
     let mut greatest = 0;
@@ -98,7 +99,7 @@ fn narrow(samples: &[i32], held: &mut [u16; 512]) -> bool
 // Writes all samples in two bytes each, I and Q of a pair at once, unless one is outside 24 bits.
 fn pack16(samples: &[i32], packet: &mut [u8], pairs: usize) -> bool
     requires { ⌜ (pairs ≤ 256) × (length (now samples) ≡ 2 * pairs) × (4 + 4 * pairs ≤ length (now packet)) ⌝ }
-    ensures { λ r. ⌜ (r ≡ allSamples (now (samples .entry))) × (now (packet .exit) ≡ sets (now (packet .entry)) 4 (filledOf 16 (now (samples .entry)))) ⌝ }
+    ensures { λ r. ⌜ (r ≡ allSamples (now (samples .entry))) × (now (packet .exit) ≡ sets (now (packet .entry)) 4 (pick (allSamples (now (samples .entry))) (samplesBytes 16 (now (samples .entry))) [])) ⌝ }
 {
     let mut held = [0u16; 512];
     if !narrow(samples, &mut held) {

@@ -20,14 +20,14 @@ const SECOND_MAXIMUM: u64 = 150_000_000;
 pub const SECOND_OSCILLATOR: u64 = 160_000_000;
 
 // The frequency lies in the first band.
-pub fn in_first(hz: u64) -> bool
+pub(crate) fn in_first(hz: u64) -> bool
     ensures { λ r. ⌜ r ≡ within 100000 34000000 hz ⌝ }
 {
     wire::within(FIRST_MINIMUM, FIRST_MAXIMUM, hz)
 }
 
 // The frequency lies in the second band.
-pub fn in_second(hz: u64) -> bool
+pub(crate) fn in_second(hz: u64) -> bool
     ensures { λ r. ⌜ r ≡ within 140000000 150000000 hz ⌝ }
 {
     wire::within(SECOND_MINIMUM, SECOND_MAXIMUM, hz)

@@ -1,4 +1,4 @@
--- The entry at the place D less ten is the rule's, by one test over the whole table.
+-- The number at the place D less ten is the rule's: the table that is written out and the list of the rule compute to the same.
 use Prim.Native.Nat.{_-_, _≤_}
 use mathlib.Core.Path.{_≡_, sym, ap, _∙_}
 use mathlib.Core.Bool.{true, false}
@@ -43,7 +43,7 @@ array-read-result : tie.Need-array-read-result
 array-read-result c = omega (arith, ten c, most c)
 
 returns-2 : tie.Need-returns-2
-unfolding rates
+unfolding rates rateOf
 returns-2 c =
     table-rule (c .before .before .args .d - 10) (omega (arith, ten c, most c))
     ∙ ap rateOf (omega (arith, ten c))

@@ -11,8 +11,7 @@ use mir.Syntax.{w32}
 use mir.Val.{toZ}
 use mir.Facts.{toZ-ofZ}
 use Rattle.packets.specs.Samples.{allSamples}
-use Rattle.samples.specs.Extent.{insideOf}
-use Rattle.samples.proofs.Extent.{look-turn, look-end}
+use Rattle.samples.proofs.Extent.{insideOf, look-turn, look-end}
 use Rattle.samples.proofs.fitting.all_fit.Statement.{statement}
 use Rattle.samples.proofs.fitting.all_fit.Tie as tie
 

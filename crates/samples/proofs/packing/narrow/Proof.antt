@@ -14,9 +14,8 @@ use mir.Syntax.{w32}
 use mir.Val.{toZ}
 use mir.Facts.{toZ-ofZ}
 use Rattle.packets.specs.Samples.{allSamples}
-use Rattle.samples.specs.Extent.{insideOf}
-use Rattle.samples.specs.Packing.{lowOf}
-use Rattle.samples.proofs.Extent.{look-turn, look-end}
+use Rattle.samples.proofs.Codes.{lowOf}
+use Rattle.samples.proofs.Extent.{insideOf, look-turn, look-end}
 use Rattle.samples.proofs.Written.{keep-turn, keep-end}
 use Rattle.samples.proofs.packing.narrow.Statement.{statement}
 use Rattle.samples.proofs.packing.narrow.Tie as tie
