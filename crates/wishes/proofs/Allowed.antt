@@ -1,25 +1,23 @@
 -- What is known of an allowed value: that it fits its field, and, of a state, which ones there are.
-use Prim.Native.Nat.{ℕ, _%_, _^_, _≤_, _<_}
+use Prim.Native.Nat.{ℕ, zero, suc, _≤_, _<_}
 use mathlib.Core.Path.{_≡_, refl, sym, subst}
 use mathlib.Core.Bool.{Bool, true, false, _&&_, _||_}
 use mathlib.Core.List.{List, [], _∷_, map}
-use native.Mathlib.Nat.{mod-eq-of-lt}
 use native.Mathlib.Omega.{arith}
-use lib.Dec.{eqb}
+use lib.Dec.{eqb, ltb, lit<}
+use lib.ListN.{getD}
 use denote.Enum.Declared.{tagOf}
-use borrow.Author.Tests.{eqb-true, leb-true}
+use borrow.Author.Tests.{eqb-true, leb-true, ltb-true}
 use Rattle.wire.specs.Choice.{within, oneOf}
 use Rattle.wire.specs.Signed.{coded}
-use Rattle.wire.specs.Number.{number, bytes}
 use Rattle.wire.proofs.Laws.{true-not-false, and-left, and-right, within-high}
-use Rattle.wire.proofs.Numbers.{number-bytes}
 use Rattle.tuning.specs.Bands.{inBands}
 use Rattle.items.specs.Settings.{gains, isGain, isMode}
 use Rattle.wishes.proofs.Wish.{the-type}
 use Rattle.wishes.specs.declared.StateFields.{StateFields}
 use Rattle.wishes.specs.declared.Wish.{Wish}
 use Rattle.wishes.specs.declared.Wish.the-variants.{AskName, AskSerial, AskInterface, AskVersion, AskStatus, SetState, AskState, SetFrequency, AskFrequency, AskFrequencyRange, SetGain, AskGain, SetClock, AskClock, SetRate, AskRate, SetPacketSize, AskPacketSize}
-use Rattle.wishes.specs.Wishes.{asking, layoutOf, allowed, stateNumber}
+use Rattle.wishes.specs.Wishes.{Fits, allowed}
 
 -- a test splits
 pub by-test : {P : Type 0} (t : Bool) → (t ≡ true → P) → (t ≡ false → P) → P
@@ -59,14 +57,24 @@ state-has P idle wide narrow f =
     subst (λ (r : ℕ). P (record { run = r; mode = f .mode })) (sym (eqb-true (f .run) 2 (and-left (eqb (f .run) 2) (isMode (f .mode)) is)))
     (one-has (λ (m : ℕ). P (record { run = 2; mode = m })) (f .mode) (0x80 ∷ 0x00 ∷ []) (wide, (narrow, tt)) (and-right (eqb (f .run) 2) (isMode (f .mode)) is)))
 
+-- a list of bytes that can be looked at
+abbrev allBytes : List ℕ → Bool
+allBytes [] = true
+allBytes (b ∷ bs) = ltb b 256 && allBytes bs
+
+small-bytes : (l : List ℕ) → allBytes l ≡ true → (k : ℕ) → getD l k 0 < 256
+small-bytes [] e k = lit< tt
+small-bytes (b ∷ l) e zero = ltb-true b 256 (and-left (ltb b 256) (allBytes l) e)
+small-bytes (b ∷ l) e (suc k) = small-bytes l (and-right (ltb b 256) (allBytes l) e) k
+
 -- an allowed value fits its field
-pub value-fits : (w : Wish) → allowed w ≡ true → asking w .value < 256 ^ layoutOf w .width
+pub value-fits : (w : Wish) → allowed w ≡ true → Fits w
 value-fits AskName e = omega arith
 value-fits AskSerial e = omega arith
 value-fits AskInterface e = omega arith
 value-fits (AskVersion id) e = omega arith
 value-fits AskStatus e = omega arith
-value-fits (SetState f) e = state-has (λ f. stateNumber f < 256 ^ 4) (λ m. omega arith) (omega arith) (omega arith) f e
+value-fits (SetState f) e = state-has (λ f. Fits (SetState f)) (λ m. small-bytes (0x00 ∷ 0x01 ∷ 0x00 ∷ 0x00 ∷ []) refl) (small-bytes (0x80 ∷ 0x02 ∷ 0x80 ∷ 0x00 ∷ []) refl) (small-bytes (0x80 ∷ 0x02 ∷ 0x00 ∷ 0x00 ∷ []) refl) f e
 value-fits AskState e = omega arith
 value-fits (SetFrequency hz) e = omega (arith, bands-high hz e)
 value-fits AskFrequency e = omega arith
@@ -79,13 +87,6 @@ value-fits (SetRate hz) e = omega (arith, within-high 32_000 2_000_000 hz e)
 value-fits AskRate e = omega arith
 value-fits (SetPacketSize n) e = omega (arith, leb-true n 1 e)
 value-fits AskPacketSize e = omega arith
-
--- and so the box reads it back
-pub value-back : (w : Wish) → allowed w ≡ true → number (bytes (layoutOf w .width) (asking w .value)) ≡ asking w .value
-value-back w e = number-bytes (layoutOf w .width) (asking w .value) (value-fits w e)
-
-pub byte-back : (w : Wish) → allowed w ≡ true → layoutOf w .width ≡ 1 → asking w .value % 256 ≡ asking w .value
-byte-back w e one = mod-eq-of-lt (rw one at (value-fits w e))
 
 -- the wishes that hold no value, by their place in the enum, are always allowed
 unfoldable pub valueless : List ℕ

@@ -1,23 +1,33 @@
 -- What the harvester asks is what the box understands: the message of an allowed wish is refused only where the box is
 -- running and its row is locked, and a box that takes it has the settings that the wish means.
-use Prim.Native.Nat.{ℕ}
-use mathlib.Core.Path.{_≡_, refl, ap, _∙_}
-use mathlib.Core.Bool.{Bool, true, false, not, _&&_}
-use mathlib.Core.List.{[], _∷_}
-use lib.Dec.{eqb}
+use Prim.Native.Nat.{ℕ, _<_}
+use mathlib.Core.Path.{_≡_, refl, sym, ap, _∙_}
+use mathlib.Core.Bool.{Bool, true, false, not, _&&_, _||_}
+use mathlib.Core.List.{List, [], _∷_, _++_}
+use mathlib.Core.Logic.{_↔_}
+use native.Mathlib.Nat.{mod-eq-of-lt}
+use lib.Dec.{eqb, ltb}
+use borrow.Author.Tests.{eqb-false}
+use lib.ListN.{getD, replicate}
 use Rattle.wire.specs.Choice.{pick, check, firstOf}
 use Rattle.wire.specs.Number.{number, bytes}
 use Rattle.wire.specs.Header.{typeSet}
-use Rattle.rates.specs.Rate.{nearestOf}
+use Rattle.wire.proofs.Numbers.{bytes-number, number-bytes}
+use Rattle.rates.specs.Rate.{mayAsk, nearestOf}
+use Rattle.tuning.specs.Bands.{inBands}
+use Rattle.tuning.specs.Word.{isClock}
 use Rattle.items.specs.declared.Settings.{Settings}
-use Rattle.items.specs.Settings.{withFrequency, withClock, withDivisor, withGain, withSize}
-use Rattle.items.specs.Items.{rowOf, listed}
+use Rattle.items.specs.Settings.{isGain, isMode, isSize, withFrequency, withClock, withDivisor, withGain, withSize}
+use Rattle.items.specs.Items.{idle, run, mayState, rowOf, listed}
 use Rattle.items.specs.Answer.{codeOf, settingsAfter, valueAllowed, row, parameters}
+use Rattle.wishes.specs.declared.StateFields.{StateFields}
 use Rattle.wishes.specs.declared.Wish.{Wish}
 use Rattle.wishes.specs.declared.Wish.the-variants.{AskName, AskSerial, AskInterface, AskVersion, AskStatus, SetState, AskState, SetFrequency, AskFrequency, AskFrequencyRange, SetGain, AskGain, SetClock, AskClock, SetRate, AskRate, SetPacketSize, AskPacketSize}
-use Rattle.wishes.specs.Wishes.{asking, allowed, granted, notNow, messageOf, asMessage}
+use Rattle.wishes.specs.Wishes.{asking, Fits, allowed, granted, notNow, messageOf, asMessage}
+use Rattle.wishes.specs.Writing.{writeCode}
 use Rattle.wishes.proofs.Rows.{of-row}
-use Rattle.wishes.proofs.Allowed.{state-has, value-back, byte-back}
+use Rattle.wishes.proofs.Answers.{code-not-allowed}
+use Rattle.wishes.proofs.Allowed.{state-has, value-fits}
 
 -- the value that the box reads in a wish's message is allowed
 abbrev valueTaken : Wish → Bool
@@ -45,30 +55,76 @@ checked AskRate s = refl
 checked (SetPacketSize n) s = refl
 checked AskPacketSize s = refl
 
-value-taken : (w : Wish) → allowed w ≡ true → valueTaken w ≡ true
+-- a state's bytes come back
+run-same : (r m : ℕ) → ((k : ℕ) → getD (0x80 ∷ r ∷ m ∷ 0x00 ∷ []) k 0 < 256)
+    → mayState (bytes 4 (number (0x80 ∷ r ∷ m ∷ 0x00 ∷ [])) ++ replicate 56 0) ≡ eqb r idle || (eqb r run && isMode m)
+run-same r m fits =
+    ap (λ (l : List ℕ). mayState (l ++ replicate 56 0)) (bytes-number (0x80 ∷ r ∷ m ∷ 0x00 ∷ []) fits) ∙ tests (eqb r idle) (eqb r run) (isMode m)
+  where
+    tests : (a b c : Bool) → a || (b && true && c) ≡ a || (b && c)
+    tests a true c = refl
+    tests a false c = refl
+
+state-same : (f : StateFields) → Fits (SetState f) → valueTaken (SetState f) ≡ allowed (SetState f)
 unfolding messageOf
-value-taken AskName e = refl
-value-taken AskSerial e = refl
-value-taken AskInterface e = refl
-value-taken (AskVersion id) e = e
-value-taken AskStatus e = refl
-value-taken (SetState f) e = state-has (λ f. valueTaken (SetState f) ≡ true) (λ m. refl) refl refl f e
-value-taken AskState e = refl
-value-taken (SetFrequency hz) e = rw (value-back (SetFrequency hz) e) e
-value-taken AskFrequency e = refl
-value-taken AskFrequencyRange e = refl
-value-taken (SetGain g) e = rw (byte-back (SetGain g) e refl) e
-value-taken AskGain e = refl
-value-taken (SetClock hz) e = rw (value-back (SetClock hz) e) e
-value-taken AskClock e = refl
-value-taken (SetRate hz) e = rw (value-back (SetRate hz) e) e
-value-taken AskRate e = refl
-value-taken (SetPacketSize n) e = rw (byte-back (SetPacketSize n) e refl) e
-value-taken AskPacketSize e = refl
+state-same f fits = go (eqb (f .run) idle) refl
+  where
+    go : (t : Bool) → eqb (f .run) idle ≡ t → valueTaken (SetState f) ≡ allowed (SetState f)
+    go true q = rw q refl
+    go false q = rw q (rw q at (run-same (f .run) (f .mode) (rw q at fits)))
+
+-- a value that fits its field is allowed by the box exactly where the writer allows it
+value-same : (w : Wish) → Fits w → valueTaken w ≡ allowed w
+unfolding messageOf
+value-same AskName fits = refl
+value-same AskSerial fits = refl
+value-same AskInterface fits = refl
+value-same (AskVersion id) fits = refl
+value-same AskStatus fits = refl
+value-same (SetState f) fits = state-same f fits
+value-same AskState fits = refl
+value-same (SetFrequency hz) fits = ap inBands (number-bytes 5 hz fits)
+value-same AskFrequency fits = refl
+value-same AskFrequencyRange fits = refl
+value-same (SetGain g) fits = ap isGain (mod-eq-of-lt fits)
+value-same AskGain fits = refl
+value-same (SetClock hz) fits = ap isClock (number-bytes 4 hz fits)
+value-same AskClock fits = refl
+value-same (SetRate hz) fits = ap mayAsk (number-bytes 4 hz fits)
+value-same AskRate fits = refl
+value-same (SetPacketSize n) fits = ap isSize (mod-eq-of-lt fits)
+value-same AskPacketSize fits = refl
 
 -- the code of an allowed wish: 17 where the box is running and the wish's row is locked, else 1
 pub code-of-wish : (w : Wish) (s : Settings) → allowed w ≡ true → codeOf s (asMessage w) ≡ pick (notNow w s) 17 1
-code-of-wish w s e = checked w s ∙ rw (value-taken w e) refl
+code-of-wish w s e = checked w s ∙ rw (value-same w (value-fits w e), e) refl
+
+-- where 16 is checked first, it is given by that check alone
+first-alike : (a t u : Bool) (m n : ℕ) → (m ≡ 16 → ⊥) → pick (not a) 16 (pick t m 1) ≡ 16 → pick (not a) 16 (pick u n 1) ≡ 16
+first-alike false t u m n other e = refl
+first-alike true true u m n other e = absurd (other e)
+first-alike true false u m n other e = absurd (eqb-false 1 16 refl e)
+
+-- "The writer refuses with 16 values the box would refuse so": where the value fits its field, the writer says 16 exactly
+-- where the box would, whatever its settings.
+pub refused-alike : (w : Wish) (s : Settings) (room : ℕ) → Fits w → (writeCode w room ≡ 16) ↔ (codeOf s (asMessage w) ≡ 16)
+unfolding writeCode
+refused-alike w s room fits = (
+  λ (e : writeCode w room ≡ 16). box ∙ first-alike (allowed w) (ltb room 16) (notNow w s) 20 17 (eqb-false 20 16 refl) e,
+  λ (e : codeOf s (asMessage w) ≡ 16). first-alike (allowed w) (notNow w s) (ltb room 16) 17 20 (eqb-false 17 16 refl) (sym box ∙ e),
+)
+  where
+    box : codeOf s (asMessage w) ≡ firstOf (check 16 (not (allowed w)) ∷ check 17 (notNow w s) ∷ []) 1
+    box = checked w s ∙ rw (value-same w fits) refl
+
+-- What does not fit, the writer refuses too: a frequency of more than 40 bits lies in no band. A box would see the lowest 40
+-- bits alone.
+pub unfit-refused : (w : Wish) (room : ℕ) → (Fits w → ⊥) → writeCode w room ≡ 16
+unfit-refused w room unfit = code-not-allowed w room (go (allowed w) refl)
+  where
+    go : (t : Bool) → allowed w ≡ t → t ≡ false
+    go true e = absurd (unfit (value-fits w e))
+    go false e = refl
 
 -- the box finds the wish's row
 pub row-of-wish : (w : Wish) → row (asMessage w) ≡ asking w .item
@@ -89,16 +145,16 @@ taken-granted (AskVersion id) s e = refl
 taken-granted AskStatus s e = refl
 taken-granted (SetState f) s e = state-has (λ f. taken (SetState f) s ≡ granted (SetState f) s) (λ m. refl) refl refl f e
 taken-granted AskState s e = refl
-taken-granted (SetFrequency hz) s e = ap (λ (n : ℕ). withFrequency n s) (value-back (SetFrequency hz) e)
+taken-granted (SetFrequency hz) s e = ap (λ (n : ℕ). withFrequency n s) (number-bytes 5 hz (value-fits (SetFrequency hz) e))
 taken-granted AskFrequency s e = refl
 taken-granted AskFrequencyRange s e = refl
-taken-granted (SetGain g) s e = ap (λ (n : ℕ). withGain n s) (byte-back (SetGain g) e refl)
+taken-granted (SetGain g) s e = ap (λ (n : ℕ). withGain n s) (mod-eq-of-lt (value-fits (SetGain g) e))
 taken-granted AskGain s e = refl
-taken-granted (SetClock hz) s e = ap (λ (n : ℕ). withClock n s) (value-back (SetClock hz) e)
+taken-granted (SetClock hz) s e = ap (λ (n : ℕ). withClock n s) (number-bytes 4 hz (value-fits (SetClock hz) e))
 taken-granted AskClock s e = refl
-taken-granted (SetRate hz) s e = ap (λ (n : ℕ). withDivisor (nearestOf n) s) (value-back (SetRate hz) e)
+taken-granted (SetRate hz) s e = ap (λ (n : ℕ). withDivisor (nearestOf n) s) (number-bytes 4 hz (value-fits (SetRate hz) e))
 taken-granted AskRate s e = refl
-taken-granted (SetPacketSize n) s e = ap (λ (n : ℕ). withSize n s) (byte-back (SetPacketSize n) e refl)
+taken-granted (SetPacketSize n) s e = ap (λ (n : ℕ). withSize n s) (mod-eq-of-lt (value-fits (SetPacketSize n) e))
 taken-granted AskPacketSize s e = refl
 
 -- "sets exactly that value": what an allowed wish leaves of the settings

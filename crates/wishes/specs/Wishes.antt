@@ -1,9 +1,9 @@
 -- Harvester's wishes: "One wish for each kind and item above, channel byte 00."
-use Prim.Native.Nat.{ℕ, _+_, _-_}
+use Prim.Native.Nat.{ℕ, _+_, _-_, _^_, _<_}
 use mathlib.Core.Bool.{Bool, true, false, _&&_, _||_}
 use mathlib.Core.List.{List, [], _∷_, _++_}
 use lib.Dec.{eqb, leb}
-use lib.ListN.{length, replicate}
+use lib.ListN.{length, getD, replicate}
 use Rattle.wire.specs.Choice.{pick}
 use Rattle.wire.specs.Number.{number}
 use Rattle.wire.specs.Signed.{coded}
@@ -22,22 +22,37 @@ use Rattle.wishes.specs.declared.StateFields.{StateFields}
 use Rattle.wishes.specs.declared.Wish.{Wish}
 use Rattle.wishes.specs.declared.Wish.the-variants.{AskName, AskSerial, AskInterface, AskVersion, AskStatus, SetState, AskState, SetFrequency, AskFrequency, AskFrequencyRange, SetGain, AskGain, SetClock, AskClock, SetRate, AskRate, SetPacketSize, AskPacketSize}
 
+-- A value as it is sent: a number, least significant byte first, or byte after byte.
+pub data Value : Type 0 where
+  whole : ℕ → Value
+  inBytes : List ℕ → Value
+
+-- as one number
+abbrev pub sent : Value → ℕ
+sent (whole n) = n
+sent (inBytes l) = number l
+
+-- a field of so many bytes holds all of it
+abbrev pub fitsIn : ℕ → Value → Type 0
+fitsIn width (whole n) = n < 256 ^ width
+fitsIn width (inBytes l) = (k : ℕ) → getD l k 0 < 256
+
 -- What a wish asks for: an item of the table, the kind, the channel byte or id, which comes first where the item has one,
 -- and the value.
 pub record Asking : Type 0 where
   pub item : Item
   pub kind : ℕ
   pub echo : ℕ
-  pub value : ℕ
+  pub value : Value
 
 -- "channel byte 00"
 abbrev pub channel : ℕ
 channel = 0x00
 
 abbrev pub request : Item → Asking
-request item = record { item = item; kind = typeRequest; echo = channel; value = 0 }
+request item = record { item = item; kind = typeRequest; echo = channel; value = whole 0 }
 
-abbrev pub setting : Item → ℕ → Asking
+abbrev pub setting : Item → Value → Asking
 setting item value = record { item = item; kind = typeSet; echo = channel; value = value }
 
 -- "Idle is sent as 00 01 00 00, run as 80 02, mode, 00."
@@ -54,20 +69,20 @@ abbrev pub asking : Wish → Asking
 asking AskName = request name
 asking AskSerial = request serial
 asking AskInterface = request interface
-asking (AskVersion id) = record { item = versions; kind = typeRequest; echo = id; value = 0 }
+asking (AskVersion id) = record { item = versions; kind = typeRequest; echo = id; value = whole 0 }
 asking AskStatus = request status
-asking (SetState f) = setting state (stateNumber f)
+asking (SetState f) = setting state (inBytes (stateBytes f))
 asking AskState = request state
-asking (SetFrequency hz) = setting frequency hz
+asking (SetFrequency hz) = setting frequency (whole hz)
 asking AskFrequency = request frequency
-asking AskFrequencyRange = record { item = frequency; kind = typeRange; echo = channel; value = 0 }
-asking (SetGain g) = setting gain (coded 8 g)
+asking AskFrequencyRange = record { item = frequency; kind = typeRange; echo = channel; value = whole 0 }
+asking (SetGain g) = setting gain (whole (coded 8 g))
 asking AskGain = request gain
-asking (SetClock hz) = setting clock hz
+asking (SetClock hz) = setting clock (whole hz)
 asking AskClock = request clock
-asking (SetRate hz) = setting rate hz
+asking (SetRate hz) = setting rate (whole hz)
 asking AskRate = request rate
-asking (SetPacketSize n) = setting packetSize n
+asking (SetPacketSize n) = setting packetSize (whole n)
 asking AskPacketSize = request packetSize
 
 -- "Lengths are totals": header and item code are four bytes, then comes the echoed byte, and the rest is the value
@@ -84,11 +99,16 @@ layoutOf w =
       echoed = eqb (asking w .item .echoed) 1;
       echo = asking w .echo;
       width = widthIn (asking w .item) (offered (asking w .item) (asking w .kind));
-      value = asking w .value;
+      value = sent (asking w .value);
     }
 
 unfoldable pub messageOf : Wish → List ℕ
 messageOf w = laid (layoutOf w)
+
+-- The value stands whole in its field. So does that of every wish that a program can hold, but for a frequency of more than
+-- 40 bits.
+abbrev pub Fits : Wish → Type 0
+Fits w = fitsIn (layoutOf w .width) (asking w .value)
 
 -- idle, whatever the mode, or run in one of the two modes
 abbrev pub mayWishState : StateFields → Bool
