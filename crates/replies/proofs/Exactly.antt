@@ -31,6 +31,7 @@ use Rattle.wishes.specs.declared.StateFields.{StateFields}
 use Rattle.wishes.specs.declared.Wish.{Wish}
 use Rattle.wishes.specs.declared.Wish.the-variants.{AskName, AskSerial, AskInterface, AskVersion, AskStatus, SetState, AskState, SetFrequency, AskFrequency, AskFrequencyRange, SetGain, AskGain, SetClock, AskClock, SetRate, AskRate, SetPacketSize, AskPacketSize}
 use Rattle.wishes.specs.Wishes.{asking, layoutOf, allowed, granted, notNow, messageOf, asMessage}
+use Rattle.wishes.proofs.Rows.{by-wish}
 use Rattle.wishes.proofs.Allowed.{by-or, one-has, state-has}
 use Rattle.wishes.proofs.Understood.{code-of-wish, row-of-wish, settings-of-wish}
 use Rattle.replies.specs.declared.Reply.the-variants.{Nak, Status, State}
@@ -83,24 +84,7 @@ framed-laid a =
 -- the box lays its reply out as the harvester waits for it
 reply-around : (w : Wish) (s : Settings) → replyTo (asking w .item) (asking w .kind) s (parameters (asMessage w)) ≡ around w (shown w s)
 unfolding messageOf
-reply-around AskName s = refl
-reply-around AskSerial s = refl
-reply-around AskInterface s = refl
-reply-around (AskVersion id) s = refl
-reply-around AskStatus s = refl
-reply-around (SetState f) s = refl
-reply-around AskState s = refl
-reply-around (SetFrequency hz) s = refl
-reply-around AskFrequency s = refl
-reply-around AskFrequencyRange s = refl
-reply-around (SetGain g) s = refl
-reply-around AskGain s = refl
-reply-around (SetClock hz) s = refl
-reply-around AskClock s = refl
-reply-around (SetRate hz) s = refl
-reply-around AskRate s = refl
-reply-around (SetPacketSize n) s = refl
-reply-around AskPacketSize s = refl
+reply-around = by-wish (λ w. (s : Settings) → replyTo (asking w .item) (asking w .kind) s (parameters (asMessage w)) ≡ around w (shown w s)) (λ s. refl) (λ s. refl) (λ s. refl) (λ id s. refl) (λ s. refl) (λ f s. refl) (λ s. refl) (λ hz s. refl) (λ s. refl) (λ s. refl) (λ g s. refl) (λ s. refl) (λ hz s. refl) (λ s. refl) (λ hz s. refl) (λ s. refl) (λ n s. refl) (λ s. refl)
 
 -- A serial's characters are bytes.
 serial-byte : (b : ℕ) → isSerialByte b ≡ true → b < 256
@@ -351,44 +335,10 @@ box-valid (SetPacketSize m) n e h = refl
 box-valid AskPacketSize n e h = rw h
 
 box-eight : (w : Wish) (n : ℕ) → length (boxWith w n .serial) ≡ 8
-box-eight AskName n = refl
-box-eight AskSerial n = refl
-box-eight AskInterface n = refl
-box-eight (AskVersion id) n = refl
-box-eight AskStatus n = refl
-box-eight (SetState f) n = refl
-box-eight AskState n = refl
-box-eight (SetFrequency hz) n = refl
-box-eight AskFrequency n = refl
-box-eight AskFrequencyRange n = refl
-box-eight (SetGain g) n = refl
-box-eight AskGain n = refl
-box-eight (SetClock hz) n = refl
-box-eight AskClock n = refl
-box-eight (SetRate hz) n = refl
-box-eight AskRate n = refl
-box-eight (SetPacketSize m) n = refl
-box-eight AskPacketSize n = refl
+box-eight = by-wish (λ w. (n : ℕ) → length (boxWith w n .serial) ≡ 8) (λ n. refl) (λ n. refl) (λ n. refl) (λ id n. refl) (λ n. refl) (λ f n. refl) (λ n. refl) (λ hz n. refl) (λ n. refl) (λ n. refl) (λ g n. refl) (λ n. refl) (λ hz n. refl) (λ n. refl) (λ hz n. refl) (λ n. refl) (λ m n. refl) (λ n. refl)
 
 box-now : (w : Wish) (n : ℕ) → notNow w (boxWith w n) ≡ false
-box-now AskName n = refl
-box-now AskSerial n = refl
-box-now AskInterface n = refl
-box-now (AskVersion id) n = refl
-box-now AskStatus n = refl
-box-now (SetState f) n = refl
-box-now AskState n = refl
-box-now (SetFrequency hz) n = refl
-box-now AskFrequency n = refl
-box-now AskFrequencyRange n = refl
-box-now (SetGain g) n = refl
-box-now AskGain n = refl
-box-now (SetClock hz) n = refl
-box-now AskClock n = refl
-box-now (SetRate hz) n = refl
-box-now AskRate n = refl
-box-now (SetPacketSize m) n = refl
-box-now AskPacketSize n = refl
+box-now = by-wish (λ w. (n : ℕ) → notNow w (boxWith w n) ≡ false) (λ n. refl) (λ n. refl) (λ n. refl) (λ id n. refl) (λ n. refl) (λ f n. refl) (λ n. refl) (λ hz n. refl) (λ n. refl) (λ n. refl) (λ g n. refl) (λ n. refl) (λ hz n. refl) (λ n. refl) (λ hz n. refl) (λ n. refl) (λ m n. refl) (λ n. refl)
 
 -- and it shows the value
 box-shows : (w : Wish) (n : ℕ) → allowed w ≡ true → awaited w .could n ≡ true → numberOf w (granted w (boxWith w n)) ≡ n

@@ -15,6 +15,7 @@ use Rattle.wishes.proofs.Wish.{the-type}
 use Rattle.wishes.specs.declared.Wish.{Wish}
 use Rattle.wishes.specs.declared.Wish.the-variants.{AskName, AskSerial, AskInterface, AskVersion, AskStatus, SetState, AskState, SetFrequency, AskFrequency, AskFrequencyRange, SetGain, AskGain, SetClock, AskClock, SetRate, AskRate, SetPacketSize, AskPacketSize}
 use Rattle.wishes.specs.Wishes.{layoutOf}
+use Rattle.wishes.proofs.Rows.{by-wish}
 use Rattle.wishes.proofs.Allowed.{each, one-has}
 use Rattle.replies.specs.declared.Reply.{Reply}
 use Rattle.replies.specs.declared.Reply.the-variants.{Name, Serial, Interface, Status, Frequency, FrequencyRange, Gain, Clock, Rate, PacketSize, NotAReply}
@@ -33,24 +34,7 @@ widths = 7 ∷ 9 ∷ 2 ∷ 2 ∷ 1 ∷ 4 ∷ 4 ∷ 5 ∷ 5 ∷ 31 ∷ 1 ∷ 1 �
 
 pub width-at : (w : Wish) → awaited w .width ≡ getD widths (place w) 0
 unfolding widths
-width-at AskName = refl
-width-at AskSerial = refl
-width-at AskInterface = refl
-width-at (AskVersion id) = refl
-width-at AskStatus = refl
-width-at (SetState f) = refl
-width-at AskState = refl
-width-at (SetFrequency hz) = refl
-width-at AskFrequency = refl
-width-at AskFrequencyRange = refl
-width-at (SetGain g) = refl
-width-at AskGain = refl
-width-at (SetClock hz) = refl
-width-at AskClock = refl
-width-at (SetRate hz) = refl
-width-at AskRate = refl
-width-at (SetPacketSize m) = refl
-width-at AskPacketSize = refl
+width-at = by-wish (λ w. awaited w .width ≡ getD widths (place w) 0) refl refl refl (λ id. refl) refl (λ f. refl) refl (λ hz. refl) refl refl (λ g. refl) refl (λ hz. refl) refl (λ hz. refl) refl (λ n. refl) refl
 
 -- in an arm whose wishes all have one width
 pub width-in : (v : ℕ) (keys : List ℕ) (w : Wish) → allIn keys keys ≡ true → each (λ k. getD widths k 0 ≡ v) keys → OneOf keys (place w) → v ≡ awaited w .width
@@ -64,24 +48,7 @@ sayings n =
 
 pub saying-at : (w : Wish) (n : ℕ) → awaited w .says n ≡ pick (eqb (place w) 3) (awaited w .says n) (getD (sayings n) (place w) NotAReply)
 unfolding sayings
-saying-at AskName n = refl
-saying-at AskSerial n = refl
-saying-at AskInterface n = refl
-saying-at (AskVersion id) n = refl
-saying-at AskStatus n = refl
-saying-at (SetState f) n = refl
-saying-at AskState n = refl
-saying-at (SetFrequency hz) n = refl
-saying-at AskFrequency n = refl
-saying-at AskFrequencyRange n = refl
-saying-at (SetGain g) n = refl
-saying-at AskGain n = refl
-saying-at (SetClock hz) n = refl
-saying-at AskClock n = refl
-saying-at (SetRate hz) n = refl
-saying-at AskRate n = refl
-saying-at (SetPacketSize m) n = refl
-saying-at AskPacketSize n = refl
+saying-at = by-wish (λ w. (n : ℕ) → awaited w .says n ≡ pick (eqb (place w) 3) (awaited w .says n) (getD (sayings n) (place w) NotAReply)) (λ n. refl) (λ n. refl) (λ n. refl) (λ id n. refl) (λ n. refl) (λ f n. refl) (λ n. refl) (λ hz n. refl) (λ n. refl) (λ n. refl) (λ g n. refl) (λ n. refl) (λ hz n. refl) (λ n. refl) (λ hz n. refl) (λ n. refl) (λ m n. refl) (λ n. refl)
 
 -- in an arm of `says` whose wishes all say the same
 pub says-in : (n : ℕ) (r : Reply) (keys : List ℕ) (w : Wish) → allIn keys keys ≡ true

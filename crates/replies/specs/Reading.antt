@@ -24,7 +24,8 @@ same (a ∷ l) (b ∷ bs) = eqb a b && same l bs
 abbrev pub isNak : List ℕ → Bool
 isNak bs = same bs nak
 
--- the bytes are the reply with the value that they hold, and a valid box could give it
+-- "those further replies that some valid box could give to it": the reply with the value that the bytes hold, and a value that
+-- a valid box could give (`exactly`, in the proofs, says it of boxes)
 unfoldable pub isReply : Wish → List ℕ → Bool
 isReply w bs = awaited w .could (numberIn w bs) && same bs (replyBytes w (numberIn w bs))
 

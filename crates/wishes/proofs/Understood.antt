@@ -25,7 +25,7 @@ use Rattle.wishes.specs.declared.Wish.{Wish}
 use Rattle.wishes.specs.declared.Wish.the-variants.{AskName, AskSerial, AskInterface, AskVersion, AskStatus, SetState, AskState, SetFrequency, AskFrequency, AskFrequencyRange, SetGain, AskGain, SetClock, AskClock, SetRate, AskRate, SetPacketSize, AskPacketSize}
 use Rattle.wishes.specs.Wishes.{asking, Fits, allowed, granted, notNow, messageOf, asMessage}
 use Rattle.wishes.specs.Writing.{writeCode}
-use Rattle.wishes.proofs.Rows.{of-row}
+use Rattle.wishes.proofs.Rows.{by-wish, of-row}
 use Rattle.wishes.proofs.Answers.{code-not-allowed}
 use Rattle.wishes.proofs.Allowed.{state-has, value-fits}
 
@@ -36,24 +36,7 @@ valueTaken w = valueAllowed (asking w .item) (asking w .kind) (parameters (asMes
 -- Header, item, kind, length and channel speak against no wish: what is left are the value, and that the box is running.
 checked : (w : Wish) (s : Settings) → codeOf s (asMessage w) ≡ firstOf (check 16 (not (valueTaken w)) ∷ check 17 (notNow w s) ∷ []) 1
 unfolding codeOf rowOf listed messageOf
-checked AskName s = refl
-checked AskSerial s = refl
-checked AskInterface s = refl
-checked (AskVersion id) s = refl
-checked AskStatus s = refl
-checked (SetState f) s = refl
-checked AskState s = refl
-checked (SetFrequency hz) s = refl
-checked AskFrequency s = refl
-checked AskFrequencyRange s = refl
-checked (SetGain g) s = refl
-checked AskGain s = refl
-checked (SetClock hz) s = refl
-checked AskClock s = refl
-checked (SetRate hz) s = refl
-checked AskRate s = refl
-checked (SetPacketSize n) s = refl
-checked AskPacketSize s = refl
+checked = by-wish (λ w. (s : Settings) → codeOf s (asMessage w) ≡ firstOf (check 16 (not (valueTaken w)) ∷ check 17 (notNow w s) ∷ []) 1) (λ s. refl) (λ s. refl) (λ s. refl) (λ id s. refl) (λ s. refl) (λ f s. refl) (λ s. refl) (λ hz s. refl) (λ s. refl) (λ s. refl) (λ g s. refl) (λ s. refl) (λ hz s. refl) (λ s. refl) (λ hz s. refl) (λ s. refl) (λ n s. refl) (λ s. refl)
 
 -- a state's bytes come back
 run-same : (r m : ℕ) → ((k : ℕ) → getD (0x80 ∷ r ∷ m ∷ 0x00 ∷ []) k 0 < 256)
