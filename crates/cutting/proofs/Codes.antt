@@ -5,6 +5,7 @@ use mathlib.Core.Path.{_≡_, refl}
 use mathlib.Core.Bool.{Bool, true, false}
 use mathlib.Core.List.{List}
 use native.Mathlib.Omega.{arith}
+use lib.Dec.{ltb}
 use lib.IntN.{ℤ}
 use lib.ListN.{length}
 use borrow.Author.Tests.{le-leb, lt-leb, lt-ltb, le-ltb, eq-eqb, ne-eqb}
@@ -42,29 +43,16 @@ module _ (s : Station) (samples : List ℤ) (room : ℕ) where
           unfolding cutCode
           code-24 a = rw (v, r, lt-leb most (s .settings .count) m, eq-eqb (length samples) (2 * formNow (s .settings) .pairs) n, a)
 
-          pub code-20 : allSamples samples ≡ true → room < totalOf (formNow (s .settings)) → cutCode s samples room ≡ 20
+          -- all is looked at but the room
+          code-room : {short : Bool} → allSamples samples ≡ true → ltb room (totalOf (formNow (s .settings))) ≡ short → cutCode s samples room ≡ pick short 20 1
           unfolding cutCode
-          code-20 a h =
-              rw (
-                v,
-                r,
-                lt-leb most (s .settings .count) m,
-                eq-eqb (length samples) (2 * formNow (s .settings) .pairs) n,
-                a,
-                lt-ltb room (totalOf (formNow (s .settings))) h,
-              )
+          code-room a h = rw (v, r, lt-leb most (s .settings .count) m, eq-eqb (length samples) (2 * formNow (s .settings) .pairs) n, a, h)
+
+          pub code-20 : allSamples samples ≡ true → room < totalOf (formNow (s .settings)) → cutCode s samples room ≡ 20
+          code-20 a h = code-room a (lt-ltb room (totalOf (formNow (s .settings))) h)
 
           pub code-1 : allSamples samples ≡ true → totalOf (formNow (s .settings)) ≤ room → cutCode s samples room ≡ 1
-          unfolding cutCode
-          code-1 a h =
-              rw (
-                v,
-                r,
-                lt-leb most (s .settings .count) m,
-                eq-eqb (length samples) (2 * formNow (s .settings) .pairs) n,
-                a,
-                le-ltb room (totalOf (formNow (s .settings))) h,
-              )
+          code-1 a h = code-room a (le-ltb room (totalOf (formNow (s .settings))) h)
 
 -- what a code comes to
 module _ (s : Station) (samples : List ℤ) (room : ℕ) where

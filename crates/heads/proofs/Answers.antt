@@ -4,13 +4,13 @@ use mathlib.Core.Path.{_≡_, refl}
 use mathlib.Core.List.{List, [], _∷_}
 use lib.Dec.{eqb}
 use Rattle.wire.specs.Choice.{pick}
-use Rattle.tuning.proofs.Firm.{one-by}
+use Rattle.tuning.proofs.Firm.{one-by, two-results-coincide}
 use Rattle.heads.specs.declared.Head.{Head}
 use Rattle.heads.specs.declared.Written.{Written}
 use Rattle.heads.specs.declared.Written.the-variants.{Whole, NotAllowed, NoRoom}
 use Rattle.heads.specs.declared.Opened.{Opened}
 use Rattle.heads.specs.declared.Opened.the-variants.{Head as Found, NotAHead, OtherVersion}
-use Rattle.heads.specs.Head.{writtenCode, Reading, openedSays}
+use Rattle.heads.specs.Head.{writeCode, writtenCode, Reading, openedSays, readingOf}
 
 -- ---- writing: the number decides the case
 
@@ -25,6 +25,10 @@ wrote-back NoRoom = refl
 
 pub written-one : (v w : Written) → writtenCode v ≡ writtenCode w → v ≡ w
 written-one = one-by writtenCode wrote wrote-back
+
+-- so the promise of writing allows one answer
+pub write-one : (h : Head) (room : ℕ) {v w : Written} → writtenCode v ≡ writeCode h room → writtenCode w ≡ writeCode h room → v ≡ w
+write-one h room p q = two-results-coincide writtenCode written-one (writeCode h room) p q
 
 -- ---- reading: the number and the head decide the case
 
@@ -43,3 +47,7 @@ opened-back OtherVersion = refl
 
 pub opened-one : (o p : Opened) → openedSays o ≡ openedSays p → o ≡ p
 opened-one = one-by openedSays opened opened-back
+
+-- and so does that of reading
+pub read-one : (s : List ℕ) {o p : Opened} → openedSays o ≡ readingOf s → openedSays p ≡ readingOf s → o ≡ p
+read-one s p q = two-results-coincide openedSays opened-one (readingOf s) p q

@@ -15,7 +15,7 @@ use Rattle.tuning.specs.Told.{Told, tells}
 use Rattle.tuning.specs.Word.{offsetOf, wordOf, isClock, told, wordTold}
 use Rattle.tuning.specs.declared.word.Word.{Word}
 use Rattle.tuning.specs.declared.word.Word.the-variants.{Is, NotAllowed}
-use Rattle.tuning.proofs.Firm.{one-by}
+use Rattle.tuning.proofs.Firm.{one-by, two-results-coincide}
 
 abbrev pub inFirst : ℕ → Bool
 inFirst hz = within 100000 34000000 hz
@@ -76,6 +76,10 @@ back-told NotAllowed = refl
 -- two answers that tell the same are the same
 pub told-one : (v w : Word) → told v ≡ told w → v ≡ w
 told-one = one-by told back back-told
+
+-- so the promise of the word allows one answer
+pub word-one : (hz clock : ℕ) {v w : Word} → told v ≡ wordTold hz clock → told w ≡ wordTold hz clock → v ≡ w
+word-one hz clock p q = two-results-coincide told told-one (wordTold hz clock) p q
 
 -- ---- the nearest whole number, halves up
 
