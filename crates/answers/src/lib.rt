@@ -17,12 +17,12 @@ pub struct Answered {
     pub settings: Settings,
 }
 
-// Answers a finished message of a type and a length, of which `held` is the first 64 bytes. A buffer that is shorter than
+// Answers a finished message of a type and a length, of which `opening` is the first ten bytes, zero where it has fewer. A buffer that is shorter than
 // the reply is 20: nothing is written, and the settings are those given.
-pub fn answer(s: Settings, kind: u8, size: u16, held: &[u8; 64], reply: &mut [u8]) -> Answered
-    ensures { λ r. ⌜ (r ≡ answerOf s (record { type = kind; size = size; held = now (held .entry) }) (length (now (reply .entry))) .answered) × (now (reply .exit) ≡ sets (now (reply .entry)) 0 (answerOf s (record { type = kind; size = size; held = now (held .entry) }) (length (now (reply .entry))) .bytes)) ⌝ }
+pub fn answer(s: Settings, kind: u8, size: u16, opening: &[u8; 10], reply: &mut [u8]) -> Answered
+    ensures { λ r. ⌜ (r ≡ answerOf s (record { type = kind; size = size; held = now (opening .entry) }) (length (now (reply .entry))) .answered) × (now (reply .exit) ≡ sets (now (reply .entry)) 0 (answerOf s (record { type = kind; size = size; held = now (opening .entry) }) (length (now (reply .entry))) .bytes)) ⌝ }
 {
-    let judged = judging::judge(s, kind, size, held);
+    let judged = judging::judge(s, kind, size, opening);
     let code = judged.code;
     let after = judged.settings;
     if code == 2 {
@@ -32,7 +32,7 @@ pub fn answer(s: Settings, kind: u8, size: u16, held: &[u8; 64], reply: &mut [u8
             settings: after,
         };
     }
-    let message = &held[..];
+    let message = &opening[..];
     let wrote = writing::write(
         code,
         kind,

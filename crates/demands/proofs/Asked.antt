@@ -12,7 +12,7 @@ use lib.ListN.{length, replicate}
 use Rattle.wire.specs.Number.{bytes, field}
 use Rattle.wire.specs.Header.{headerOf, typeIn, lengthIn, typeData}
 use Rattle.wire.proofs.Headers.{length-header, type-header, header-below}
-use Rattle.framing.specs.declared.Taking.{Taking}
+use Rattle.framing.specs.Framing.{Taking}
 use Rattle.framing.specs.Framing.{taken, finished, between, announced, headerIn, totalOf}
 use Rattle.framing.proofs.Cutting.{told}
 use Rattle.framing.proofs.Leaving.{between-left}

@@ -15,7 +15,7 @@ use Rattle.wire.specs.Number.{number}
 use Rattle.wire.specs.Header.{lengthIn, typeIn}
 use Rattle.framing.proofs.Cutting.{taking-on}
 use Rattle.framing.specs.declared.Store.{Store}
-use Rattle.framing.specs.declared.Taking.{Taking}
+use Rattle.framing.specs.Framing.{Taking}
 use Rattle.framing.specs.Framing.{taking, taken, pushed, finished, announced, totalOf, between}
 
 -- what is held of a message's first bytes

@@ -14,7 +14,7 @@ use lib.Seq.{take-append-le}
 use Rattle.wire.specs.Choice.{pick}
 use Rattle.wire.specs.Number.{number}
 use Rattle.wire.specs.Header.{lengthIn, typeIn, typeSet, typeRequest, typeData}
-use Rattle.framing.specs.declared.Taking.{Taking}
+use Rattle.framing.specs.Framing.{Taking}
 use Rattle.framing.specs.Framing.{allBytes, totalOf, headerIn, between, finished, taking, taken, couldBeLeft}
 use Rattle.framing.proofs.Cutting.{told}
 use Rattle.items.specs.declared.Settings.{Settings}

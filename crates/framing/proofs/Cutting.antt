@@ -9,15 +9,15 @@ use native.Mathlib.Nat.{add-assoc}
 use native.Mathlib.Omega.{arith}
 use borrow.Author.Tests.{leb-true}
 use lib.Dec.{leb}
-use lib.ListN.{length, set}
+use lib.ListN.{length, set, drop, length-set}
 use Rattle.wire.specs.Choice.{pick}
 use Rattle.wire.specs.Header.{typeIn, lengthIn}
 use Rattle.wire.proofs.Laws.{true-not-false, and-left, and-right}
 use Rattle.framing.specs.declared.Store.{Store}
-use Rattle.framing.specs.declared.Taking.{Taking}
-use Rattle.framing.specs.Framing.{announcedBy, headerIn, announced, pushed, finished, couldBeLeft, stopped, taking, taken}
+use Rattle.framing.specs.Framing.{Taking}
+use Rattle.framing.specs.Framing.{announcedBy, headerIn, announced, pushed, finished, zeros, couldBeLeft, stopped, taking, taken}
 use Rattle.framing.proofs.Headers.{header-kept, open-total}
-use Rattle.framing.proofs.Leaving.{pushed-left}
+use Rattle.framing.proofs.Leaving.{pushed-left, pushed-unused}
 use Rattle.framing.proofs.Runs.{stops}
 use Rattle.framing.proofs.Totals.{total-least}
 
@@ -116,6 +116,19 @@ taken-left n s host h f = kept n s host (λ g. h) (told n s host ∙ f)
     kept =
         taking-by (λ n s host t. (finished s ≡ false → couldBeLeft s ≡ true) → finished (t .store) ≡ false → couldBeLeft (t .store) ≡ true)
         (λ n s h. h) (λ n s b bs f h. h) (λ n s b bs t f ih h. ih (pushed-left s b (h f)))
+
+-- finished or not: unused places are zero
+pub taken-unused : (n : ℕ) (s : Store) (host : List ℕ) → zeros (drop (s .taken) (s .held)) ≡ true
+    → zeros (drop (taking n s host .store .taken) (taking n s host .store .held)) ≡ true
+taken-unused =
+    taking-by (λ n s host t. zeros (drop (s .taken) (s .held)) ≡ true → zeros (drop (t .store .taken) (t .store .held)) ≡ true)
+    (λ n s h. h) (λ n s b bs f h. h) (λ n s b bs t f ih h. ih (pushed-unused s b h))
+
+-- and as many are held
+pub taken-long : (n : ℕ) (s : Store) (host : List ℕ) → length (taking n s host .store .held) ≡ length (s .held)
+taken-long =
+    taking-by (λ n s host t. length (t .store .held) ≡ length (s .held))
+    (λ n s. refl) (λ n s b bs f. refl) (λ n s b bs t f ih. ih ∙ length-set (s .held) (s .taken) b)
 
 -- A byte that finishes a message is its last: neither too few are taken nor too many.
 pub last-byte : (s : Store) (b : ℕ) → finished s ≡ false → finished (pushed s b) ≡ true

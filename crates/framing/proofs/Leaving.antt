@@ -49,11 +49,13 @@ zeros-further zero (b ∷ bs) h = and-right (eqb b 0) (zeros bs) h
 zeros-further (suc n) [] h = refl
 zeros-further (suc n) (b ∷ bs) h = zeros-further n bs h
 
+-- one byte more leaves the unused places zero
+pub pushed-unused : (s : Store) (b : ℕ) → zeros (drop (s .taken) (s .held)) ≡ true → zeros (drop (pushed s b .taken) (pushed s b .held)) ≡ true
+pushed-unused s b h =
+    rw (add-one, drop-set-lt (suc (s .taken)) (s .held) (s .taken) b (le-refl (suc (s .taken)))) (zeros-further (s .taken) (s .held) h)
+
 pub pushed-left : (s : Store) (b : ℕ) → couldBeLeft s ≡ true → finished (pushed s b) ≡ false → couldBeLeft (pushed s b) ≡ true
-pushed-left s b h f =
-    left-unfinished (pushed s b) f
-    ∙ rw (add-one, drop-set-lt (suc (s .taken)) (s .held) (s .taken) b (le-refl (suc (s .taken))))
-    (zeros-further (s .taken) (s .held) (left-zeros s h))
+pushed-left s b h f = left-unfinished (pushed s b) f ∙ pushed-unused s b (left-zeros s h)
 
 all-left : (s : Store) (bs : List ℕ) → couldBeLeft s ≡ true → unfinishedAll s bs → couldBeLeft (pushedAll s bs) ≡ true
 all-left s [] h u = h

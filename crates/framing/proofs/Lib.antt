@@ -6,3 +6,5 @@ pub mod Zeros
 pub mod Leaving
 pub mod Cutting
 pub mod Stream
+pub mod FirstTen
+pub mod Whole

@@ -2,15 +2,15 @@
 use Prim.Native.Nat.{ℕ, suc, _+_, _≤_, max}
 use mathlib.Core.Path.{_≡_}
 use mathlib.Core.Bool.{Bool, true, false, _&&_, not}
-use mathlib.Core.List.{List, [], _∷_}
+use mathlib.Core.List.{List, [], _∷_, _++_}
 use lib.Dec.{leb, ltb, eqb}
-use lib.ListN.{length, set, drop, replicate}
+use lib.ListN.{length, set, take, drop, replicate}
 use lib.Seq.{sets}
 use Rattle.wire.specs.Choice.{pick}
 use Rattle.wire.specs.Number.{field}
 use Rattle.wire.specs.Header.{lengthIn, typeIn, typeData}
 use Rattle.framing.specs.declared.Store.{Store}
-use Rattle.framing.specs.declared.Taking.{Taking}
+use Rattle.framing.specs.declared.Took.{Took}
 
 -- How many bytes a message has in all: its length; "lengths 0 and 1 finish after the two header bytes, except length 0 in
 -- types 4 to 7"; "a data item of length 0 means 8,194 bytes in all".
@@ -41,6 +41,12 @@ pushed s b = record { held = set (s .held) (s .taken) b; taken = s .taken + 1 }
 abbrev pub finished : Store → Bool
 finished s = leb 2 (s .taken) && leb (announced (s .held)) (s .taken)
 
+-- What one call takes of the host's bytes: the store after them, how many, and whether they finished the message.
+pub record Taking : Type 0 where
+  pub store : Store
+  pub count : ℕ
+  pub finished : Bool
+
 -- What a call has taken when it stops after n bytes: the store, n, and whether the message is finished.
 abbrev pub stopped : ℕ → Store → Taking
 stopped n s = record { store = s; count = n; finished = finished s }
@@ -53,6 +59,24 @@ taking n s (b ∷ bs) = pick (finished s) (stopped n s) (taking (n + 1) (pushed 
 
 abbrev pub taken : Store → List ℕ → Taking
 taken s host = taking 0 s host
+
+-- The first ten of some bytes, zero past their end.
+unfoldable pub firstTen : List ℕ → List ℕ
+firstTen bytes = take 10 (bytes ++ replicate 10 0)
+
+-- What a call says of it: the message's first ten bytes for the store.
+abbrev pub tookOf : Taking → Took
+tookOf t =
+    record {
+      opening = firstTen (take (t .store .taken) (t .store .held));
+      count = t .count;
+      taken = t .store .taken;
+      finished = t .finished;
+    }
+
+-- What is held after a call: nothing more of a message that came whole.
+abbrev pub heldAfter : Store → List ℕ → List ℕ
+heldAfter s host = pick (eqb (s .taken) 0 && taken s host .finished) (s .held) (taken s host .store .held)
 
 -- What one call can know of the total beforehand: what the header announces with all of the host's bytes stored, and two
 -- bytes while they do not make a header.

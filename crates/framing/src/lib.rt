@@ -2,9 +2,9 @@
 // not finished.
 ghost use mathlib.Core.Path.{_≡_};
 ghost use Prim.Native.Nat.{_+_, _*_, _-_, _≤_, min};
-ghost use lib.ListN.{length, take, drop};
+ghost use lib.ListN.{length, take, drop, getD};
 ghost use lib.Seq.{sets};
-ghost use Rattle.framing.specs.Framing.{between, totalOf, announcedBy, totalAhead, finished, zeros, couldBeLeft, taken};
+ghost use Rattle.framing.specs.Framing.{between, totalOf, announcedBy, totalAhead, finished, zeros, couldBeLeft, taken, firstTen, tookOf, heldAfter};
 
 // What the box keeps of an unfinished message: its first 64 bytes and how many were taken. Unused places are zero, and
 // all is zero between messages.
@@ -13,10 +13,12 @@ pub struct Store {
     pub taken: usize,
 }
 
-// What one call takes of the host's bytes: how many, the store after them, and whether they finished the message.
-pub struct Taking {
-    pub store: Store,
+// What one call took of the host's bytes: how many, how many of the message are taken with them, whether they finished it,
+// and the message's first ten bytes, zero where it has fewer. No message that the box obeys is longer.
+pub struct Took {
+    pub opening: [u8; 10],
     pub count: usize,
+    pub taken: usize,
     pub finished: bool,
 }
 
@@ -56,26 +58,59 @@ pub fn could_be_left(s: Store) -> bool
     unused(&held, taken)
 }
 
-// Takes the host's bytes up to the end of the message, and not past it. Of a message that is finished already nothing is
-// taken.
-pub fn take_in(s: Store, host: &[u8]) -> Taking
-    ensures { λ r. ⌜ r ≡ taken s (now (host .entry)) ⌝ }
+// Takes the host's bytes up to the end of the message, and not past it, where `held` has what was kept of it and `had` were
+// taken before. Of a message that is finished already nothing is taken. One that comes whole is read where it lies: nothing
+// of it is kept.
+pub fn take_in(held: &mut [u8; 64], had: usize, host: &[u8]) -> Took
+    ensures { λ r. ⌜ (r ≡ tookOf (taken (record { held = now (held .entry); taken = had }) (now (host .entry)))) × (now (held .exit) ≡ heldAfter (record { held = now (held .entry); taken = had }) (now (host .entry))) ⌝ }
 {
-    let mut held = s.held;
-    let had = s.taken;
-    let total = total_ahead(&held, had, host);
+    let total = total_ahead(held, had, host);
+    if had == 0 {
+        if total <= host.len() {
+            return Took {
+                opening: opening(host, total),
+                count: total,
+                taken: total,
+                finished: true,
+            };
+        }
+    }
     let count = lesser(rest(total, had), host.len());
-    keep(&mut held, had, host, count);
+    keep(held, had, host, count);
     let now = had + count;
-    let store = Store {
-        held: held,
-        taken: now,
-    };
-    Taking {
-        store: store,
+    Took {
+        opening: opening(held, lesser(now, 64)),
         count: count,
+        taken: now,
         finished: total <= now,
     }
+}
+
+// The first ten of so many bytes, zero past their end.
+fn opening(bytes: &[u8], n: usize) -> [u8; 10]
+    requires { ⌜ n ≤ length (now bytes) ⌝ }
+    ensures { λ r. ⌜ r ≡ firstTen (take n (now (bytes .entry))) ⌝ }
+{
+    [
+        byte_of(bytes, n, 0),
+        byte_of(bytes, n, 1),
+        byte_of(bytes, n, 2),
+        byte_of(bytes, n, 3),
+        byte_of(bytes, n, 4),
+        byte_of(bytes, n, 5),
+        byte_of(bytes, n, 6),
+        byte_of(bytes, n, 7),
+        byte_of(bytes, n, 8),
+        byte_of(bytes, n, 9),
+    ]
+}
+
+// One of so many bytes, zero past their end.
+fn byte_of(bytes: &[u8], n: usize, i: usize) -> u8
+    requires { ⌜ n ≤ length (now bytes) ⌝ }
+    ensures { λ r. ⌜ r ≡ getD (take n (now (bytes .entry))) i 0 ⌝ }
+{
+    if i < n { bytes[i] } else { 0 }
 }
 
 // The header that two bytes make.
@@ -104,7 +139,7 @@ fn is_finished(held: &[u8; 64], taken: usize) -> bool
 }
 
 // The total of a message of which `had` bytes are held and the host's come next: two while they do not make a header.
-fn total_ahead(held: &[u8; 64], had: usize, host: &[u8]) -> usize
+fn total_ahead(held: &[u8], had: usize, host: &[u8]) -> usize
     requires { ⌜ length (now held) ≡ 64 ⌝ }
     ensures { λ r. ⌜ r ≡ totalAhead (now (held .entry)) had (now (host .entry)) ⌝ }
 {

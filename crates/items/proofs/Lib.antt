@@ -4,3 +4,4 @@ pub mod Lines
 pub mod Rows
 pub mod Serials
 pub mod Judging
+pub mod TenBytes

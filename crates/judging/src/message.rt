@@ -12,12 +12,12 @@ use items::Settings;
 use items::header;
 use items::table;
 
-// The code of a finished message of a type and a length, and the settings after it. `held` is its first 64 bytes. "Codes 10
+// The code of a finished message of a type and a length, and the settings after it. `opening` is its first ten bytes, zero where it has fewer. "Codes 10
 // to 17 stand in order of checking (11 first)."
-pub fn judge(s: Settings, kind: u8, size: u16, held: &[u8; 64]) -> Judged
-    ensures { λ r. ⌜ r ≡ judgedOf s (record { type = kind; size = size; held = now (held .entry) }) ⌝ }
+pub fn judge(s: Settings, kind: u8, size: u16, opening: &[u8; 10]) -> Judged
+    ensures { λ r. ⌜ r ≡ judgedOf s (record { type = kind; size = size; held = now (opening .entry) }) ⌝ }
 {
-    let message = &held[..];
+    let message = &opening[..];
     let early = header::header_code(kind, size, message[2]);
     if early != 1 {
         return Judged {

@@ -12,7 +12,7 @@ use lib.ListN.{length, take, drop, length-append, length-take, length-drop}
 use lib.Seq.{sets, length-sets, take-all, drop-drop}
 use Rattle.wire.proofs.Laws.{pick-keeps, pick-same}
 use Rattle.wire.proofs.Stores.{sets-append}
-use Rattle.framing.specs.declared.Taking.{Taking}
+use Rattle.framing.specs.Framing.{Taking}
 use Rattle.framing.specs.Framing.{taken, finished}
 use Rattle.framing.proofs.Cutting.{count-most}
 use Rattle.items.specs.Answer.{replyOf}

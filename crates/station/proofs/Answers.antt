@@ -11,7 +11,7 @@ use lib.Seq.{sets}
 use Rattle.wire.specs.Choice.{pick, Check, firstOf}
 use Rattle.wire.specs.Number.{field}
 use Rattle.wire.specs.Header.{typeIn, lengthIn}
-use Rattle.framing.specs.declared.Taking.{Taking}
+use Rattle.framing.specs.Framing.{Taking}
 use Rattle.framing.specs.Framing.{between}
 use Rattle.items.specs.declared.Settings.{Settings}
 use Rattle.items.specs.Answer.{Message, checks, codeOf, settingsAfter, replyOf}

@@ -9,7 +9,7 @@ use mathlib.Core.List.{List, [], _∷_, _++_, map}
 use lib.ListN.{length, drop}
 use Rattle.wire.specs.Choice.{pick}
 use Rattle.framing.specs.declared.Store.{Store}
-use Rattle.framing.specs.declared.Taking.{Taking}
+use Rattle.framing.specs.Framing.{Taking}
 use Rattle.framing.specs.Framing.{taken, finished, between, couldBeLeft}
 use Rattle.framing.specs.Stream as stream
 use Rattle.framing.specs.Stream.{Stream}

@@ -8,7 +8,7 @@ use lib.ListN.{length}
 use borrow.Author.Tests.{le-ltb}
 use Rattle.wire.proofs.Laws.{and-left, and-right, and-both}
 use Rattle.framing.specs.declared.Store.{Store}
-use Rattle.framing.specs.declared.Taking.{Taking}
+use Rattle.framing.specs.Framing.{Taking}
 use Rattle.framing.proofs.Cutting.{told}
 use Rattle.framing.specs.Framing.{taken, finished, couldBeLeft}
 use Rattle.items.specs.declared.Settings.{Settings}

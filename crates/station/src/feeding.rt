@@ -2,11 +2,12 @@
 ghost use mathlib.Core.Path.{_≡_};
 ghost use lib.Seq.{sets};
 ghost use Rattle.framing.specs.Framing.{between};
-ghost use Rattle.station.specs.Feeding.{feedingOf, answering};
+ghost use Rattle.station.specs.Feeding.{feedingOf, answering, opened};
 ghost use Rattle.station.specs.Feeding.{refused as refusedBy, waiting as waitingWith};
 use crate::Fed;
 use crate::Station;
-use framing::Taking;
+use framing::Store;
+use framing::Took;
 use items::Settings;
 
 // Takes the host's bytes up to the end of one message, and answers it. Of a valid box, with room for 64 bytes, calling
@@ -21,11 +22,12 @@ pub fn feed(s: Station, host: &[u8], reply: &mut [u8]) -> Fed
         return refused(21, s);
     }
     let store = s.store;
-    let taking = framing::take_in(store, host);
-    if !taking.finished {
-        return waiting(s, taking);
+    let mut held = store.held;
+    let took = framing::take_in(&mut held, store.taken, host);
+    if !took.finished {
+        return waiting(s, held, took);
     }
-    answer(s, taking, reply)
+    answer(s, took, reply)
 }
 
 // "Codes from 20 consume nothing and return the state given."
@@ -41,11 +43,14 @@ fn refused(code: u8, s: Station) -> Fed
 }
 
 // 0: "waiting, all bytes consumed".
-fn waiting(s: Station, t: Taking) -> Fed
-    ensures { λ r. ⌜ r ≡ waitingWith (s .settings) t .fed ⌝ }
+fn waiting(s: Station, held: [u8; 64], t: Took) -> Fed
+    ensures { λ r. ⌜ r ≡ waitingWith (s .settings) (record { store = record { held = held; taken = t .taken }; count = t .count; finished = t .finished }) .fed ⌝ }
 {
     let settings = s.settings;
-    let store = t.store;
+    let store = Store {
+        held: held,
+        taken: t.taken,
+    };
     let station = Station {
         settings: settings,
         store: store,
@@ -58,21 +63,21 @@ fn waiting(s: Station, t: Taking) -> Fed
     }
 }
 
-// The answer to a finished message: a reply, nothing, or NAK; 20 where there is no room for it.
-fn answer(s: Station, t: Taking, reply: &mut [u8]) -> Fed
+// The answer to a finished message, which its first ten bytes decide: a reply, nothing, or NAK; 20 where there is no room
+// for it.
+fn answer(s: Station, t: Took, reply: &mut [u8]) -> Fed
     ensures { λ r. do
       room ← ⟦reply.len()⟧ .entry
-      ⌜ (r ≡ answering s t room .fed) × (now (reply .exit) ≡ sets (now (reply .entry)) 0 (answering s t room .bytes)) ⌝ }
+      ⌜ (r ≡ answering s (opened t) room .fed) × (now (reply .exit) ≡ sets (now (reply .entry)) 0 (answering s (opened t) room .bytes)) ⌝ }
 {
     let settings = s.settings;
-    let store = t.store;
-    let held = store.held;
-    let header = wire::number_at(&held, 0, 2) as u16;
+    let opening = t.opening;
+    let header = wire::number_at(&opening, 0, 2) as u16;
     let answered = answers::answer(
         settings,
         wire::type_in(header),
         wire::length_in(header),
-        &held,
+        &opening,
         reply,
     );
     let code = answered.code;

@@ -18,7 +18,7 @@ judge-requires : tie.Need-judge-requires
 judge-requires c κs = search needs
 
 abbrev message : tie.Start → Message
-message c = record { type = c .args .kind; size = c .args .size; held = now (c .args .held) }
+message c = record { type = c .args .kind; size = c .args .size; held = now (c .args .opening) }
 
 code-is : (c : tie.After-judge) → c .judge .result .code ≡ codeOf (c .before .before .args .s) (message (c .before .before))
 code-is c = ap (λ (j : Judged). j .code) (c .judge .ensures)
@@ -51,19 +51,19 @@ same-length c = search needs
 abbrev written : tie.After-write → List ℕ
 written c =
     let j = c .before .before .before .before .before .before .before in
-    due (j .judge .result .code) (j .before .before .args .kind) (c .before .before .before .item-in .result) (getD (now (j .before .before .args .held)) 4 0) (j .judge .result .settings)
+    due (j .judge .result .code) (j .before .before .args .kind) (c .before .before .before .item-in .result) (getD (now (j .before .before .args .opening)) 4 0) (j .judge .result .settings)
 
 is-reply : (c : tie.After-write) → written c ≡ replyOf (c .before .before .before .before .before .before .before .before .before .args .s) (message (c .before .before .before .before .before .before .before .before .before))
 is-reply c =
     let j = c .before .before .before .before .before .before .before in
     let s = j .before .before in
-    let long : 4 < length (now (s .args .held)) = search needs in
+    let long : 4 < length (now (s .args .opening)) = search needs in
     rw (code-is j, c .before .before .before .item-in .ensures, after-is j) (due-reply (s .args .s) (message s) long (λ e. c .before .before .before .before .before .if1 .left (code-is j ∙ e)))
 
 some : (c : tie.After-write) → 0 < length (written c)
 some c =
     let j = c .before .before .before .before .before .before .before in
-    some-due (j .judge .result .code) (j .before .before .args .kind) (c .before .before .before .item-in .result) (getD (now (j .before .before .args .held)) 4 0) (j .judge .result .settings)
+    some-due (j .judge .result .code) (j .before .before .args .kind) (c .before .before .before .item-in .result) (getD (now (j .before .before .args .opening)) 4 0) (j .judge .result .settings)
 
 returns-2 : tie.Need-returns-2
 returns-2 c =

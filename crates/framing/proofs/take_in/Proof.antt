@@ -1,13 +1,32 @@
--- `framing::take_in` meets its contract: the total that is known beforehand says how many bytes one call takes, and they are stored at once.
-use mathlib.Core.Path.{sym}
+-- `framing::take_in` meets its contract: the total that is known beforehand says how many bytes one call takes; a message
+-- that comes whole is read where it lies, and of another they are stored at once.
+use Prim.Native.Nat.{_<_}
+use mathlib.Core.Logic.{inl, inr}
+use mathlib.Core.Path.{_≡_}
 use native.Mathlib.Omega.{arith}
-use Rattle.framing.proofs.Runs.{taken-ahead}
+use denote.Ref.{now}
+use lib.ListN.{length}
+use Rattle.framing.proofs.Whole.{came-whole, came-in-part}
 use borrow.Author.Needs.{needs}
 use Rattle.framing.proofs.take_in.Statement.{statement}
 use Rattle.framing.proofs.take_in.Tie as tie
 
+-- what the type says of what is held
+long : (c : tie.After-total-ahead-arg2) → length (now (c .before .before .before .args .held)) ≡ 64
+long c = search needs
+
 total-ahead-requires : tie.Need-total-ahead-requires
 total-ahead-requires c κs = search needs
+
+opening-requires : tie.Need-opening-requires
+opening-requires c κs = search needs
+
+returns : tie.Need-returns
+returns c =
+    let t = c .before .before .before in
+    let a = t .before .before .before .before in
+    came-whole (now (a .args .held)) (now (a .args .host)) (a .args .had) (t .total-ahead .result) (long (t .before)) (t .total-ahead .ensures) (c .opening .result)
+    (c .before .before .if1 .taken) (c .before .if2 .taken) (c .opening .ensures)
 
 rest-requires : tie.Need-rest-requires
 rest-requires c κs = search needs
@@ -16,20 +35,37 @@ lesser-requires : tie.Need-lesser-requires
 lesser-requires c κs = search needs
 
 keep-requires : tie.Need-keep-requires
-keep-requires c κs = search needs
+keep-requires c κs = (long (c .before .before .before .before .before), search needs)
 
 add-now : tie.Need-add-now
 add-now c = search needs
 
-returns : tie.Need-returns
-returns c =
-    let a = c .before .before .before .before .before .before .before .before .args in
-    let total = c .before .before .before .before .total-ahead in
-    let count = c .before .before .lesser in
-    rw (c .keep .ensures)
-    (sym (taken-ahead (a .s) (a .host .now) (total .result) (count .result) (total .ensures) (omega arith)))
+lesser-requires-2 : tie.Need-lesser-requires-2
+lesser-requires-2 c κs = search needs
+
+opening-requires-2 : tie.Need-opening-requires-2
+opening-requires-2 c κs = search needs
+
+returns-2 : tie.Need-returns-2
+returns-2 c =
+    let k = c .before .before .before .before in
+    let n = k .before .before in
+    let t = n .before .before .before in
+    let a = t .before .before .before .before in
+    came-in-part (now (a .args .held)) (now (a .args .host)) (a .args .had) (t .total-ahead .result) (long (t .before)) (t .total-ahead .ensures) (n .lesser .result) (c .opening2 .result) (k .keep .last .0)
+    (λ none. elim (n .before .before .if1 .came) [ inl half ↦ half .1 .left | inr more ↦ absurd (more .left none) ]) (omega arith) (k .keep .ensures) (rw (c .before .lesser2 .ensures) at (c .opening2 .ensures))
 
 pub take-in-spec : {M : Type 1} → statement M
 take-in-spec =
     tie.close
-    (tie.spec total-ahead-requires rest-requires lesser-requires keep-requires add-now returns)
+    (tie.spec
+    total-ahead-requires
+    opening-requires
+    returns
+    rest-requires
+    lesser-requires
+    keep-requires
+    add-now
+    lesser-requires-2
+    opening-requires-2
+    returns-2)

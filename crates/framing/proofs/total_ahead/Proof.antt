@@ -11,7 +11,7 @@ rest-requires c κs = search needs
 
 returns : tie.Need-returns
 returns c =
-    let a = c .before .before .before .args in
+    let a = c .before .before .before .before .args in
     sym (ahead-bare (a .held .now) (a .host .now) (a .had) (omega arith))
 
 shared-slice-read-header : tie.Need-shared-slice-read-header
@@ -26,11 +26,11 @@ header-requires c κs = search needs
 announced-by-requires : tie.Need-announced-by-requires
 announced-by-requires c κs = search needs
 
-element-copy-out-header : tie.Need-element-copy-out-header
-element-copy-out-header c = search needs
-
 shared-slice-read-header-3 : tie.Need-shared-slice-read-header-3
 shared-slice-read-header-3 c = search needs
+
+shared-slice-read-header-4 : tie.Need-shared-slice-read-header-4
+shared-slice-read-header-4 c = search needs
 
 header-requires-2 : tie.Need-header-requires-2
 header-requires-2 c κs = search needs
@@ -38,11 +38,11 @@ header-requires-2 c κs = search needs
 announced-by-requires-2 : tie.Need-announced-by-requires-2
 announced-by-requires-2 c κs = search needs
 
-element-copy-out-header-2 : tie.Need-element-copy-out-header-2
-element-copy-out-header-2 c = search needs
+shared-slice-read-header-5 : tie.Need-shared-slice-read-header-5
+shared-slice-read-header-5 c = search needs
 
-element-copy-out-header-3 : tie.Need-element-copy-out-header-3
-element-copy-out-header-3 c = search needs
+shared-slice-read-header-6 : tie.Need-shared-slice-read-header-6
+shared-slice-read-header-6 c = search needs
 
 header-requires-3 : tie.Need-header-requires-3
 header-requires-3 c κs = search needs
@@ -52,19 +52,19 @@ announced-by-requires-3 c κs = search needs
 
 returns-2 : tie.Need-returns-2
 returns-2 c =
-    let a = c .before .before .before .before .before .before .before .before .args in
+    let a = c .before .before .before .before .before .before .before .before .before .args in
     c .announced-by .ensures
     ∙ ahead-sent (a .held .now) (a .host .now) (a .had) _ (c .before .before .before .before .match .keys1) (omega arith) (omega arith) (c .before .header .ensures)
 
 returns-3 : tie.Need-returns-3
 returns-3 c =
-    let a = c .before .before .before .before .before .before .before .before .args in
+    let a = c .before .before .before .before .before .before .before .before .before .args in
     c .announced-by2 .ensures
     ∙ ahead-half (a .held .now) (a .host .now) (a .had) _ (c .before .before .before .before .match .keys2) (omega arith) (omega arith) (c .before .header2 .ensures)
 
 returns-4 : tie.Need-returns-4
 returns-4 c =
-    let a = c .before .before .before .before .before .before .before .before .args in
+    let a = c .before .before .before .before .before .before .before .before .before .args in
     c .announced-by3 .ensures
     ∙ ahead-held (a .held .now) (a .host .now) (a .had) _ (omega (arith, c .before .before .before .before .match .rest .0 .1, c .before .before .before .before .match .rest .1)) (omega arith) (c .before .header3 .ensures)
 
@@ -78,12 +78,12 @@ total-ahead-spec =
     shared-slice-read-header-2
     header-requires
     announced-by-requires
-    element-copy-out-header
     shared-slice-read-header-3
+    shared-slice-read-header-4
     header-requires-2
     announced-by-requires-2
-    element-copy-out-header-2
-    element-copy-out-header-3
+    shared-slice-read-header-5
+    shared-slice-read-header-6
     header-requires-3
     announced-by-requires-3
     returns-2

@@ -28,7 +28,7 @@ part held = take-all (length held - 4) (drop 4 held) (simp length-drop (le-refl 
 
 -- the message that is judged
 abbrev message : tie.Start → Message
-message c = record { type = c .args .kind; size = c .args .size; held = now (c .args .held) }
+message c = record { type = c .args .kind; size = c .args .size; held = now (c .args .opening) }
 
 returns : tie.Need-returns
 returns c =
@@ -43,7 +43,7 @@ item-in-requires c κs = search needs
 listed-code-requires : tie.Need-listed-code-requires
 listed-code-requires c κs = search needs
 
-header-passed : (c : tie.Else1) → firstOf (headerChecks (c .before .before .before .before .args .kind) (c .before .before .before .before .args .size) (getD (now (c .before .before .before .before .args .held)) 2 0)) 1 ≡ 1
+header-passed : (c : tie.Else1) → firstOf (headerChecks (c .before .before .before .before .args .kind) (c .before .before .before .before .args .size) (getD (now (c .before .before .before .before .args .opening)) 2 0)) 1 ≡ 1
 header-passed c = sym (c .before .header-code .ensures) ∙ c .if1 .left
 
 table-says : (c : tie.After-listed-code) → c .listed-code .result ≡ firstOf (tableChecks (itemIn (message (c .before .before .before .before .before .before))) (c .before .before .before .before .before .before .args .kind) (c .before .before .before .before .before .before .args .size)) 1
@@ -76,7 +76,7 @@ returns-3 c =
     let d = c .before .before .before in
     let a = d .before .before .before .before .before .before .before in
     c .set-item .ensures
-    ∙ ap (λ (p : List ℕ). setBy (rowOf (d .before .before .item-in .result)) (a .args .s) p) (part (now (a .args .held)))
+    ∙ ap (λ (p : List ℕ). setBy (rowOf (d .before .before .item-in .result)) (a .args .s) p) (part (now (a .args .opening)))
     ∙ ap (λ (n : ℕ). setBy (rowOf n) (a .args .s) (parameters (message a))) (d .before .before .item-in .ensures)
     ∙ set-judged (a .args .s) (message a) (c .before .before .if3 .taken)
     (by-item (a .args .s) (message a) (header-passed (d .before .before .before)) (table-passed d))
@@ -99,7 +99,7 @@ returns-4 c =
     let a = d .before .before .before .before .before .before .before in
     ap (λ (n : ℕ). record { code = n; settings = a .args .s })
     (c .asked-code .ensures
-    ∙ ap (λ (p : List ℕ). askedBy (rowOf (d .before .before .item-in .result)) p) (part (now (a .args .held)))
+    ∙ ap (λ (p : List ℕ). askedBy (rowOf (d .before .before .item-in .result)) p) (part (now (a .args .opening)))
     ∙ ap (λ (n : ℕ). askedBy (rowOf n) (parameters (message a))) (d .before .before .item-in .ensures))
     ∙ asked-judged (a .args .s) (message a) (c .before .before .if3 .left)
     (by-item (a .args .s) (message a) (header-passed (d .before .before .before)) (table-passed d))

@@ -8,28 +8,28 @@ use mir.Syntax.{w8}
 use denote.Ref.{now}
 use Rattle.wire.proofs.Numbers.{field-below}
 use Rattle.items.specs.Answer.{Message}
-use Rattle.station.specs.Feeding.{messageIn}
+use Rattle.station.specs.Feeding.{messageIn, opened}
 use Rattle.station.proofs.Answers.{message-is, out-short, out-whole}
 use borrow.Author.Needs.{needs}
 use Rattle.station.proofs.feeding.answer.Statement.{statement}
 use Rattle.station.proofs.feeding.answer.Tie as tie
 
 -- what the types say of a held message
-held-bytes : (c : tie.Start) (k : ℕ) → getD (c .args .t .store .held) k 0 < 256
+held-bytes : (c : tie.Start) (k : ℕ) → getD (c .args .t .opening) k 0 < 256
 held-bytes c k = fit .fits
   where
-    fit : Fits w8 (getD (c .args .t .store .held) k 0)
+    fit : Fits w8 (getD (c .args .t .opening) k 0)
     fit = search needs
 
 -- the message that is handed on
 handed : tie.After-answer → Message
-handed c = record { type = c .before .before .before .before .type-in .result; size = c .before .before .before .length-in .result; held = c .before .before .before .before .before .before .before .before .before .before .before .args .t .store .held }
+handed c = record { type = c .before .before .before .before .type-in .result; size = c .before .before .before .length-in .result; held = c .before .before .before .before .before .before .before .before .before .before .args .t .opening }
 
 -- it is the one in the store
-handed-is : (c : tie.After-answer) → handed c ≡ messageIn (c .before .before .before .before .before .before .before .before .before .before .before .args .t .store)
+handed-is : (c : tie.After-answer) → handed c ≡ messageIn (opened (c .before .before .before .before .before .before .before .before .before .before .args .t) .store)
 unfolding handed
 handed-is c =
-    message-is (c .before .before .before .before .before .before .before .before .before .before .before .args .t) (c .before .before .before .before .before .number-at .result) (c .before .before .before .before .type-in .result) (c .before .before .before .length-in .result) (c .before .before .before .before .before .number-at .ensures) (c .before .before .before .before .type-in .ensures)
+    message-is (opened (c .before .before .before .before .before .before .before .before .before .before .args .t)) (c .before .before .before .before .before .number-at .result) (c .before .before .before .before .type-in .result) (c .before .before .before .length-in .result) (c .before .before .before .before .before .number-at .ensures) (c .before .before .before .before .type-in .ensures)
     (c .before .before .before .length-in .ensures)
 
 slice-aggregate-number-at : tie.Need-slice-aggregate-number-at
@@ -39,7 +39,7 @@ number-at-requires : tie.Need-number-at-requires
 number-at-requires c κs = search needs
 
 cast-header : tie.Need-cast-header
-cast-header c = record { fits = rw (c .number-at .ensures) (field-below 0 2 (c .before .before .before .before .before .before .args .t .store .held) (held-bytes (c .before .before .before .before .before .before))) }
+cast-header c = record { fits = rw (c .number-at .ensures) (field-below 0 2 (c .before .before .before .before .before .args .t .opening) (held-bytes (c .before .before .before .before .before))) }
 
 type-in-requires : tie.Need-type-in-requires
 type-in-requires c κs = search needs
@@ -58,9 +58,9 @@ same-length c = search needs
 
 returns : tie.Need-returns
 unfolding handed
-returns c = let a = c .before .before .before .before .before .before .before .before .before .before .before .before .before .before .before .args in
+returns c = let a = c .before .before .before .before .before .before .before .before .before .before .before .before .before .before .args in
     rw (c .refused .ensures)
-    (out-short (a .s) (a .t) (now (a .reply)) _ (c .before .before .before .before .answer .result) (handed (c .before .before .before .before)) (handed-is (c .before .before .before .before)) (c .before .before .before .before .answer .ensures .0) (c .before .before .before .before .answer .ensures .1) (c .before .if1 .taken))
+    (out-short (a .s) (opened (a .t)) (now (a .reply)) _ (c .before .before .before .before .answer .result) (handed (c .before .before .before .before)) (handed-is (c .before .before .before .before)) (c .before .before .before .before .answer .ensures .0) (c .before .before .before .before .answer .ensures .1) (c .before .if1 .taken))
 
 done-requires : tie.Need-done-requires
 done-requires c κs = search needs
@@ -70,9 +70,9 @@ same-length-2 c = search needs
 
 returns-2 : tie.Need-returns-2
 unfolding handed
-returns-2 c = let a = c .before .before .before .before .before .before .before .before .before .before .before .before .before .before .before .before .args in
+returns-2 c = let a = c .before .before .before .before .before .before .before .before .before .before .before .before .before .before .before .args in
     rw (c .done .ensures)
-    (out-whole (a .s) (a .t) (now (a .reply)) _ (c .before .before .before .before .before .answer .result) (handed (c .before .before .before .before .before)) (handed-is (c .before .before .before .before .before)) (c .before .before .before .before .before .answer .ensures .0) (c .before .before .before .before .before .answer .ensures .1) (c .before .before .if1 .left))
+    (out-whole (a .s) (opened (a .t)) (now (a .reply)) _ (c .before .before .before .before .before .answer .result) (handed (c .before .before .before .before .before)) (handed-is (c .before .before .before .before .before)) (c .before .before .before .before .before .answer .ensures .0) (c .before .before .before .before .before .answer .ensures .1) (c .before .before .if1 .left))
 
 pub answer-spec : {M : Type 1} → statement M
 answer-spec =

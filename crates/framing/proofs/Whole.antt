@@ -1,0 +1,62 @@
+-- What one call takes, told by its count, the message's first ten bytes and what is held after it.
+-- Assumes nothing.
+use Prim.Native.Nat.{ℕ, _+_, _-_, _≤_, _<_, min}
+use mathlib.Core.Path.{_≡_, refl, sym, ap, _∙_}
+use mathlib.Core.Bool.{true, false, _&&_, and-false}
+use mathlib.Core.List.{List}
+use native.Mathlib.Decide.{decLt}
+use native.Mathlib.Nat.{le-refl, zero-add}
+use native.Mathlib.Omega.{arith}
+use borrow.Author.Tests.{le-leb, lt-leb, ne-eqb}
+use lib.Dec.{leb, eqb}
+use lib.ListN.{length, take}
+use lib.Seq.{sets, length-sets, length-take-le}
+use Rattle.framing.specs.declared.Store.{Store}
+use Rattle.framing.specs.declared.Took.{Took}
+use Rattle.framing.specs.Framing.{Taking, totalAhead, taken, firstTen, tookOf, heldAfter}
+use Rattle.framing.proofs.Runs.{takenRun, taken-ahead}
+use Rattle.framing.proofs.FirstTen.{whole-opening, take-most}
+
+module _ (held host : List ℕ) (had total : ℕ) (long : length held ≡ 64) (is : total ≡ totalAhead held had host) where
+  abbrev before : Store
+  before = record { held = held; taken = had }
+
+  abbrev Tells : Took → List ℕ → Type 0
+  Tells r after = (r ≡ tookOf (taken before host)) × (after ≡ heldAfter before host)
+
+  -- a message that comes whole is not kept
+  pub came-whole : (ten : List ℕ) → had ≡ 0 → total ≤ length host → ten ≡ firstTen (take total host)
+      → Tells (record { opening = ten; count = total; taken = total; finished = true }) held
+  came-whole ten none all e =
+      let run : taken before host ≡ takenRun before host total total = taken-ahead before host total total is (omega arith) in
+      rw (run, none, zero-add total, le-leb total total (le-refl total), e) (
+        ap (λ (k : List ℕ). record { opening = k; count = total; taken = total; finished = true })
+            (whole-opening held (take total host) total (omega arith) (length-take-le total host all)),
+        refl,
+      )
+
+  -- one that does not is kept, as far as it came
+  pub came-in-part : (count : ℕ) (ten after : List ℕ) → (had ≡ 0 → length host < total) → count ≡ min (total - had) (length host)
+      → after ≡ sets held had (take count host) → ten ≡ firstTen (take (min (had + count) 64) after)
+      → Tells (record { opening = ten; count = count; taken = had + count; finished = leb total (had + count) }) after
+  came-in-part count ten after part n stored e =
+      rw (run, kept)
+      (ap (λ (k : List ℕ). record { opening = k; count = count; taken = had + count; finished = leb total (had + count) }) opened, stored)
+    where
+      run : taken before host ≡ takenRun before host total count
+      run = taken-ahead before host total count is n
+
+      kept : (eqb had 0 && leb total (had + count)) ≡ false
+      kept =
+          elim (decLt 0 had) [
+            | yes w ↦ rw (ne-eqb had 0 (λ z. omega arith)) refl
+            | no w ↦
+                let less : length host < total = part (omega arith) in
+                rw (lt-leb total (had + count) (omega arith), and-false) refl
+          ]
+
+      opened : ten ≡ firstTen (take (had + count) (sets held had (take count host)))
+      opened =
+          e ∙ rw stored
+          (ap firstTen
+          (rw (length-sets held had (take count host) ∙ long) at (take-most (sets held had (take count host)) (had + count))))

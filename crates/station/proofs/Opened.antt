@@ -1,0 +1,90 @@
+-- A finished message is answered from its first ten bytes as from all that is held of it.
+-- Assumes nothing.
+use Prim.Native.Nat.{ℕ, _≤_}
+use mathlib.Core.Path.{_≡_, refl, sym, ap, _∙_}
+use mathlib.Core.Bool.{true, false, and-false}
+use mathlib.Core.List.{List, [], _∷_}
+use native.Mathlib.Omega.{arith}
+use lib.Dec.{ltb, eqb}
+use lib.ListN.{length, take}
+use Rattle.wire.specs.Choice.{pick}
+use Rattle.wire.specs.Header.{lengthIn, typeIn}
+use Rattle.framing.specs.declared.Store.{Store}
+use Rattle.framing.specs.declared.Took.{Took}
+use Rattle.framing.specs.Framing.{Taking, headerIn, between, taken, tookOf, heldAfter}
+use Rattle.framing.proofs.Cutting.{taken-unused, taken-long}
+use Rattle.framing.proofs.FirstTen.{held-opening}
+use Rattle.framing.proofs.Leaving.{left-zeros}
+use Rattle.items.specs.declared.Settings.{Settings}
+use Rattle.items.specs.Answer.{Message, codeOf, settingsAfter, replyOf}
+use Rattle.items.proofs.TenBytes.{heldMessage, Same, ten-decide}
+use Rattle.station.specs.declared.Station.{Station}
+use Rattle.station.specs.Station.{valid}
+use Rattle.station.specs.Feeding.{Feeding, messageIn, feedingOf, refused, waiting, answering, opened}
+use Rattle.station.proofs.Valid.{valid-store, feeding-open, feeding-done}
+
+-- the header is in the first ten
+header-of-ten : (held : List ℕ) → 2 ≤ length held → headerIn (take 10 held) ≡ headerIn held
+header-of-ten [] long = absurd (omega arith)
+header-of-ten (a ∷ []) long = absurd (omega arith)
+header-of-ten (a ∷ b ∷ held) long = refl
+
+-- what an answer is made of
+abbrev answeringBy : Station → ℕ → ℕ → ℕ → Settings → List ℕ → Feeding
+answeringBy s count room code after reply =
+    pick (ltb room (length reply)) (refused 20 s)
+    (record {
+      fed = record { code = code; consumed = count; wrote = length reply; station = record { settings = after; store = between } };
+      bytes = reply;
+    })
+
+-- the first ten bytes of what was taken
+abbrev shortened : Taking → Taking
+shortened t = record { store = record { held = take 10 (t .store .held); taken = t .store .taken }; count = t .count; finished = t .finished }
+
+same-answer : (s : Station) (t : Taking) (room : ℕ) → 10 ≤ length (t .store .held) → answering s (shortened t) room ≡ answering s t room
+same-answer s t room long =
+    rw (header-of-ten (t .store .held) (omega arith))
+    (ap (λ (k : ℕ). answeringBy s (t .count) room k (settingsAfter (s .settings) short) (replyOf (s .settings) short)) (same .code)
+    ∙ ap (λ (a : Settings). answeringBy s (t .count) room (codeOf (s .settings) full) a (replyOf (s .settings) short)) (same .after)
+    ∙ ap (λ (r : List ℕ). answeringBy s (t .count) room (codeOf (s .settings) full) (settingsAfter (s .settings) full) r) (same .reply))
+  where
+    type : ℕ
+    type = typeIn (headerIn (t .store .held))
+
+    size : ℕ
+    size = lengthIn (headerIn (t .store .held))
+
+    short : Message
+    short = heldMessage type size (take 10 (t .store .held))
+
+    full : Message
+    full = heldMessage type size (t .store .held)
+
+    same : Same (s .settings) (heldMessage (typeIn (headerIn (t .store .held))) (lengthIn (headerIn (t .store .held))) (take 10 (t .store .held))) (heldMessage (typeIn (headerIn (t .store .held))) (lengthIn (headerIn (t .store .held))) (t .store .held))
+    same = ten-decide (s .settings) (typeIn (headerIn (t .store .held))) (lengthIn (headerIn (t .store .held))) (t .store .held) long
+
+module _ (s : Station) (host : List ℕ) (room : ℕ) (r : Took) (after : List ℕ) (v : valid s ≡ true) (long : length (s .store .held) ≡ 64)
+    (told : r ≡ tookOf (taken (s .store) host)) (left : after ≡ heldAfter (s .store) host) where
+  abbrev all : Taking
+  all = taken (s .store) host
+
+  ends : r .finished ≡ all .finished
+  ends = ap (λ (k : Took). k .finished) told
+
+  -- what is held of a message that is not finished
+  pub waits : r .finished ≡ false
+      → waiting (s .settings) (record { store = record { held = after; taken = r .taken }; count = r .count; finished = r .finished }) ≡ feedingOf s host room
+  waits f =
+      let open′ : all .finished ≡ false = sym ends ∙ f in
+      let kept : after ≡ all .store .held = left ∙ rw (open′, and-false) refl in
+      feeding-open s host room (record { store = record { held = after; taken = r .taken }; count = r .count; finished = r .finished }) v (rw (kept, told) refl) f
+
+  -- a finished one
+  pub answers : r .finished ≡ true → answering s (opened r) room ≡ feedingOf s host room
+  answers f =
+      rw (told, ten)
+      (same-answer s all room (omega (arith, taken-long 0 (s .store) host)) ∙ feeding-done s host room all v refl (sym ends ∙ f))
+    where
+      ten : tookOf all .opening ≡ take 10 (all .store .held)
+      ten = held-opening (all .store .taken) (all .store .held) (omega (arith, taken-long 0 (s .store) host)) (taken-unused 0 (s .store) host (left-zeros (s .store) (valid-store (s .settings) (s .store) v)))
