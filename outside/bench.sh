@@ -14,6 +14,7 @@ free=$(df -Pk "$room" | awk 'NR == 2 { print $4 }')
 [ "$free" -gt 2000000 ] || { echo "bench.sh: under 2 GB are free in $room; set TMPDIR to a folder that has more" >&2; exit 1; }
 
 ./native.sh door
+./native.sh talks
 ./native.sh runs
 ./native.sh span
 cc -O3 -c c/peer.c -o target/native/peer.o

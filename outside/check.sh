@@ -8,6 +8,7 @@ cd "$(dirname "$0")"
 export CARGO_TARGET_DIR="$PWD/target"
 cargo test --quiet --release --offline
 ./native.sh door
+./native.sh talks
 ./native.sh runs
 ./native.sh span
 DOOR_FOLDER=$PWD/target/native cargo build --quiet --release --offline --bin compare

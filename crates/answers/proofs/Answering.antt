@@ -16,7 +16,8 @@ use Rattle.items.specs.Items.{Item, rowOf}
 use Rattle.items.specs.Answer.{Message, itemIn, row, parameters, codeOf, settingsAfter, replyOf, replyTo, replyBody, rangeBody, framed}
 use Rattle.items.proofs.Rows.{found}
 use Rattle.answers.specs.declared.Answered.{Answered}
-use Rattle.answers.specs.Replies.{countIn, bytesIn, due, answerOf}
+use Rattle.answers.specs.Replies.{answerOf}
+use Rattle.answers.specs.Inside.{countIn, bytesIn, due}
 
 -- ---- a reply has of the parameters only the first byte
 

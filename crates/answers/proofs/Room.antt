@@ -15,7 +15,7 @@ use Rattle.layouts.specs.Layouts.{sizeOf, laid}
 use Rattle.layouts.proofs.Sizes.{length-laid}
 use Rattle.items.specs.Items.{Item}
 use Rattle.items.specs.Answer.{framed, rangeBody}
-use Rattle.answers.specs.Replies.{countIn, bytesIn}
+use Rattle.answers.specs.Inside.{countIn, bytesIn}
 
 module _ (l due : List ℕ) where
   -- what is promised of a count that is returned and of the slice as it is left

@@ -14,7 +14,7 @@ use Rattle.layouts.specs.Layouts.{laid}
 use Rattle.items.specs.declared.Settings.{Settings}
 use Rattle.items.specs.Items.{Item, noItem, rowOf}
 use Rattle.items.specs.Answer.{framed, replyBody}
-use Rattle.answers.specs.Replies.{plainly, echoing}
+use Rattle.answers.specs.Inside.{plainly, echoing}
 
 module _ (i : Item) (item width value : ℕ) (s : Settings) (echo : ℕ) (code : i .code ≡ item) (shown : i .value s (echo ∷ []) ≡ bytes width value) where
   -- without an echoed byte

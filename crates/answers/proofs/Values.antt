@@ -13,7 +13,7 @@ use Rattle.layouts.specs.Layouts.{laid}
 use Rattle.items.specs.Settings.{freshOf}
 use Rattle.items.specs.Items.{versions}
 use Rattle.items.specs.Answer.{framed, replyBody}
-use Rattle.answers.specs.Replies.{echoing}
+use Rattle.answers.specs.Inside.{echoing}
 
 -- 80, run byte, mode, 00
 pub state-bytes : (mode run : ℕ) → mode < 256 → run < 256

@@ -9,7 +9,7 @@ ghost use Rattle.layouts.specs.Layouts.{laid};
 ghost use Rattle.items.specs.Items.{versions, rowOf};
 ghost use Rattle.items.specs.Settings.{freshOf};
 ghost use Rattle.items.specs.Answer.{framed, replyBody};
-ghost use Rattle.answers.specs.Replies.{plainly, echoing};
+ghost use Rattle.answers.specs.Inside.{plainly, echoing};
 use items::Settings;
 use layouts::Layout;
 

@@ -6,7 +6,7 @@ ghost use lib.Seq.{sets};
 ghost use Rattle.wire.specs.Header.{nak, typeRangeReply};
 ghost use Rattle.items.specs.Items.{rowOf};
 ghost use Rattle.items.specs.Answer.{framed, rangeBody};
-ghost use Rattle.answers.specs.Replies.{countIn, bytesIn, due};
+ghost use Rattle.answers.specs.Inside.{countIn, bytesIn, due};
 use crate::value;
 use items::Settings;
 

@@ -14,8 +14,7 @@ use Rattle.wire.specs.Choice.{pick}
 use Rattle.wire.specs.Header.{typeIn, lengthIn}
 use Rattle.wire.proofs.Laws.{true-not-false, and-left, and-right}
 use Rattle.framing.specs.declared.Store.{Store}
-use Rattle.framing.specs.Framing.{Taking}
-use Rattle.framing.specs.Framing.{announcedBy, headerIn, announced, pushed, finished, zeros, couldBeLeft, stopped, taking, taken}
+use Rattle.framing.specs.Framing.{Taking, announcedBy, headerIn, announced, pushed, finished, zeros, couldBeLeft, stopped, taking, taken}
 use Rattle.framing.proofs.Headers.{header-kept, open-total}
 use Rattle.framing.proofs.Leaving.{pushed-left, pushed-unused}
 use Rattle.framing.proofs.Runs.{stops}

@@ -12,7 +12,8 @@ use lib.Seq.{sets}
 use Rattle.wire.proofs.Stores.{take-sets, sets-append}
 use Rattle.wire.specs.Number.{number}
 use Rattle.framing.specs.declared.Store.{Store}
-use Rattle.framing.specs.Framing.{announcedBy, headerIn, announced, totalAhead, finished}
+use Rattle.framing.specs.Framing.{announcedBy, headerIn, announced, finished}
+use Rattle.framing.specs.Inside.{totalAhead}
 
 -- nothing is finished before both bytes of the header are taken, nor before what they announce
 pub headless : (s : Store) → s .taken < 2 → finished s ≡ false

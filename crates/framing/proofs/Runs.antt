@@ -14,8 +14,8 @@ use lib.ListN.{length, take, drop, length-take, drop-of-length-le}
 use lib.Seq.{sets, length-take-le, take-length, drop-length}
 use Rattle.wire.specs.Header.{typeIn, lengthIn}
 use Rattle.framing.specs.declared.Store.{Store}
-use Rattle.framing.specs.Framing.{Taking}
-use Rattle.framing.specs.Framing.{announcedBy, headerIn, announced, totalAhead, pushed, pushedAll, finished, taking, taken, stopped}
+use Rattle.framing.specs.Framing.{Taking, announcedBy, headerIn, announced, pushed, pushedAll, finished, taking, taken, stopped}
+use Rattle.framing.specs.Inside.{totalAhead}
 use Rattle.framing.proofs.Headers.{headless, short-of, header-settled, ahead-bare, ahead-known}
 use Rattle.framing.proofs.Totals.{total-least}
 

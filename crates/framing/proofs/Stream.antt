@@ -10,8 +10,7 @@ use native.Mathlib.Omega.{arith}
 use lib.ListN.{length, drop, length-drop}
 use Rattle.wire.specs.Choice.{pick}
 use Rattle.framing.specs.declared.Store.{Store}
-use Rattle.framing.specs.Framing.{Taking}
-use Rattle.framing.specs.Framing.{pushed, finished, couldBeLeft, taken}
+use Rattle.framing.specs.Framing.{Taking, pushed, finished, couldBeLeft, taken}
 use Rattle.framing.specs.Stream.{Stream, answered, waiting, called, calling, handing, eating, eaten, joined, listed}
 use Rattle.framing.proofs.Cutting.{added, taking-none, taking-on, count-added, taken-left}
 use Rattle.framing.proofs.Leaving.{left-open, between-left, pushed-left}

@@ -1,7 +1,7 @@
 -- What one call takes, told by its count, the message's first ten bytes and what is held after it.
 -- Assumes nothing.
 use Prim.Native.Nat.{ℕ, _+_, _-_, _≤_, _<_, min}
-use mathlib.Core.Path.{_≡_, refl, sym, ap, _∙_}
+use mathlib.Core.Path.{_≡_, refl, ap, _∙_}
 use mathlib.Core.Bool.{true, false, _&&_, and-false}
 use mathlib.Core.List.{List}
 use native.Mathlib.Decide.{decLt}
@@ -13,7 +13,8 @@ use lib.ListN.{length, take}
 use lib.Seq.{sets, length-sets, length-take-le}
 use Rattle.framing.specs.declared.Store.{Store}
 use Rattle.framing.specs.declared.Took.{Took}
-use Rattle.framing.specs.Framing.{Taking, totalAhead, taken, firstTen, tookOf, heldAfter}
+use Rattle.framing.specs.Framing.{taken}
+use Rattle.framing.specs.Inside.{totalAhead, firstTen, tookOf, heldAfter}
 use Rattle.framing.proofs.Runs.{takenRun, taken-ahead}
 use Rattle.framing.proofs.FirstTen.{whole-opening, take-most}
 

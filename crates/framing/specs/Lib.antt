@@ -1,2 +1,3 @@
 pub mod Framing
 pub mod Stream
+pub mod Inside

@@ -5,8 +5,7 @@ use mathlib.Core.List.{List, [], _∷_, _++_}
 use lib.ListN.{length, drop}
 use Rattle.wire.specs.Choice.{pick}
 use Rattle.framing.specs.declared.Store.{Store}
-use Rattle.framing.specs.Framing.{Taking}
-use Rattle.framing.specs.Framing.{between, pushed, finished, taken}
+use Rattle.framing.specs.Framing.{Taking, between, pushed, finished, taken}
 
 -- where the stream stands: what is kept of an unfinished message, and what the finished ones have led to
 pub record Stream (X : Type 0) : Type 0 where

@@ -56,13 +56,14 @@ never s p = false
 abbrev unset : Settings → List ℕ → Settings
 unset s p = s
 
--- 0001 name: "NetSDR" and a zero byte
-abbrev pub name : Item
-name =
+-- a line of the table with a dash for set: an item that can be requested, in a message of this length, and that is shown
+-- by these bytes
+abbrev shown : ℕ → ℕ → (Settings → List ℕ → List ℕ) → Item
+shown code length value =
     record {
-      code = 0x0001;
+      code = code;
       set = dash;
-      request = total 4;
+      request = total length;
       range = dash;
       channels = noChannel;
       echoed = 0;
@@ -70,42 +71,20 @@ name =
       askable = always;
       locked = never;
       stored = unset;
-      value = λ s p. 0x4E ∷ 0x65 ∷ 0x74 ∷ 0x53 ∷ 0x44 ∷ 0x52 ∷ 0x00 ∷ [];
+      value = value;
     }
+
+-- 0001 name: "NetSDR" and a zero byte
+abbrev pub name : Item
+name = shown 0x0001 4 (λ s p. 0x4E ∷ 0x65 ∷ 0x74 ∷ 0x53 ∷ 0x44 ∷ 0x52 ∷ 0x00 ∷ [])
 
 -- 0002 serial: eight characters and a zero byte
 abbrev pub serial : Item
-serial =
-    record {
-      code = 0x0002;
-      set = dash;
-      request = total 4;
-      range = dash;
-      channels = noChannel;
-      echoed = 0;
-      settable = always;
-      askable = always;
-      locked = never;
-      stored = unset;
-      value = λ s p. s .serial ++ 0x00 ∷ [];
-    }
+serial = shown 0x0002 4 (λ s p. s .serial ++ 0x00 ∷ [])
 
 -- 0003 interface: 105 in 16 bits
 abbrev pub interface : Item
-interface =
-    record {
-      code = 0x0003;
-      set = dash;
-      request = total 4;
-      range = dash;
-      channels = noChannel;
-      echoed = 0;
-      settable = always;
-      askable = always;
-      locked = never;
-      stored = unset;
-      value = λ s p. bytes 2 105;
-    }
+interface = shown 0x0003 4 (λ s p. bytes 2 105)
 
 -- 0004 versions: id, then two bytes: 0: 64 00, 1: 6B 00, 2: 66 00, 3: 01 07 (house); other id 16
 abbrev pub versionTable : List (List ℕ)
@@ -129,20 +108,7 @@ versions =
 
 -- 0005 status: 0B idle, 0C running
 abbrev pub status : Item
-status =
-    record {
-      code = 0x0005;
-      set = dash;
-      request = total 4;
-      range = dash;
-      channels = noChannel;
-      echoed = 0;
-      settable = always;
-      askable = always;
-      locked = never;
-      stored = unset;
-      value = λ s p. pick (s .running) 0x0C 0x0B ∷ [];
-    }
+status = shown 0x0005 4 (λ s p. pick (s .running) 0x0C 0x0B ∷ [])
 
 -- State. "Four bytes: 80 for complex data, run byte, capture mode, 00."
 abbrev pub idle : ℕ

@@ -1,3 +1,2 @@
 pub mod Turns
-pub mod Serves
 pub mod Cuts

@@ -10,7 +10,7 @@ use Rattle.wire.specs.Choice.{pick}
 use Rattle.framing.specs.Framing.{between}
 use Rattle.station.specs.declared.Station.{Station}
 use Rattle.cutting.specs.Cutting.{cuttingOf}
-use Rattle.runs.specs.Serving.{serial}
+use Rattle.station.specs.Station.{sessionSerial}
 
 -- a fresh box that was started with a mode and a size; with others than the table's it is broken
 abbrev pub started : ℕ → ℕ → Station
@@ -26,7 +26,7 @@ started mode size =
             mode = mode;
             gain = 0;
             size = size;
-            serial = serial;
+            serial = sessionSerial;
           };
       store = between;
     }

@@ -11,12 +11,11 @@ use lib.Seq.{sets}
 use Rattle.wire.specs.Choice.{pick, Check, firstOf}
 use Rattle.wire.specs.Number.{field}
 use Rattle.wire.specs.Header.{typeIn, lengthIn}
-use Rattle.framing.specs.Framing.{Taking}
-use Rattle.framing.specs.Framing.{between}
+use Rattle.framing.specs.Framing.{Taking, between}
 use Rattle.items.specs.declared.Settings.{Settings}
-use Rattle.items.specs.Answer.{Message, checks, codeOf, settingsAfter, replyOf}
+use Rattle.items.specs.Answer.{Message, checks, codeOf, replyOf}
 use Rattle.answers.specs.declared.Answered.{Answered}
-use Rattle.answers.specs.Replies.{Answering, answerOf, replied}
+use Rattle.answers.specs.Replies.{answerOf, replied}
 use Rattle.answers.specs.Replies.{refused as refusedAnswer}
 use Rattle.station.specs.declared.Station.{Station}
 use Rattle.station.specs.declared.Fed.{Fed}

@@ -5,13 +5,13 @@ use mathlib.Core.Path.{_≡_, refl, sym, ap, _∙_}
 use mathlib.Core.Bool.{true, false, and-false}
 use mathlib.Core.List.{List, [], _∷_}
 use native.Mathlib.Omega.{arith}
-use lib.Dec.{ltb, eqb}
+use lib.Dec.{ltb}
 use lib.ListN.{length, take}
 use Rattle.wire.specs.Choice.{pick}
 use Rattle.wire.specs.Header.{lengthIn, typeIn}
-use Rattle.framing.specs.declared.Store.{Store}
 use Rattle.framing.specs.declared.Took.{Took}
-use Rattle.framing.specs.Framing.{Taking, headerIn, between, taken, tookOf, heldAfter}
+use Rattle.framing.specs.Framing.{Taking, headerIn, between, taken}
+use Rattle.framing.specs.Inside.{tookOf, heldAfter}
 use Rattle.framing.proofs.Cutting.{taken-unused, taken-long}
 use Rattle.framing.proofs.FirstTen.{held-opening}
 use Rattle.framing.proofs.Leaving.{left-zeros}
@@ -20,7 +20,8 @@ use Rattle.items.specs.Answer.{Message, codeOf, settingsAfter, replyOf}
 use Rattle.items.proofs.TenBytes.{heldMessage, Same, ten-decide}
 use Rattle.station.specs.declared.Station.{Station}
 use Rattle.station.specs.Station.{valid}
-use Rattle.station.specs.Feeding.{Feeding, messageIn, feedingOf, refused, waiting, answering, opened}
+use Rattle.station.specs.Feeding.{Feeding, feedingOf, refused, waiting, answering}
+use Rattle.station.specs.Inside.{opened}
 use Rattle.station.proofs.Valid.{valid-store, feeding-open, feeding-done}
 
 -- the header is in the first ten

@@ -5,12 +5,11 @@ use Prim.Native.Nat.{ℕ, zero, suc, _≤_}
 use native.Mathlib.Nat.{le-trans}
 use mathlib.Core.Path.{_≡_, refl, sym, ap, _∙_}
 use mathlib.Core.Bool.{Bool, true, false}
-use mathlib.Core.List.{List, [], _∷_, _++_, map}
+use mathlib.Core.List.{List, [], _∷_, _++_}
 use lib.ListN.{length, drop}
 use Rattle.wire.specs.Choice.{pick}
 use Rattle.framing.specs.declared.Store.{Store}
-use Rattle.framing.specs.Framing.{Taking}
-use Rattle.framing.specs.Framing.{taken, finished, between, couldBeLeft}
+use Rattle.framing.specs.Framing.{taken, finished, couldBeLeft}
 use Rattle.framing.specs.Stream as stream
 use Rattle.framing.specs.Stream.{Stream}
 use Rattle.framing.proofs.Cutting.{told, taken-left}
@@ -18,7 +17,7 @@ use Rattle.framing.proofs.Leaving.{between-left}
 use Rattle.framing.proofs.Stream.{same-stream}
 use Rattle.items.specs.declared.Settings.{Settings}
 use Rattle.items.specs.Settings.{inRange}
-use Rattle.items.specs.Answer.{Message, replyOf, settingsAfter}
+use Rattle.items.specs.Answer.{replyOf, settingsAfter}
 use Rattle.station.specs.declared.Station.{Station}
 use Rattle.station.specs.Station.{valid}
 use Rattle.station.specs.Feeding.{messageIn, feedingOf}

@@ -1,16 +1,15 @@
 -- A valid box is settings in their ranges and a store that could be left; and what feeding a valid box comes to.
 -- Assumes nothing.
 use Prim.Native.Nat.{ℕ, _≤_}
-use mathlib.Core.Path.{_≡_, refl, sym, ap, _∙_}
-use mathlib.Core.Bool.{Bool, true, false}
+use mathlib.Core.Path.{_≡_, sym, ap, _∙_}
+use mathlib.Core.Bool.{true, false}
 use mathlib.Core.List.{List}
 use lib.ListN.{length}
 use borrow.Author.Tests.{le-ltb}
 use Rattle.wire.proofs.Laws.{and-left, and-right, and-both}
 use Rattle.framing.specs.declared.Store.{Store}
-use Rattle.framing.specs.Framing.{Taking}
+use Rattle.framing.specs.Framing.{Taking, taken, finished, couldBeLeft}
 use Rattle.framing.proofs.Cutting.{told}
-use Rattle.framing.specs.Framing.{taken, finished, couldBeLeft}
 use Rattle.items.specs.declared.Settings.{Settings}
 use Rattle.items.specs.Settings.{inRange}
 use Rattle.items.specs.Answer.{replyOf}

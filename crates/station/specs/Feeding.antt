@@ -1,15 +1,13 @@
 -- One call of feeding: the box, the host's bytes, and how much room there is for a reply.
 use Prim.Native.Nat.{ℕ}
-use mathlib.Core.Bool.{Bool, not}
+use mathlib.Core.Bool.{not}
 use mathlib.Core.List.{List, []}
 use lib.Dec.{ltb}
 use lib.ListN.{length}
 use Rattle.wire.specs.Choice.{pick}
 use Rattle.wire.specs.Header.{lengthIn, typeIn}
-use Rattle.framing.specs.Framing.{Taking}
-use Rattle.framing.specs.Framing.{taken, finished, headerIn, between}
+use Rattle.framing.specs.Framing.{Taking, taken, finished, headerIn, between}
 use Rattle.framing.specs.declared.Store.{Store}
-use Rattle.framing.specs.declared.Took.{Took}
 use Rattle.items.specs.declared.Settings.{Settings}
 use Rattle.items.specs.Answer.{Message, codeOf, replyOf, settingsAfter}
 use Rattle.station.specs.declared.Station.{Station}
@@ -50,10 +48,6 @@ answered s t =
           };
       bytes = replyOf s (messageIn (t .store));
     }
-
--- a message of which only the first ten bytes are at hand
-abbrev pub opened : Took → Taking
-opened t = record { store = record { held = t .opening; taken = t .taken }; count = t .count; finished = t .finished }
 
 -- where there is room: "lent buffer shorter than what this call would write" is 20
 abbrev pub answering : Station → Taking → ℕ → Feeding

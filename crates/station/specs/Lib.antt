@@ -1,3 +1,4 @@
 pub mod Station
 pub mod Feeding
 pub mod Serving
+pub mod Inside

@@ -39,3 +39,7 @@ valuesIn Broken = []
 -- a fresh box, between messages
 abbrev pub freshStation : List ℕ → Station
 freshStation serial = record { settings = freshOf serial; store = between }
+
+-- "a fresh box with serial MT123456"
+abbrev pub sessionSerial : List ℕ
+sessionSerial = 0x4D ∷ 0x54 ∷ 0x31 ∷ 0x32 ∷ 0x33 ∷ 0x34 ∷ 0x35 ∷ 0x36 ∷ []

@@ -8,7 +8,7 @@ use lib.ListN.{length, getD}
 use Rattle.items.specs.declared.Judged.{Judged}
 use Rattle.items.specs.Answer.{Message, codeOf, settingsAfter, replyOf}
 use Rattle.items.proofs.Judging.{accepted-row}
-use Rattle.answers.specs.Replies.{due}
+use Rattle.answers.specs.Inside.{due}
 use Rattle.answers.proofs.Answering.{due-reply, some-due, answers-nothing, answers-short, answers-whole}
 use borrow.Author.Needs.{needs}
 use Rattle.answers.proofs.answer.Statement.{statement}

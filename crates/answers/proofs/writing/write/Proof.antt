@@ -6,7 +6,7 @@ use borrow.Author.Tests.{ne-eqb}
 use Rattle.wire.specs.Header.{nak, typeReply, typeRangeReply}
 use Rattle.items.specs.Items.{rowOf}
 use Rattle.items.specs.Answer.{framed, replyBody, rangeBody}
-use Rattle.answers.specs.Replies.{due}
+use Rattle.answers.specs.Inside.{due}
 use Rattle.answers.proofs.Room.{wrote-as, message-put}
 use borrow.Author.Needs.{needs}
 use Rattle.answers.proofs.writing.write.Statement.{statement}

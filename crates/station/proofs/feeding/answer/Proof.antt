@@ -8,7 +8,8 @@ use mir.Syntax.{w8}
 use denote.Ref.{now}
 use Rattle.wire.proofs.Numbers.{field-below}
 use Rattle.items.specs.Answer.{Message}
-use Rattle.station.specs.Feeding.{messageIn, opened}
+use Rattle.station.specs.Feeding.{messageIn}
+use Rattle.station.specs.Inside.{opened}
 use Rattle.station.proofs.Answers.{message-is, out-short, out-whole}
 use borrow.Author.Needs.{needs}
 use Rattle.station.proofs.feeding.answer.Statement.{statement}

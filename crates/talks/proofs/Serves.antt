@@ -12,16 +12,15 @@ use lib.ListN.{length, take, drop, length-append, length-take, length-drop}
 use lib.Seq.{sets, length-sets, take-all, drop-drop}
 use Rattle.wire.proofs.Laws.{pick-keeps, pick-same}
 use Rattle.wire.proofs.Stores.{sets-append}
-use Rattle.framing.specs.Framing.{Taking}
-use Rattle.framing.specs.Framing.{taken, finished}
+use Rattle.framing.specs.Framing.{Taking, taken, finished}
 use Rattle.framing.proofs.Cutting.{count-most}
 use Rattle.items.specs.Answer.{replyOf}
 use Rattle.station.specs.declared.Fed.{Fed}
 use Rattle.station.specs.declared.Station.{Station}
 use Rattle.station.specs.declared.Began.{Began}
-use Rattle.station.specs.Station.{valid, freshBox}
+use Rattle.station.specs.Station.{valid, freshBox, sessionSerial}
 use Rattle.station.specs.Feeding.{Feeding, feedingOf, refused, waiting, answered, answering, fedBy, messageIn}
-use Rattle.runs.specs.Serving.{serial, served, serveRun}
+use Rattle.talks.specs.Serving.{served, serveRun}
 
 pub record Within (host : List ℕ) (room : ℕ) (f : Feeding) : Type 0 where
   pub consumed : f .fed .consumed ≤ length host
@@ -85,7 +84,7 @@ pub record Going (host whole replies : List ℕ) (s : Station) (i at left : ℕ)
   pub counted : at + length (served left (length replies - at) s (drop i host)) ≡ length (serveRun host (length whole))
 
 -- it begins with a fresh box
-pub begins : (host replies : List ℕ) (b : Began) → b ≡ freshBox serial → Going host replies replies (b .station) 0 0 (length host)
+pub begins : (host replies : List ℕ) (b : Began) → b ≡ freshBox sessionSerial → Going host replies replies (b .station) 0 0 (length host)
 unfolding serveRun
 begins host replies b is =
     let all : length replies - 0 ≡ length replies = omega arith in

@@ -10,9 +10,9 @@ use Rattle.wire.proofs.Stores.{part-sets}
 use Rattle.station.specs.declared.Fed.{Fed}
 use lib.ListN.{length, drop, length-drop}
 use Rattle.station.specs.Feeding.{Feeding, feedingOf}
-use Rattle.runs.proofs.Serves.{Within, feeding-within, Going, none-left, none-more, no-room, rest-part, rest-long, begins, ends, turns}
-use Rattle.runs.proofs.skvornela_serve.Statement.{statement}
-use Rattle.runs.proofs.skvornela_serve.Tie as tie
+use Rattle.talks.proofs.Serves.{Within, feeding-within, Going, none-left, none-more, no-room, rest-part, rest-long, begins, ends, turns}
+use Rattle.talks.proofs.skvornela_serve.Statement.{statement}
+use Rattle.talks.proofs.skvornela_serve.Tie as tie
 
 abbrev Inv-loop : tie.InvT-loop
 Inv-loop host replies₀ s₀ i₀ at₀ left₀ replies s i at left = Going host replies₀ replies s i at left

@@ -5,12 +5,8 @@ use lib.Dec.{eqb, ltb}
 use lib.ListN.{length, drop}
 use Rattle.wire.specs.Choice.{pick}
 use Rattle.station.specs.declared.Station.{Station}
-use Rattle.station.specs.Station.{freshStation}
+use Rattle.station.specs.Station.{freshStation, sessionSerial}
 use Rattle.station.specs.Feeding.{feedingOf}
-
--- MT123456
-abbrev pub serial : List ℕ
-serial = 0x4D ∷ 0x54 ∷ 0x31 ∷ 0x32 ∷ 0x33 ∷ 0x34 ∷ 0x35 ∷ 0x36 ∷ []
 
 -- The replies of at most so many calls, one behind the other: it ends with the host's bytes, or where there is less room
 -- left than the 64 bytes that any reply fits in.
@@ -25,4 +21,4 @@ served (suc calls) room s host =
 
 -- a call on a valid box consumes a byte, so as many calls as there are bytes are enough
 unfoldable pub serveRun : List ℕ → ℕ → List ℕ
-serveRun host room = served (length host) room (freshStation serial) host
+serveRun host room = served (length host) room (freshStation sessionSerial) host

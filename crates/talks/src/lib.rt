@@ -1,0 +1,34 @@
+// A host's whole talk at once, for a program in another language that has it at once. It has a library of its own, so that
+// the compiler finds one caller of feeding, and makes one loop of it all.
+ghost use mathlib.Core.Path.{_≡_};
+ghost use lib.ListN.{length};
+ghost use lib.Seq.{sets};
+ghost use Rattle.talks.specs.Serving.{serveRun};
+
+// Feeds a fresh box with serial MT123456 a host's whole talk, and writes its replies one after another, as long as any reply
+// has room. Answers how many bytes of reply it wrote.
+#[no_mangle]
+pub extern "C" fn skvornela_serve(host: &[u8], replies: &mut [u8]) -> usize
+    ensures { λ r. ⌜ (r ≡ length (serveRun (now (host .entry)) (length (now (replies .entry))))) × (now (replies .exit) ≡ sets (now (replies .entry)) 0 (serveRun (now (host .entry)) (length (now (replies .entry))))) ⌝ }
+{
+    let began = station::fresh(b"MT123456");
+    let mut s = began.station;
+    let mut i: usize = 0;
+    let mut at: usize = 0;
+    let mut left = host.len();
+    while 0 < left {
+        if host.len() <= i {
+            return at;
+        }
+        if replies.len() - at < 64 {
+            return at;
+        }
+        let f = station::feed(s, &host[i..], &mut replies[at..]);
+        let after = f.station;
+        s = after;
+        i += f.consumed;
+        at += f.wrote;
+        left -= 1;
+    }
+    at
+}
