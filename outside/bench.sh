@@ -13,7 +13,8 @@ trap 'rm -rf "$room"' EXIT
 free=$(df -Pk "$room" | awk 'NR == 2 { print $4 }')
 [ "$free" -gt 2000000 ] || { echo "bench.sh: under 2 GB are free in $room; set TMPDIR to a folder that has more" >&2; exit 1; }
 
-./native.sh door
+./native.sh boxdoor
+./native.sh harvestdoor
 ./native.sh talks
 ./native.sh runs
 ./native.sh span

@@ -10,7 +10,7 @@ fn main() {
     }
     if let Ok(folder) = env::var("DOOR_FOLDER") {
         println!("cargo:rustc-link-search=native={folder}");
-        for library in ["door", "talks", "runs"] {
+        for library in ["boxdoor", "harvestdoor", "talks", "runs"] {
             println!("cargo:rerun-if-changed={folder}/lib{library}.a");
             println!("cargo:rustc-link-lib=static={library}");
         }

@@ -7,7 +7,8 @@ set -eu
 cd "$(dirname "$0")"
 export CARGO_TARGET_DIR="$PWD/target"
 cargo test --quiet --release --offline
-./native.sh door
+./native.sh boxdoor
+./native.sh harvestdoor
 ./native.sh talks
 ./native.sh runs
 ./native.sh span

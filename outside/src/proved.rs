@@ -1,4 +1,4 @@
-//! The proved library, as the crates `door` and `runs` export it.
+//! The proved library, as the crates `boxdoor`, `harvestdoor`, `talks` and `runs` export it.
 
 use std::io::Write;
 use std::process::{Command, Stdio};
@@ -9,7 +9,7 @@ use crate::head::Head;
 use crate::packet::Form;
 use crate::random::Random;
 
-/// The exports of the crates `door` and `runs`.
+/// The exports of the crates `boxdoor`, `harvestdoor`, `talks` and `runs`.
 mod door {
     extern "C" {
         pub fn skvornela_fresh(serial: *const u8, serial_len: usize, state: *mut u8, state_len: usize) -> u8;

@@ -1,0 +1,4 @@
+pub mod Parts
+pub mod Fields
+pub mod Fed
+pub mod CutOver

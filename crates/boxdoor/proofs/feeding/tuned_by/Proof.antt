@@ -1,0 +1,19 @@
+-- Each arm knows its tuning.
+use borrow.Author.Needs.{needs}
+use Rattle.boxdoor.proofs.feeding.tuned_by.Statement.{statement}
+use Rattle.boxdoor.proofs.feeding.tuned_by.Tie as tie
+
+enum-known-t : tie.Need-enum-known-t
+enum-known-t c = search needs
+
+enum-told : tie.Need-enum-told
+enum-told c = search needs
+
+returns : tie.Need-returns
+returns c = rw (c .before .t .given .1)
+
+returns-2 : tie.Need-returns-2
+returns-2 c = rw (c .enum-told .given .1)
+
+pub tuned-by-spec : {M : Type 1} → statement M
+tuned-by-spec = tie.close (tie.spec enum-known-t enum-told returns returns-2)

@@ -1,0 +1,34 @@
+-- The held bytes, and the count behind them.
+use Rattle.boxdoor.proofs.Fields.{store-stored}
+use mathlib.Core.Path.{_≡_}
+use native.Mathlib.Omega.{arith}
+use lib.ListN.{length}
+use borrow.Author.Needs.{needs}
+use Rattle.boxdoor.proofs.states.put_store.Statement.{statement}
+use Rattle.boxdoor.proofs.states.put_store.Tie as tie
+
+long : (c : tie.Start) → length (c .args .t .held) ≡ 64
+long c = search needs
+
+slice-aggregate-paste : tie.Need-slice-aggregate-paste
+slice-aggregate-paste c = search needs
+
+paste-requires : tie.Need-paste-requires
+paste-requires c κs = (omega (arith, c .before .before .before .before .pre), omega (arith, long (c .before .before .before .before)))
+
+put-requires : tie.Need-put-requires
+put-requires c κs = search needs
+
+same-length : tie.Need-same-length
+same-length c = search needs
+
+returns : tie.Need-returns
+returns c =
+    let count = c .before .before in
+    let held = count .before .before .before .before in
+    let start = held .before .before .before .before .before in
+    store-stored (start .args .t) (start .args .b .now) _ _ (long start) (held .paste .ensures) (count .put .ensures)
+
+pub put-store-spec : {M : Type 1} → statement M
+put-store-spec =
+    tie.close (tie.spec slice-aggregate-paste paste-requires put-requires same-length returns)

@@ -1,0 +1,65 @@
+-- A fresh box, feeding it and its tuning word, over the door.
+use Prim.Native.Nat.{ℕ}
+use mathlib.Core.List.{List, [], _∷_}
+use lib.Dec.{eqb, ltb}
+use lib.ListN.{length}
+use Rattle.wire.specs.Choice.{pick}
+use Rattle.station.specs.declared.Fed.{Fed}
+use Rattle.station.specs.declared.Tuning.{Tuning}
+use Rattle.station.specs.Station.{freshBox, tuningOf, codeIn, valuesIn}
+use Rattle.station.specs.Feeding.{feedingOf}
+use Rattle.boxdoor.specs.States.{stationSize, stationIn, stationBytes}
+
+-- what a call answers, and the box's bytes after it
+pub record Answer : Type 0 where
+  pub code : ℕ
+  pub consumed : ℕ
+  pub wrote : ℕ
+  pub state : List ℕ
+
+-- a box is written back where the call was not refused: "Codes from 20 .. return the state given"
+unfoldable pub fedOver : List ℕ → Fed → Answer
+fedOver state f =
+    record {
+      code = f .code;
+      consumed = f .consumed;
+      wrote = f .wrote;
+      state = pick (ltb (f .code) 20) (stationBytes (f .station)) state;
+    }
+
+-- bytes that are not those of a box are a broken one: 21
+unfoldable pub feedOver : List ℕ → List ℕ → ℕ → Answer
+feedOver state host room =
+    pick (eqb (length state) stationSize) (fedOver state (feedingOf (stationIn state) host room .fed))
+    (record { code = 21; consumed = 0; wrote = 0; state = state })
+
+-- what is written at the start of the reply buffer
+unfoldable pub repliedOver : List ℕ → List ℕ → ℕ → List ℕ
+repliedOver state host room = pick (eqb (length state) stationSize) (feedingOf (stationIn state) host room .bytes) []
+
+-- a fresh box fills 108 bytes; other lengths are left alone
+pub record Fresh : Type 0 where
+  pub code : ℕ
+  pub state : List ℕ
+
+unfoldable pub freshOver : List ℕ → List ℕ → Fresh
+freshOver serial state =
+    pick (eqb (length state) stationSize)
+    (record { code = freshBox serial .code; state = stationBytes (freshBox serial .station) })
+    (record { code = 21; state = state })
+
+-- the code and the word, 0 in the place of a word that there is not
+pub record Tuned : Type 0 where
+  pub code : ℕ
+  pub word : ℕ
+
+abbrev pub firstOr0 : List ℕ → ℕ
+firstOr0 [] = 0
+firstOr0 (w ∷ ws) = w
+
+abbrev pub tuned : Tuning → Tuned
+tuned t = record { code = codeIn t; word = firstOr0 (valuesIn t) }
+
+unfoldable pub tunedOver : List ℕ → Tuned
+tunedOver state =
+    pick (eqb (length state) stationSize) (tuned (tuningOf (stationIn state))) (record { code = 21; word = 0 })

@@ -1,0 +1,29 @@
+// Cutting packets.
+ghost use mathlib.Core.Path.{_≡_};
+ghost use lib.ListN.{length};
+ghost use lib.Seq.{sets};
+ghost use Rattle.boxdoor.specs.Cutting.{cutOver, packetOver};
+
+// Cuts the next packet from samples by a box of 108 bytes. Answers the code, and leaves how many bytes of packet were
+// written. Where the call is refused the box's bytes and the packet are as they came.
+#[no_mangle]
+pub extern "C" fn skvornela_cut(
+    state: &mut [u8],
+    samples: &[i32],
+    packet: &mut [u8],
+    wrote: &mut usize,
+) -> u8
+    ensures { λ r. ⌜ (record { code = r; wrote = now (wrote .exit); state = now (state .exit) } ≡ cutOver (now (state .entry)) (now (samples .entry)) (length (now (packet .entry)))) × (now (packet .exit) ≡ sets (now (packet .entry)) 0 (packetOver (now (state .entry)) (now (samples .entry)) (length (now (packet .entry))))) ⌝ }
+{
+    if state.len() == 108 {
+        let cut = cutting::cut_packet(crate::states::station_in(state), samples, packet);
+        *wrote = cut.wrote;
+        if cut.code < 20 {
+            let after = cut.station;
+            crate::states::put_station(state, after);
+        }
+        return cut.code;
+    }
+    *wrote = 0;
+    21
+}

@@ -1,0 +1,76 @@
+// A fresh box, feeding it, and its tuning word.
+use station::Tuning;
+ghost use mathlib.Core.Path.{_≡_};
+ghost use lib.ListN.{length};
+ghost use lib.Seq.{sets};
+ghost use Rattle.boxdoor.specs.Feeding.{feedOver, repliedOver, freshOver, tuned, tunedOver};
+
+// A fresh box with a serial, in 108 bytes. Answers the code.
+#[no_mangle]
+pub extern "C" fn skvornela_fresh(serial: &[u8], state: &mut [u8]) -> u8
+    ensures { λ r. ⌜ record { code = r; state = now (state .exit) } ≡ freshOver (now (serial .entry)) (now (state .entry)) ⌝ }
+{
+    if state.len() == 108 {
+        let began = station::fresh(serial);
+        let station = began.station;
+        crate::states::put_station(state, station);
+        return began.code;
+    }
+    21
+}
+
+// Feeds a box of 108 bytes. Answers the code, and leaves how many of the host's bytes were consumed and how many bytes of
+// reply were written. Where the call is refused the box's bytes are as they came.
+#[no_mangle]
+pub extern "C" fn skvornela_feed(
+    state: &mut [u8],
+    host: &[u8],
+    reply: &mut [u8],
+    consumed: &mut usize,
+    wrote: &mut usize,
+) -> u8
+    ensures { λ r. ⌜ (record { code = r; consumed = now (consumed .exit); wrote = now (wrote .exit); state = now (state .exit) } ≡ feedOver (now (state .entry)) (now (host .entry)) (length (now (reply .entry)))) × (now (reply .exit) ≡ sets (now (reply .entry)) 0 (repliedOver (now (state .entry)) (now (host .entry)) (length (now (reply .entry))))) ⌝ }
+{
+    if state.len() == 108 {
+        let f = station::feed(crate::states::station_in(state), host, reply);
+        *consumed = f.consumed;
+        *wrote = f.wrote;
+        if f.code < 20 {
+            let after = f.station;
+            crate::states::put_station(state, after);
+        }
+        return f.code;
+    }
+    *consumed = 0;
+    *wrote = 0;
+    21
+}
+
+// A tuning word as numbers.
+struct Tuned {
+    code: u8,
+    word: u32,
+}
+
+fn tuned_by(t: Tuning) -> Tuned
+    ensures { λ r. ⌜ record { code = r .code; word = r .word } ≡ tuned t ⌝ }
+{
+    match t {
+        Tuning::Word(w) => Tuned { code: 1, word: w },
+        Tuning::Broken => Tuned { code: 21, word: 0 },
+    }
+}
+
+// The tuning word of a box of 108 bytes. Answers the code, and leaves the word, 0 where there is none.
+#[no_mangle]
+pub extern "C" fn skvornela_word(state: &[u8], word: &mut u32) -> u8
+    ensures { λ r. ⌜ record { code = r; word = now (word .exit) } ≡ tunedOver (now (state .entry)) ⌝ }
+{
+    if state.len() == 108 {
+        let t = tuned_by(station::tuning_word(crate::states::station_in(state)));
+        *word = t.word;
+        return t.code;
+    }
+    *word = 0;
+    21
+}

@@ -1,0 +1,113 @@
+// A box in lent bytes.
+use framing::Store;
+use items::Settings;
+use station::Station;
+ghost use mathlib.Core.Path.{_≡_};
+ghost use Prim.Native.Nat.{_+_, _≤_};
+ghost use lib.ListN.{length, take, drop};
+ghost use lib.Seq.{sets};
+ghost use Rattle.boxdoor.specs.States.{settingsIn, storeIn, stationIn, wideOf, narrowOf, settingsBytes, storeBytes, stationBytes};
+
+// Stores n bytes of a slice, from a place of it on, at a place of another.
+fn paste(dst: &mut [u8], to: usize, src: &[u8], from: usize, n: usize)
+    requires { ⌜ (to + n ≤ length (now dst)) × (from + n ≤ length (now src)) ⌝ }
+    ensures { λ _. ⌜ now (dst .exit) ≡ sets (now (dst .entry)) to (take n (drop from (now (src .entry)))) ⌝ }
+{
+    let mut i = 0;
+    while i < n {
+        dst[to + i] = src[from + i];
+        i += 1;
+    }
+}
+
+fn settings_in(b: &[u8]) -> Settings
+    requires { ⌜ length (now b) ≡ 108 ⌝ }
+    ensures { λ r. ⌜ r ≡ settingsIn (now (b .entry)) ⌝ }
+{
+    let mut serial = [0u8; 8];
+    paste(&mut serial, 0, b, 28, 8);
+    Settings {
+        frequency: wire::number_at(b, 0, 8),
+        count: wire::number_at(b, 8, 8),
+        clock: wire::number_at(b, 16, 4) as u32,
+        divisor: wire::number_at(b, 20, 4) as u32,
+        running: b[24] != 0,
+        mode: b[25],
+        gain: b[26],
+        size: b[27],
+        serial: serial,
+    }
+}
+
+fn store_in(b: &[u8]) -> Store
+    requires { ⌜ length (now b) ≡ 108 ⌝ }
+    ensures { λ r. ⌜ r ≡ storeIn (now (b .entry)) ⌝ }
+{
+    let mut held = [0u8; 64];
+    paste(&mut held, 0, b, 36, 64);
+    Store {
+        held: held,
+        taken: wire::number_at(b, 100, 8) as usize,
+    }
+}
+
+// The box in 108 bytes.
+pub(crate) fn station_in(b: &[u8]) -> Station
+    requires { ⌜ length (now b) ≡ 108 ⌝ }
+    ensures { λ r. ⌜ r ≡ stationIn (now (b .entry)) ⌝ }
+{
+    Station {
+        settings: settings_in(b),
+        store: store_in(b),
+    }
+}
+
+// Stores the wide numbers among the settings in the first 24 bytes.
+fn put_wide(b: &mut [u8], s: Settings)
+    ensures { λ _. ⌜ now (b .exit) ≡ sets (now (b .entry)) 0 (wideOf s) ⌝ }
+{
+    wire::put(b, 0, 8, s.frequency);
+    wire::put(b, 8, 8, s.count);
+    wire::put(b, 16, 4, s.clock as u64);
+    wire::put(b, 20, 4, s.divisor as u64);
+}
+
+// Stores the numbers of one byte in the four bytes after them.
+fn put_narrow(b: &mut [u8], s: Settings)
+    ensures { λ _. ⌜ now (b .exit) ≡ sets (now (b .entry)) 24 (narrowOf s) ⌝ }
+{
+    wire::put(b, 24, 1, s.running as u64);
+    wire::put(b, 25, 1, s.mode as u64);
+    wire::put(b, 26, 1, s.gain as u64);
+    wire::put(b, 27, 1, s.size as u64);
+}
+
+fn put_settings(b: &mut [u8], s: Settings)
+    requires { ⌜ length (now b) ≡ 108 ⌝ }
+    ensures { λ _. ⌜ now (b .exit) ≡ sets (now (b .entry)) 0 (settingsBytes s) ⌝ }
+{
+    put_wide(b, s);
+    put_narrow(b, s);
+    let serial = s.serial;
+    paste(b, 28, &serial, 0, 8);
+}
+
+fn put_store(b: &mut [u8], t: Store)
+    requires { ⌜ length (now b) ≡ 108 ⌝ }
+    ensures { λ _. ⌜ now (b .exit) ≡ sets (now (b .entry)) 36 (storeBytes t) ⌝ }
+{
+    let held = t.held;
+    paste(b, 36, &held, 0, 64);
+    wire::put(b, 100, 8, t.taken as u64);
+}
+
+// Stores a box in 108 bytes.
+pub(crate) fn put_station(b: &mut [u8], s: Station)
+    requires { ⌜ length (now b) ≡ 108 ⌝ }
+    ensures { λ _. ⌜ now (b .exit) ≡ stationBytes s ⌝ }
+{
+    let settings = s.settings;
+    let store = s.store;
+    put_settings(b, settings);
+    put_store(b, store);
+}

@@ -1,0 +1,25 @@
+-- Fields stored one behind the other are the store of the whole reader.
+use Prim.Native.Nat.{ℕ}
+use mathlib.Core.Path.{_≡_, refl, sym, _∙_}
+use mathlib.Core.Bool.{Bool, true, false}
+use mathlib.Core.List.{List}
+use mir.Val.{boolByte}
+use lib.ListN.{length}
+use lib.Seq.{sets}
+use Rattle.wire.specs.Choice.{pick}
+use Rattle.wire.specs.Number.{bytes}
+use Rattle.wire.proofs.Stores.{sets-whole}
+use Rattle.reader.specs.declared.Reader.{Reader}
+use Rattle.harvestdoor.specs.States.{readerBytes}
+
+-- a flag as the code casts it
+flag-byte : (b : Bool) → boolByte b ≡ pick b 1 0
+flag-byte true = refl
+flag-byte false = refl
+
+pub reader-stored : (r : Reader) (l a b c d : List ℕ) → length l ≡ 25 → a ≡ sets l 0 (bytes 8 (r .position)) → b ≡ sets a 8 (bytes 8 (r .form .bits))
+    → c ≡ sets b 16 (bytes 8 (r .form .pairs)) → d ≡ sets c 24 (bytes 1 (boolByte (r .heard))) → d ≡ readerBytes r
+unfolding readerBytes
+reader-stored r l a b c d room p q t u =
+    let whole : d ≡ sets l 0 (readerBytes r) = rw (u, t, q, p, flag-byte (r .heard)) in
+    whole ∙ sets-whole l (readerBytes r) (sym room)

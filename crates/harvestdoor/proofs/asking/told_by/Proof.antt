@@ -1,0 +1,25 @@
+-- Each arm knows the writer's answer.
+use borrow.Author.Needs.{needs}
+use Rattle.harvestdoor.proofs.asking.told_by.Statement.{statement}
+use Rattle.harvestdoor.proofs.asking.told_by.Tie as tie
+
+enum-known-w : tie.Need-enum-known-w
+enum-known-w c = search needs
+
+enum-told : tie.Need-enum-told
+enum-told c = search needs
+
+enum-told-2 : tie.Need-enum-told-2
+enum-told-2 c = search needs
+
+returns : tie.Need-returns
+returns c = rw (c .before .w .given .1)
+
+returns-2 : tie.Need-returns-2
+returns-2 c = rw (c .enum-told .given .1)
+
+returns-3 : tie.Need-returns-3
+returns-3 c = rw (c .enum-told2 .given .1)
+
+pub told-by-spec : {M : Type 1} → statement M
+told-by-spec = tie.close (tie.spec enum-known-w enum-told enum-told-2 returns returns-2 returns-3)

@@ -1,0 +1,36 @@
+-- Reading packets, over the door.
+use Prim.Native.Nat.{ℕ}
+use mathlib.Core.List.{List}
+use lib.Dec.{eqb}
+use lib.ListN.{length, getD}
+use Rattle.wire.specs.Choice.{pick}
+use Rattle.reader.specs.declared.Heard.{Heard}
+use Rattle.reader.specs.Reading.{readingOf, sampleBytesOf}
+use Rattle.harvestdoor.specs.States.{readerSize, readerIn, readerBytes}
+
+-- what a call answers, and the reader's bytes after it
+pub record Read : Type 0 where
+  pub code : ℕ
+  pub position : ℕ
+  pub sample : ℕ
+  pub state : List ℕ
+
+-- a reader is written back where a packet was heard
+unfoldable pub heardOver : List ℕ → Heard → Read
+heardOver state h =
+    record {
+      code = h .code;
+      position = h .position;
+      sample = h .sample;
+      state = pick (eqb (h .code) 1) (readerBytes (h .reader)) state;
+    }
+
+-- bytes that are not those of a reader are a broken one: 21
+unfoldable pub readOver : List ℕ → List ℕ → Read
+readOver state packet =
+    pick (eqb (length state) readerSize) (heardOver state (readingOf (readerIn state) packet))
+    (record { code = 21; position = 0; sample = 0; state = state })
+
+-- the byte at a place of a packet's sample bytes, 0 past their end
+abbrev pub sampleByteAt : ℕ → List ℕ → ℕ
+sampleByteAt place packet = getD (sampleBytesOf packet) place 0

@@ -1,0 +1,179 @@
+// Wishes and replies.
+use replies::Reply;
+use wishes::StateFields;
+use wishes::Wish;
+use wishes::Written;
+ghost use mathlib.Core.Path.{_≡_};
+ghost use lib.ListN.{length};
+ghost use Rattle.wire.specs.Choice.{pick};
+ghost use lib.Seq.{sets};
+ghost use Rattle.replies.specs.Reading.{told as toldBy, toldOf as readAs};
+ghost use Rattle.wishes.specs.Writing.{told, toldOf, bytesWritten};
+ghost use Rattle.harvestdoor.specs.Asking.{wishOf, shown as shownOf, saidOf, refusedBy};
+
+// The wish of a number, with the fields of every case; a wish that no box grants where the number names none.
+fn wish_of(which: u8, byte: u8, mode: u8, gain: i8, word: u32, hertz: u64) -> Wish
+    ensures { λ r. ⌜ r ≡ wishOf which byte mode gain word hertz ⌝ }
+{
+    match which {
+        0 => Wish::AskName,
+        1 => Wish::AskSerial,
+        2 => Wish::AskInterface,
+        3 => Wish::AskVersion(byte),
+        4 => Wish::AskStatus,
+        5 => Wish::SetState(StateFields {
+            run: byte,
+            mode: mode,
+        }),
+        6 => Wish::AskState,
+        7 => Wish::SetFrequency(hertz),
+        8 => Wish::AskFrequency,
+        9 => Wish::AskFrequencyRange,
+        10 => Wish::SetGain(gain),
+        11 => Wish::AskGain,
+        12 => Wish::SetClock(word),
+        13 => Wish::AskClock,
+        14 => Wish::SetRate(word),
+        15 => Wish::AskRate,
+        16 => Wish::SetPacketSize(byte),
+        17 => Wish::AskPacketSize,
+        _ => Wish::AskVersion(255),
+    }
+}
+
+// What the writer told: its code, and how many bytes it wrote.
+struct Told {
+    code: u8,
+    wrote: usize,
+}
+
+fn told_by(w: Written) -> Told
+    ensures { λ r. ⌜ record { code = r .code; wrote = r .wrote } ≡ told w ⌝ }
+{
+    match w {
+        Written::Message(n) => Told { code: 1, wrote: n },
+        Written::NotAllowed => Told { code: 16, wrote: 0 },
+        Written::Short => Told { code: 20, wrote: 0 },
+    }
+}
+
+// Writes a wish's message at the start of a buffer. Answers the code, and leaves how many bytes were written.
+#[no_mangle]
+pub extern "C" fn skvornela_wish(
+    which: u8,
+    byte: u8,
+    mode: u8,
+    gain: i8,
+    word: u32,
+    hertz: u64,
+    buffer: &mut [u8],
+    wrote: &mut usize,
+) -> u8
+    ensures { λ r. ⌜ (record { code = r; wrote = now (wrote .exit) } ≡ toldOf (wishOf which byte mode gain word hertz) (length (now (buffer .entry)))) × (now (buffer .exit) ≡ sets (now (buffer .entry)) 0 (bytesWritten (wishOf which byte mode gain word hertz) (length (now (buffer .entry))))) ⌝ }
+{
+    let told = told_by(wishes::write(wish_of(which, byte, mode, gain, word, hertz), buffer));
+    *wrote = told.wrote;
+    told.code
+}
+
+// What a reply says, as numbers: the code, the item's code, how many values there are, the first two of them, and a gain.
+struct Shown {
+    code: u8,
+    item: u16,
+    count: usize,
+    first: u64,
+    second: u64,
+    gain: i8,
+}
+
+// A reply of up to two values.
+fn saying(item: u16, count: usize, first: u64, second: u64) -> Shown
+    ensures { λ r. ⌜ record { code = r .code; item = r .item; count = r .count; first = r .first; second = r .second; gain = r .gain } ≡ saidOf item count first second ⌝ }
+{
+    Shown {
+        code: 1,
+        item: item,
+        count: count,
+        first: first,
+        second: second,
+        gain: 0,
+    }
+}
+
+fn refusing(code: u8) -> Shown
+    ensures { λ r. ⌜ record { code = r .code; item = r .item; count = r .count; first = r .first; second = r .second; gain = r .gain } ≡ refusedBy code ⌝ }
+{
+    Shown {
+        code: code,
+        item: 0,
+        count: 0,
+        first: 0,
+        second: 0,
+        gain: 0,
+    }
+}
+
+fn status_byte(running: bool) -> u64
+    ensures { λ r. ⌜ r ≡ pick running 0x0C 0x0B ⌝ }
+{
+    if running { 0x0C } else { 0x0B }
+}
+
+fn shown_by(reply: Reply) -> Shown
+    ensures { λ r. ⌜ record { code = r .code; item = r .item; count = r .count; first = r .first; second = r .second; gain = r .gain } ≡ shownOf (toldBy reply) ⌝ }
+{
+    match reply {
+        Reply::Nak => saying(0, 0, 0, 0),
+        // the seven bytes of "NetSDR" and its zero
+        Reply::Name => saying(0x0001, 7, 0x4E, 0x65),
+        Reply::Serial(n) => saying(0x0002, 1, n, 0),
+        Reply::Interface(n) => saying(0x0003, 1, n as u64, 0),
+        Reply::Version(id, n) => saying(0x0004, 2, id as u64, n as u64),
+        Reply::Status(running) => saying(0x0005, 1, status_byte(running), 0),
+        Reply::State(fields) => saying(0x0018, 2, fields.run as u64, fields.mode as u64),
+        Reply::Frequency(hz) => saying(0x0020, 1, hz, 0),
+        // minimum, maximum and oscillator of each band
+        Reply::FrequencyRange => saying(0x0020, 6, 100_000, 34_000_000),
+        Reply::Gain(g) => Shown {
+            code: 1,
+            item: 0x0038,
+            count: 1,
+            first: 0,
+            second: 0,
+            gain: g,
+        },
+        Reply::Clock(hz) => saying(0x00B0, 1, hz as u64, 0),
+        Reply::Rate(hz) => saying(0x00B8, 1, hz as u64, 0),
+        Reply::PacketSize(n) => saying(0x00C4, 1, n as u64, 0),
+        Reply::NotAllowed => refusing(16),
+        Reply::NotAReply => refusing(28),
+    }
+}
+
+// Reads the bytes that came for a wish. Answers the code, and leaves what they say.
+#[no_mangle]
+pub extern "C" fn skvornela_reply(
+    which: u8,
+    byte: u8,
+    mode: u8,
+    gain: i8,
+    word: u32,
+    hertz: u64,
+    bytes: &[u8],
+    item: &mut u16,
+    count: &mut usize,
+    first: &mut u64,
+    second: &mut u64,
+    level: &mut i8,
+) -> u8
+    ensures { λ r. ⌜ record { code = r; item = now (item .exit); count = now (count .exit); first = now (first .exit); second = now (second .exit); gain = now (level .exit) } ≡ shownOf (readAs (wishOf which byte mode gain word hertz) (now (bytes .entry))) ⌝ }
+{
+    let s = shown_by(replies::read(wish_of(which, byte, mode, gain, word, hertz), bytes));
+    *item = s.item;
+    *count = s.count;
+    *first = s.first;
+    *second = s.second;
+    let g = s.gain;
+    *level = g;
+    s.code
+}

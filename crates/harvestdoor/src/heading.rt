@@ -1,0 +1,90 @@
+// Capture heads.
+use heads::Head;
+use heads::Opened;
+use heads::Written;
+ghost use mathlib.Core.Path.{_≡_};
+ghost use lib.ListN.{length};
+ghost use lib.Seq.{sets};
+ghost use Rattle.heads.specs.Head.{openedSays, writeCode, writtenBytes, writtenCode};
+ghost use Rattle.harvestdoor.specs.Heads.{found, foundIn, noHead};
+
+// What reading a head found: its code, and the head, or zeros in the place of one that was not found.
+struct Found {
+    code: u8,
+    head: Head,
+}
+
+fn code_of(w: Written) -> u8
+    ensures { λ r. ⌜ r ≡ writtenCode w ⌝ }
+{
+    match w {
+        Written::Whole => 1,
+        Written::NotAllowed => 16,
+        Written::NoRoom => 20,
+    }
+}
+
+// Writes a capture head at the start of a slice. Answers the code.
+#[no_mangle]
+pub extern "C" fn skvornela_head_write(
+    divisor: u32,
+    frequency: u64,
+    mode: u8,
+    size: u8,
+    out: &mut [u8],
+) -> u8
+    ensures { λ r. ⌜ (r ≡ writeCode (record { divisor = divisor; frequency = frequency; mode = mode; size = size }) (length (now (out .entry)))) × (now (out .exit) ≡ sets (now (out .entry)) 0 (writtenBytes (record { divisor = divisor; frequency = frequency; mode = mode; size = size }) (length (now (out .entry))))) ⌝ }
+{
+    let h = Head {
+        divisor: divisor,
+        frequency: frequency,
+        mode: mode,
+        size: size,
+    };
+    code_of(heads::write_head(h, out))
+}
+
+fn no_head(code: u8) -> Found
+    ensures { λ r. ⌜ (r .code ≡ code) × (r .head ≡ noHead) ⌝ }
+{
+    Found {
+        code: code,
+        head: Head {
+            divisor: 0,
+            frequency: 0,
+            mode: 0,
+            size: 0,
+        },
+    }
+}
+
+fn found_by(o: Opened) -> Found
+    ensures { λ r. ⌜ record { code = r .code; head = r .head } ≡ found (openedSays o) ⌝ }
+{
+    match o {
+        Opened::Head(h) => Found { code: 1, head: h },
+        Opened::NotAHead => no_head(40),
+        Opened::OtherVersion => no_head(41),
+    }
+}
+
+// Reads a capture head from the first 14 bytes of a slice. Answers the code, and leaves the head's values, or zeros where
+// it refuses.
+#[no_mangle]
+pub extern "C" fn skvornela_head_read(
+    bytes: &[u8],
+    divisor: &mut u32,
+    frequency: &mut u64,
+    mode: &mut u8,
+    size: &mut u8,
+) -> u8
+    ensures { λ r. ⌜ record { code = r; head = record { divisor = now (divisor .exit); frequency = now (frequency .exit); mode = now (mode .exit); size = now (size .exit) } } ≡ foundIn (now (bytes .entry)) ⌝ }
+{
+    let f = found_by(heads::read_head(bytes));
+    let head = f.head;
+    *divisor = head.divisor;
+    *frequency = head.frequency;
+    *mode = head.mode;
+    *size = head.size;
+    f.code
+}

@@ -1,0 +1,56 @@
+// Reading packets.
+ghost use mathlib.Core.Path.{_≡_};
+ghost use lib.ListN.{length};
+ghost use lib.Seq.{sets};
+ghost use Rattle.reader.specs.Reading.{sampleBytesOf, unpackingOf, unpackedOf};
+ghost use Rattle.harvestdoor.specs.Reading.{readOver, sampleByteAt};
+
+// Reads one packet with a reader of 25 bytes. Answers the code, and leaves the packet's position and that of its first
+// sample; both are 0 where the packet is refused, and the reader's bytes are then as they came.
+#[no_mangle]
+pub extern "C" fn skvornela_read(
+    state: &mut [u8],
+    packet: &[u8],
+    position: &mut u64,
+    sample: &mut u64,
+) -> u8
+    ensures { λ r. ⌜ record { code = r; position = now (position .exit); sample = now (sample .exit); state = now (state .exit) } ≡ readOver (now (state .entry)) (now (packet .entry)) ⌝ }
+{
+    if state.len() == 25 {
+        let h = reader::read(crate::states::reader_in(state), packet);
+        *position = h.position;
+        *sample = h.sample;
+        if h.code == 1 {
+            let after = h.reader;
+            crate::states::put_reader(state, after);
+        }
+        return h.code;
+    }
+    *position = 0;
+    *sample = 0;
+    21
+}
+
+// How many sample bytes a packet has; leaves the one at a place, 0 past their end.
+#[no_mangle]
+pub extern "C" fn skvornela_sample_byte(packet: &[u8], place: usize, byte: &mut u8) -> usize
+    ensures { λ r. ⌜ (r ≡ length (sampleBytesOf (now (packet .entry)))) × (now (byte .exit) ≡ sampleByteAt place (now (packet .entry))) ⌝ }
+{
+    let part = reader::sample_bytes(packet);
+    if place < part.len() {
+        *byte = part[place];
+        return part.len();
+    }
+    *byte = 0;
+    part.len()
+}
+
+// Unpacks a packet into lent numbers. Answers the code, and leaves how many numbers were written.
+#[no_mangle]
+pub extern "C" fn skvornela_unpack(packet: &[u8], out: &mut [i32], count: &mut usize) -> u8
+    ensures { λ r. ⌜ (record { code = r; count = now (count .exit) } ≡ unpackingOf (now (packet .entry)) (length (now (out .entry)))) × (now (out .exit) ≡ sets (now (out .entry)) 0 (unpackedOf (now (packet .entry)) (length (now (out .entry))))) ⌝ }
+{
+    let u = reader::unpack(packet, out);
+    *count = u.count;
+    u.code
+}

@@ -1,0 +1,33 @@
+// A reader in lent bytes.
+use packets::Form;
+use reader::Reader;
+ghost use mathlib.Core.Path.{_≡_};
+ghost use lib.ListN.{length};
+ghost use Rattle.harvestdoor.specs.States.{readerIn, readerBytes};
+
+// The reader in 25 bytes.
+pub(crate) fn reader_in(b: &[u8]) -> Reader
+    requires { ⌜ length (now b) ≡ 25 ⌝ }
+    ensures { λ r. ⌜ r ≡ readerIn (now (b .entry)) ⌝ }
+{
+    Reader {
+        heard: b[24] != 0,
+        position: wire::number_at(b, 0, 8),
+        form: Form {
+            bits: wire::number_at(b, 8, 8),
+            pairs: wire::number_at(b, 16, 8),
+        },
+    }
+}
+
+// Stores a reader in 25 bytes.
+pub(crate) fn put_reader(b: &mut [u8], r: Reader)
+    requires { ⌜ length (now b) ≡ 25 ⌝ }
+    ensures { λ _. ⌜ now (b .exit) ≡ readerBytes r ⌝ }
+{
+    let form = r.form;
+    wire::put(b, 0, 8, r.position);
+    wire::put(b, 8, 8, form.bits);
+    wire::put(b, 16, 8, form.pairs);
+    wire::put(b, 24, 1, r.heard as u64);
+}
