@@ -12,7 +12,7 @@ use Rattle.packets.specs.declared.Form.{Form}
 use Rattle.hearing.specs.declared.Tally.{Tally}
 use Rattle.hearing.specs.declared.Reach.{Reach}
 use Rattle.hearing.specs.Hearing.{taking, heardCode, closes, cameTo, reaching}
-use Rattle.hearing.specs.Steps.{goesOn, Sane, Goes, Samples, skipped}
+use Rattle.hearing.specs.Inside.{goesOn, Sane, Goes, Samples, skipped}
 use Rattle.hearing.proofs.Heard.{sane-taking, sane-came}
 use Rattle.hearing.proofs.Reaches.{came-at, reach-byte, reach-skip}
 

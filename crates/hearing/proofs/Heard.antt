@@ -18,7 +18,7 @@ use Rattle.reader.specs.Reading.{last}
 use Rattle.hearing.specs.declared.Tally.{Tally}
 use Rattle.hearing.specs.declared.Reach.{Reach}
 use Rattle.hearing.specs.Hearing.{formNow, positionNow, orphan, heardCode, taking, accepting, closes, cameTo}
-use Rattle.hearing.specs.Steps.{Sane, wordAt, twoAt}
+use Rattle.hearing.specs.Inside.{Sane, wordAt, twoAt}
 
 abbrev pub codeBy : Bool → Bool → Bool → Bool → Bool → Bool → ℕ
 codeBy few ok short same lone past =

@@ -14,7 +14,7 @@ use Rattle.reader.specs.Reading.{last}
 use Rattle.hearing.specs.declared.Tally.{Tally}
 use Rattle.hearing.specs.declared.Reach.{Reach}
 use Rattle.hearing.specs.Hearing.{farthest, inRange, taking, cameTo, reaching, outcome, hearingOf}
-use Rattle.hearing.specs.Steps.{Sane}
+use Rattle.hearing.specs.Inside.{Sane}
 use Rattle.hearing.proofs.Heard.{sane-taking, sane-came, sane-less}
 use Rattle.hearing.proofs.Goings.{taken-some}
 

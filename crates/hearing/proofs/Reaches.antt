@@ -20,7 +20,7 @@ use Rattle.reader.specs.Reading.{last}
 use Rattle.hearing.specs.declared.Tally.{Tally}
 use Rattle.hearing.specs.declared.Reach.{Reach}
 use Rattle.hearing.specs.Hearing.{joined, taking, formNow, positionNow, heardCode, accepting, closes, cameTo, reaching}
-use Rattle.hearing.specs.Steps.{goesOn, Follows, Samples, skipped, twoAt}
+use Rattle.hearing.specs.Inside.{goesOn, Follows, Samples, skipped, twoAt}
 use Rattle.hearing.proofs.Heard.{heard-by, came-by}
 
 -- ---- one byte

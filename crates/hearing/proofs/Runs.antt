@@ -14,7 +14,7 @@ use Rattle.packets.proofs.Numbers.{step-above, step-not-above}
 use Rattle.reader.specs.Reading.{last}
 use Rattle.hearing.specs.declared.Tally.{Tally}
 use Rattle.hearing.specs.Hearing.{reaching}
-use Rattle.hearing.specs.Steps.{goesOn, Sane, Goes, Between, Follows, twoAt}
+use Rattle.hearing.specs.Inside.{goesOn, Sane, Goes, Between, Follows, twoAt}
 use Rattle.hearing.proofs.Reaches.{followed, reach-follows, form-with-own, total-least}
 
 -- the number that a step leads to is the number at the position that it leads to

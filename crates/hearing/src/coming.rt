@@ -3,7 +3,7 @@ ghost use mathlib.Core.Path.{_≡_};
 ghost use Prim.Native.Nat.{_+_, _≤_, _<_};
 ghost use Rattle.reader.specs.Reading.{last};
 ghost use Rattle.hearing.specs.Hearing.{inRange, joined, fieldWith, taking, positionNow, orphan, heardCode, accepting, closes, cameTo};
-ghost use Rattle.hearing.specs.Steps.{Sane};
+ghost use Rattle.hearing.specs.Inside.{Sane};
 use crate::Reach;
 use crate::Tally;
 use packets::Form;

@@ -6,7 +6,7 @@ ghost use lib.ListN.{length};
 ghost use Rattle.packets.specs.Forms.{listed};
 ghost use Rattle.reader.specs.Reading.{last};
 ghost use Rattle.hearing.specs.Hearing.{nextTally, outcome, hearingOf};
-ghost use Rattle.hearing.specs.Steps.{Sane, Goes, Between, Follows, Samples, Hears, skipped, wordAt};
+ghost use Rattle.hearing.specs.Inside.{Sane, Goes, Between, Follows, Samples, Hears, skipped, wordAt};
 use crate::Outcome;
 use crate::Reach;
 use crate::Tally;

@@ -13,7 +13,7 @@ use Rattle.wire.proofs.Laws.{and-left, and-right}
 use Rattle.wire.proofs.Stores.{sets-taken}
 use Rattle.lines.specs.declared.Due.{Due}
 use Rattle.lines.specs.Lines.{Line, lineText, textOf}
-use Rattle.lines.specs.Storing.{Stored}
+use Rattle.lines.specs.Inside.{Stored}
 use Rattle.lines.specs.Due.{openingIf, captureIf, endingIf, dueLines, sized, silentWith, telling, tellingOf}
 use Rattle.lines.proofs.Texts.{stored-after, stored-within}
 

@@ -14,7 +14,7 @@ use Rattle.wire.specs.Number.{bytes}
 use Rattle.wire.proofs.Stores.{sets-out, sets-append}
 use Rattle.wire.proofs.Numbers.{length-bytes}
 use Rattle.lines.specs.Lines.{digitsIn, decimal, numbersText, textWith}
-use Rattle.lines.specs.Storing.{Stored}
+use Rattle.lines.specs.Inside.{Stored}
 
 -- ---- copying
 

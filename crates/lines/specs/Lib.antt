@@ -1,3 +1,3 @@
 pub mod Lines
 pub mod Due
-pub mod Storing
+pub mod Inside

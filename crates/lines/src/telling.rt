@@ -5,7 +5,7 @@ ghost use lib.ListN.{length};
 ghost use lib.Seq.{sets};
 ghost use mathlib.Core.Bool.{true};
 ghost use Rattle.lines.specs.Lines.{textOf};
-ghost use Rattle.lines.specs.Storing.{Stored};
+ghost use Rattle.lines.specs.Inside.{Stored};
 ghost use Rattle.lines.specs.Due.{openingIf, captureIf, endingIf, dueLines, sized, tellingOf};
 use crate::Due;
 use crate::Told;

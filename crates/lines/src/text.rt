@@ -6,7 +6,7 @@ ghost use lib.ListN.{length};
 ghost use lib.Seq.{sets};
 ghost use Rattle.wire.specs.Number.{bytes};
 ghost use Rattle.lines.specs.Lines.{decimal, numbersText, textWith};
-ghost use Rattle.lines.specs.Storing.{Stored};
+ghost use Rattle.lines.specs.Inside.{Stored};
 
 // Copies a slice to a place of another. What would lie past the end is not written.
 pub fn copy(src: &[u8], dst: &mut [u8], at: usize)

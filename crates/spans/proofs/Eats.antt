@@ -27,7 +27,7 @@ use Rattle.lines.specs.Due.{dueLines, sized, Telling, silentWith, telling, tell
 use Rattle.lines.proofs.Dues.{is-sized, telling-sized}
 use Rattle.hearing.specs.Hearing.{inRange, reaching}
 use Rattle.spans.specs.Eating.{headOk, validSpan, headOf, withTally, lacking, headTaken, headLines, headRead, heardLines, heardSpan, Eating, refused, silently, saying, opening, openingBy, listening, listeningBy, eatingOf, lastLines, finishingOf}
-use Rattle.spans.specs.Dues.{dueNow}
+use Rattle.spans.specs.Inside.{dueNow}
 
 -- the number of what was read is the code
 pub code-said : (o : Opened) (s : List ℕ) → openedSays o ≡ readingOf s → openedSays o .code ≡ headCode s

@@ -18,7 +18,7 @@ use Rattle.hearing.specs.declared.Tally.{Tally}
 use Rattle.hearing.specs.declared.Reach.{Reach}
 use Rattle.spans.specs.declared.Span.{Span}
 use Rattle.hearing.specs.Hearing.{farthest, inRange, taking, accepting, heardCode, closes, cameTo, reaching}
-use Rattle.hearing.specs.Steps.{Sane}
+use Rattle.hearing.specs.Inside.{Sane}
 use Rattle.spans.specs.Eating.{freshTally, freshSpan, headOk, validSpan, headOf}
 use Rattle.hearing.proofs.Reaches.{came-at}
 use Rattle.hearing.proofs.Ranges.{range-by}

@@ -25,7 +25,7 @@ use Rattle.hearing.specs.declared.Reach.{Reach}
 use Rattle.lines.specs.Lines.{Line, refusalLine}
 use Rattle.spans.specs.Report.{Known, lineOf, ended, readerAfter, packetIn, packetCode, begins, knownAfter, atEnd, atRefusal, linesFrom}
 use Rattle.hearing.specs.Hearing.{joined, taking, formNow, positionNow, orphan, heardCode, accepting, closes, cameTo, reaching}
-use Rattle.hearing.specs.Steps.{goesOn}
+use Rattle.hearing.specs.Inside.{goesOn}
 use Rattle.spans.specs.Eating.{endedNow, heardLines}
 use Rattle.hearing.proofs.Heard.{codeBy, heard-by, came-by, accepted}
 use Rattle.hearing.proofs.Reaches.{heard-waits, tallied, reach-whole, packet-parts, total-least}

@@ -17,7 +17,7 @@ use Rattle.hearing.specs.declared.Tally.{Tally}
 use Rattle.hearing.specs.declared.Reach.{Reach}
 use Rattle.lines.specs.Lines.{Line, refusalLine, endLine}
 use Rattle.hearing.specs.Hearing.{taking, heardCode, closes, accepting, cameTo, reaching}
-use Rattle.hearing.specs.Steps.{goesOn}
+use Rattle.hearing.specs.Inside.{goesOn}
 use Rattle.spans.specs.Eating.{endedNow, heardLines}
 use Rattle.hearing.proofs.Heard.{came-by}
 use Rattle.hearing.proofs.Reaches.{came-at, reach-cons}

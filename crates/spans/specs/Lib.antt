@@ -1,4 +1,4 @@
 pub mod Report
 pub mod Eating
 pub mod Pieces
-pub mod Dues
+pub mod Inside

@@ -10,7 +10,7 @@ ghost use Rattle.heads.specs.Head.{readCode as headCode};
 ghost use Rattle.lines.specs.Due.{dueLines, sized};
 ghost use Rattle.hearing.specs.Hearing.{inRange};
 ghost use Rattle.spans.specs.Eating.{freshSpan, headOk, validSpan, headOf, headTaken, headLines, heardLines, lastLines, refused, headRead, withTally, opening, listening, eatingOf, finishingOf};
-ghost use Rattle.spans.specs.Dues.{dueNow};
+ghost use Rattle.spans.specs.Inside.{dueNow};
 use crate::Eaten;
 use crate::Span;
 use heads::Head;

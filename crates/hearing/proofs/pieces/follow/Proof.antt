@@ -6,7 +6,7 @@ use native.Mathlib.Omega.{arith}
 use denote.Ref.{now}
 use lib.ListN.{getD}
 use Rattle.packets.specs.Numbers.{stepOf}
-use Rattle.hearing.specs.Steps.{twoAt}
+use Rattle.hearing.specs.Inside.{twoAt}
 use Rattle.hearing.proofs.Heard.{step-small, word-header, word-number}
 use Rattle.hearing.proofs.pieces.follow.Statement.{statement}
 use Rattle.hearing.proofs.pieces.follow.Tie as tie

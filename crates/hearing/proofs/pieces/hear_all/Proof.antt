@@ -4,7 +4,7 @@ use mathlib.Core.Path.{_≡_, refl, _∙_}
 use native.Mathlib.Omega.{arith}
 use lib.ListN.{length, drop}
 use Rattle.hearing.specs.Hearing.{reaching}
-use Rattle.hearing.specs.Steps.{Sane}
+use Rattle.hearing.specs.Inside.{Sane}
 use Rattle.hearing.proofs.Heard.{sane-less}
 use Rattle.hearing.proofs.Goings.{goes-due, goes-on, used-up}
 use denote.Ref.{now}

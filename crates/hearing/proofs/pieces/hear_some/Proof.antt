@@ -11,7 +11,7 @@ use lib.ListN.{getD}
 use Rattle.hearing.specs.declared.Tally.{Tally}
 use Rattle.hearing.specs.declared.Reach.{Reach}
 use Rattle.hearing.specs.Hearing.{taking, cameTo}
-use Rattle.hearing.specs.Steps.{Sane, Goes}
+use Rattle.hearing.specs.Inside.{Sane, Goes}
 use Rattle.hearing.proofs.pieces.hear_some.Statement.{statement}
 use Rattle.hearing.proofs.pieces.hear_some.Tie as tie
 

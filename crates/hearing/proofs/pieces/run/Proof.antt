@@ -8,7 +8,7 @@ use lib.ListN.{length}
 use Rattle.wire.specs.Header.{headerOf, typeData}
 use Rattle.packets.specs.Forms.{totalOf}
 use Rattle.packets.proofs.Forms.{is-listed-form}
-use Rattle.hearing.specs.Steps.{goesOn, Between, twoAt}
+use Rattle.hearing.specs.Inside.{goesOn, Between, twoAt}
 use Rattle.hearing.proofs.Heard.{total-is, word-number}
 use Rattle.hearing.proofs.Reaches.{total-least}
 use Rattle.hearing.proofs.Runs.{Running, running-start, running-turn, running-end}

@@ -4,7 +4,7 @@ use Prim.Native.Nat.{ℕ, _+_, _<_}
 use mathlib.Core.Path.{sym, ap, _∙_}
 use native.Mathlib.Omega.{arith}
 use Rattle.packets.specs.Forms.{listed, totalOf}
-use Rattle.hearing.specs.Steps.{Samples}
+use Rattle.hearing.specs.Inside.{Samples}
 use Rattle.hearing.proofs.Heard.{total-some}
 use Rattle.hearing.proofs.pieces.skippable.Statement.{statement}
 use Rattle.hearing.proofs.pieces.skippable.Tie as tie

@@ -4,7 +4,7 @@ use mathlib.Core.Path.{_≡_, refl, _∙_}
 use native.Mathlib.Omega.{arith}
 use lib.ListN.{length, take}
 use Rattle.lines.specs.Lines.{numbersText}
-use Rattle.lines.specs.Storing.{Stored}
+use Rattle.lines.specs.Inside.{Stored}
 use Rattle.lines.proofs.Texts.{stored-within, nothing-stored, numbers-turn, numbers-end}
 use Rattle.lines.proofs.text.put_numbers.Statement.{statement}
 use Rattle.lines.proofs.text.put_numbers.Tie as tie

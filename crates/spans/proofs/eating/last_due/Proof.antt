@@ -4,7 +4,7 @@ use mathlib.Core.Path.{ap, _∙_}
 use borrow.Author.Tests.{lt-ltb, le-ltb, eq-eqb, ne-eqb}
 use Rattle.heads.specs.declared.Head.{Head}
 use Rattle.spans.specs.Eating.{headOf}
-use Rattle.spans.specs.Dues.{dueNow}
+use Rattle.spans.specs.Inside.{dueNow}
 use Rattle.spans.proofs.Eats.{due-sized, due-is}
 use Rattle.spans.proofs.eating.last_due.Statement.{statement}
 use Rattle.spans.proofs.eating.last_due.Tie as tie

@@ -1,4 +1,5 @@
--- What the functions that write text say of one another. No promise of the crate cites it.
+-- What the functions inside promise each other: text that is stored at a place of a buffer. Nothing of document 01 rests on
+-- it; Texts and Dues in proofs/ tie it to Lines and Due.
 use Prim.Native.Nat.{ℕ, _+_, _≤_}
 use mathlib.Core.Path.{_≡_}
 use mathlib.Core.List.{List}

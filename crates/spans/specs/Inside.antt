@@ -1,4 +1,5 @@
--- The lines of a call as they are handed on to be written. No promise of the crate cites it.
+-- What the functions inside promise each other: the lines of a call as they are handed on to be written. Eats in proofs/
+-- ties it to Eating.
 use Prim.Native.Nat.{ℕ}
 use mathlib.Core.Bool.{false}
 use Rattle.heads.specs.declared.Head.{Head}

@@ -1,4 +1,5 @@
--- What the functions that take a piece say of one another. No promise of the crate cites it.
+-- What the functions inside promise each other: parts of the way through a piece. Nothing of document 01 rests on these
+-- definitions; Reaches, Runs and Goings in proofs/ tie them to Hearing.
 use Prim.Native.Nat.{ℕ, _+_, _*_, _-_, _≤_, _<_}
 use mathlib.Core.Path.{_≡_}
 use mathlib.Core.Bool.{true}
