@@ -1,60 +1,20 @@
 -- How the codes of a message's header, of the table and of the item make the message's code.
 use Prim.Native.Nat.{ℕ}
 use mathlib.Core.Path.{_≡_, refl, _∙_}
-use mathlib.Core.Bool.{Bool, true, false, and-true, and-false}
+use mathlib.Core.Bool.{and-true, and-false}
 use mathlib.Core.List.{List, [], _∷_, _++_}
-use native.Mathlib.Omega.{arith}
 use lib.Dec.{eqb}
 use lib.ListN.{getD}
 use borrow.Author.Tests.{ne-eqb, not-false}
-use Rattle.wire.specs.Choice.{pick, Check, firstOf}
+use Rattle.wire.specs.Choice.{Check, firstOf}
 use Rattle.wire.specs.Header.{typeSet, typeRequest}
+use Rattle.wire.proofs.Checks.{Absent, absent, first-stops, first-goes-on}
 use Rattle.items.specs.declared.Settings.{Settings}
 use Rattle.items.specs.Items.{Channels, noChannel, anyChannel, zeroAndAll, Item, versions, name, serial, interface, status, state, clock, rate, packetSize, listed, rowOf}
 use Rattle.items.specs.Header.{headerChecks}
 use Rattle.items.specs.Table.{tableChecks}
 use Rattle.items.specs.Answer.{Message, channelAllowed, itemIn, row, parameters, itemChecks, itemCode, askedBy, setBy, checks, codeOf, settingsAfter, judgedOf}
 use Rattle.items.proofs.Rows.{row-has, row-code}
-
--- no check of the list has this code
-abbrev pub otherThan : ℕ → List Check → Type 0
-otherThan n [] = Unit {0}
-otherThan n (c ∷ cs) = (c .code ≡ n → ⊥) × otherThan n cs
-
--- no check of the list holds
-abbrev pub allFail : List Check → Type 0
-allFail [] = Unit {0}
-allFail (c ∷ cs) = (c .holds ≡ false) × allFail cs
-
--- where none gives its code, none holds
-pub accepted : (cs : List Check) (n : ℕ) → otherThan n cs → firstOf cs n ≡ n → allFail cs
-accepted [] n o h = tt
-accepted (c ∷ cs) n o h = go (λ e. accepted cs n (o .1) e) (c .holds) refl h
-  where
-    go : (firstOf cs n ≡ n → allFail cs) → (b : Bool) → c .holds ≡ b → pick b (c .code) (firstOf cs n) ≡ n
-        → (c .holds ≡ false) × allFail cs
-    go rest true q e = absurd (o .0 e)
-    go rest false q e = (q, rest e)
-
--- a check that holds decides, whatever follows
-pub first-stops : (cs ds : List Check) (n : ℕ) → (firstOf cs n ≡ n → ⊥) → firstOf (cs ++ ds) n ≡ firstOf cs n
-first-stops [] ds n h = absurd (h refl)
-first-stops (c ∷ cs) ds n h = go (c .holds) h (first-stops cs ds n)
-  where
-    go : (b : Bool) → (pick b (c .code) (firstOf cs n) ≡ n → ⊥) → ((firstOf cs n ≡ n → ⊥) → firstOf (cs ++ ds) n ≡ firstOf cs n)
-        → pick b (c .code) (firstOf (cs ++ ds) n) ≡ pick b (c .code) (firstOf cs n)
-    go true h more = refl
-    go false h more = more h
-
--- where none holds, what follows decides
-pub first-goes-on : (cs ds : List Check) (n : ℕ) → otherThan n cs → firstOf cs n ≡ n → firstOf (cs ++ ds) n ≡ firstOf ds n
-first-goes-on [] ds n o h = refl
-first-goes-on (c ∷ cs) ds n o h = go (c .holds) h (first-goes-on cs ds n (o .1))
-  where
-    go : (b : Bool) → pick b (c .code) (firstOf cs n) ≡ n → (firstOf cs n ≡ n → firstOf (cs ++ ds) n ≡ firstOf ds n)
-        → pick b (c .code) (firstOf (cs ++ ds) n) ≡ firstOf ds n
-    go true h more = absurd (o .0 h)
-    go false h more = more h
 
 -- a request and a range request have the same channels
 channel-asked : (cs : Channels) (kind byte : ℕ) → (kind ≡ typeSet → ⊥) → channelAllowed cs kind byte ≡ channelAllowed cs typeRequest byte
@@ -66,32 +26,10 @@ channel-asked zeroAndAll kind byte h = rw (ne-eqb kind typeSet h)
 asked-code : (i : Item) (kind : ℕ) (s : Settings) (p : List ℕ) → (kind ≡ typeSet → ⊥) → itemCode i kind s p ≡ askedBy i p
 asked-code i kind s p h = rw (ne-eqb kind typeSet h, channel-asked (i .channels) kind (getD p 0 0) h)
 
--- none of a message's checks has the code 1
-pub refusals : (s : Settings) (m : Message) → otherThan 1 (checks s m)
-refusals s m = (
-  (λ e. omega arith),
-  (
-    (λ e. omega arith),
-    (
-      (λ e. omega arith),
-      (
-        (λ e. omega arith),
-        (
-          (λ e. omega arith),
-          (
-            (λ e. omega arith),
-            ((λ e. omega arith), ((λ e. omega arith), ((λ e. omega arith), tt))),
-          ),
-        ),
-      ),
-    ),
-  ),
-)
-
 -- an accepted message passed every check
-pub passed : (s : Settings) (m : Message) → codeOf s m ≡ 1 → allFail (checks s m)
+pub passed : (s : Settings) (m : Message) → codeOf s m ≡ 1 → Absent (checks s m)
 unfolding codeOf
-passed s m h = accepted (checks s m) 1 (refusals s m) h
+passed s m h = absent (checks s m) 1 refl h
 
 -- so its item is listed, and its row has its code
 pub accepted-row : (s : Settings) (m : Message) → codeOf s m ≡ 1 → row m .code ≡ itemIn m
@@ -113,7 +51,7 @@ module _ (s : Settings) (m : Message) where
   unfolding codeOf
   past-header h =
       first-goes-on Header (Table ++ itemChecks (row m) (m .type) s (parameters m)) 1
-      ((λ e. omega arith), ((λ e. omega arith), ((λ e. omega arith), tt))) h
+      refl h
 
   -- the table decides
   pub by-table : firstOf Header 1 ≡ 1 → (firstOf Table 1 ≡ 1 → ⊥) → codeOf s m ≡ firstOf Table 1
@@ -124,7 +62,7 @@ module _ (s : Settings) (m : Message) where
   by-item h t =
       past-header h
       ∙ first-goes-on Table (itemChecks (row m) (m .type) s (parameters m)) 1
-      ((λ e. omega arith), ((λ e. omega arith), ((λ e. omega arith), tt))) t
+      refl t
 
   -- a refused message leaves every setting
   pub refused : (code : ℕ) → (code ≡ 1 → ⊥) → codeOf s m ≡ code → record { code = code; settings = s } ≡ judgedOf s m

@@ -73,115 +73,42 @@ abbrev pub freshAnswer : List ℕ → Judged
 freshAnswer serial =
     pick (isSerial serial) (record { code = 1; settings = freshOf serial }) (record { code = 26; settings = freshOf (replicate 8 0x30) })
 
+-- all of them, in their order
+abbrev settings : ℕ → ℕ → ℕ → ℕ → Bool → ℕ → ℕ → ℕ → List ℕ → Settings
+settings frequency count clock divisor running mode gain size serial =
+    record {
+      frequency = frequency;
+      count = count;
+      clock = clock;
+      divisor = divisor;
+      running = running;
+      mode = mode;
+      gain = gain;
+      size = size;
+      serial = serial;
+    }
+
 -- the settings with one of them changed
 abbrev pub withFrequency : ℕ → Settings → Settings
-withFrequency hz s =
-    record {
-      frequency = hz;
-      count = s .count;
-      clock = s .clock;
-      divisor = s .divisor;
-      running = s .running;
-      mode = s .mode;
-      gain = s .gain;
-      size = s .size;
-      serial = s .serial;
-    }
+withFrequency hz s = settings hz (s .count) (s .clock) (s .divisor) (s .running) (s .mode) (s .gain) (s .size) (s .serial)
 
 abbrev pub withCount : ℕ → Settings → Settings
-withCount n s =
-    record {
-      frequency = s .frequency;
-      count = n;
-      clock = s .clock;
-      divisor = s .divisor;
-      running = s .running;
-      mode = s .mode;
-      gain = s .gain;
-      size = s .size;
-      serial = s .serial;
-    }
+withCount n s = settings (s .frequency) n (s .clock) (s .divisor) (s .running) (s .mode) (s .gain) (s .size) (s .serial)
 
 abbrev pub withClock : ℕ → Settings → Settings
-withClock hz s =
-    record {
-      frequency = s .frequency;
-      count = s .count;
-      clock = hz;
-      divisor = s .divisor;
-      running = s .running;
-      mode = s .mode;
-      gain = s .gain;
-      size = s .size;
-      serial = s .serial;
-    }
+withClock hz s = settings (s .frequency) (s .count) hz (s .divisor) (s .running) (s .mode) (s .gain) (s .size) (s .serial)
 
 abbrev pub withDivisor : ℕ → Settings → Settings
-withDivisor d s =
-    record {
-      frequency = s .frequency;
-      count = s .count;
-      clock = s .clock;
-      divisor = d;
-      running = s .running;
-      mode = s .mode;
-      gain = s .gain;
-      size = s .size;
-      serial = s .serial;
-    }
+withDivisor d s = settings (s .frequency) (s .count) (s .clock) d (s .running) (s .mode) (s .gain) (s .size) (s .serial)
 
 abbrev pub withRunning : Bool → Settings → Settings
-withRunning b s =
-    record {
-      frequency = s .frequency;
-      count = s .count;
-      clock = s .clock;
-      divisor = s .divisor;
-      running = b;
-      mode = s .mode;
-      gain = s .gain;
-      size = s .size;
-      serial = s .serial;
-    }
+withRunning b s = settings (s .frequency) (s .count) (s .clock) (s .divisor) b (s .mode) (s .gain) (s .size) (s .serial)
 
 abbrev pub withMode : ℕ → Settings → Settings
-withMode byte s =
-    record {
-      frequency = s .frequency;
-      count = s .count;
-      clock = s .clock;
-      divisor = s .divisor;
-      running = s .running;
-      mode = byte;
-      gain = s .gain;
-      size = s .size;
-      serial = s .serial;
-    }
+withMode byte s = settings (s .frequency) (s .count) (s .clock) (s .divisor) (s .running) byte (s .gain) (s .size) (s .serial)
 
 abbrev pub withGain : ℕ → Settings → Settings
-withGain byte s =
-    record {
-      frequency = s .frequency;
-      count = s .count;
-      clock = s .clock;
-      divisor = s .divisor;
-      running = s .running;
-      mode = s .mode;
-      gain = byte;
-      size = s .size;
-      serial = s .serial;
-    }
+withGain byte s = settings (s .frequency) (s .count) (s .clock) (s .divisor) (s .running) (s .mode) byte (s .size) (s .serial)
 
 abbrev pub withSize : ℕ → Settings → Settings
-withSize byte s =
-    record {
-      frequency = s .frequency;
-      count = s .count;
-      clock = s .clock;
-      divisor = s .divisor;
-      running = s .running;
-      mode = s .mode;
-      gain = s .gain;
-      size = byte;
-      serial = s .serial;
-    }
+withSize byte s = settings (s .frequency) (s .count) (s .clock) (s .divisor) (s .running) (s .mode) (s .gain) byte (s .serial)

@@ -7,7 +7,7 @@ use native.Mathlib.Nat.{lt-irrefl, suc-mul}
 use native.Mathlib.Omega.{arith}
 use borrow.Author.Tests.{eq-eqb, ne-eqb}
 use lib.Dec.{eqb}
-use lib.ListN.{length, take, drop, length-take, length-drop}
+use lib.ListN.{take, drop}
 use lib.Seq.{drop-drop}
 use Rattle.reader.specs.declared.Heard.{Heard}
 use Rattle.reader.specs.declared.Reader.{Reader}
@@ -46,7 +46,3 @@ one-more zero total none = absurd (lt-irrefl 0 none)
 one-more (suc left) total some =
     let down : suc left - 1 ≡ left = omega arith in
     rw down (suc-mul left total)
-
--- how long the rest of a list is, as a part of it
-pub rest-long : (i : ℕ) (l : List ℕ) → length (take (length l - i) (drop i l)) ≡ length l - i
-rest-long i l = simp (length-take, length-drop) (omega arith)

@@ -4,11 +4,10 @@ use Prim.Native.Nat.{ℕ}
 use native.Mathlib.Omega.{arith}
 use mathlib.Core.Path.{_≡_, refl, sym, ap, _∙_}
 use mathlib.Core.Bool.{Bool, true, false}
-use mathlib.Core.List.{List, [], _∷_}
+use mathlib.Core.List.{List}
 use lib.Dec.{ltb}
 use lib.ListN.{length}
 use lib.Seq.{sets}
-use Rattle.wire.specs.Choice.{pick, Check, firstOf}
 use Rattle.wire.specs.Number.{field}
 use Rattle.wire.specs.Header.{typeIn, lengthIn}
 use Rattle.framing.specs.Framing.{Taking, between}
@@ -20,7 +19,7 @@ use Rattle.answers.specs.Replies.{refused as refusedAnswer}
 use Rattle.station.specs.declared.Station.{Station}
 use Rattle.station.specs.declared.Fed.{Fed}
 use Rattle.station.specs.Feeding.{messageIn, refused, answered, answering}
-use Rattle.items.proofs.Judging.{otherThan}
+use Rattle.wire.proofs.Checks.{not-given}
 
 -- the header split into type and length is the message's
 pub message-is : (t : Taking) (header type size : ℕ) → header ≡ field 0 2 (t .store .held) → type ≡ typeIn header → size ≡ lengthIn header
@@ -28,37 +27,9 @@ pub message-is : (t : Taking) (header type size : ℕ) → header ≡ field 0 2 
 message-is t header type size h a b = rw (a, b, h)
 
 -- a message's own code is never 20
-never : (cs : List Check) (n m : ℕ) → otherThan m cs → (n ≡ m → ⊥) → firstOf cs n ≡ m → ⊥
-never [] n m o h e = h e
-never (c ∷ cs) n m o h e = go (λ r. never cs n m (o .1) h r) (c .holds) e
-  where
-    go : (firstOf cs n ≡ m → ⊥) → (b : Bool) → pick b (c .code) (firstOf cs n) ≡ m → ⊥
-    go rest true q = o .0 q
-    go rest false q = rest q
-
 not-20 : (s : Settings) (m : Message) → codeOf s m ≡ 20 → ⊥
 unfolding codeOf
-not-20 s m e =
-    never (checks s m) 1 20 (
-      (λ q. omega arith),
-      (
-        (λ q. omega arith),
-        (
-          (λ q. omega arith),
-          (
-            (λ q. omega arith),
-            (
-              (λ q. omega arith),
-              (
-                (λ q. omega arith),
-                ((λ q. omega arith), ((λ q. omega arith), ((λ q. omega arith), tt))),
-              ),
-            ),
-          ),
-        ),
-      ),
-    )
-    (λ q. omega arith) e
+not-20 s m e = not-given (checks s m) 1 20 refl (λ q. omega arith) e
 
 module _ (s : Station) (t : Taking) (l after : List ℕ) (r : Answered) (m : Message)
     (same : m ≡ messageIn (t .store))

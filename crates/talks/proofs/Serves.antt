@@ -4,12 +4,12 @@ use Prim.Native.Nat.{ℕ, zero, suc, _+_, _-_, _≤_, _<_}
 use mathlib.Core.Path.{_≡_, refl, ap, _∙_}
 use mathlib.Core.Bool.{not}
 use mathlib.Core.List.{List, [], _++_}
-use native.Mathlib.Nat.{lt-irrefl, le-refl}
+use native.Mathlib.Nat.{lt-irrefl}
 use native.Mathlib.Omega.{arith}
 use borrow.Author.Tests.{eq-eqb, ne-eqb, lt-ltb, le-ltb, ltb-false}
 use lib.Dec.{eqb, ltb}
-use lib.ListN.{length, take, drop, length-append, length-take, length-drop}
-use lib.Seq.{sets, length-sets, take-all, drop-drop}
+use lib.ListN.{length, drop, length-append, length-drop}
+use lib.Seq.{sets, length-sets, drop-drop}
 use Rattle.wire.proofs.Laws.{pick-keeps, pick-same}
 use Rattle.wire.proofs.Stores.{sets-append}
 use Rattle.framing.specs.Framing.{Taking, taken, finished}
@@ -67,13 +67,6 @@ one-call zero room s host f is none more roomy = absurd (lt-irrefl 0 none)
 one-call (suc left) room s host f is some more roomy =
     let down : suc left - 1 ≡ left = omega arith in
     rw (down, is, ne-eqb (length host) 0 (omega arith), le-ltb room 64 roomy)
-
--- the rest of a list, as a part of it
-pub rest-part : (i : ℕ) (l : List ℕ) → take (length l - i) (drop i l) ≡ drop i l
-rest-part i l = take-all (length l - i) (drop i l) (simp length-drop (le-refl _))
-
-pub rest-long : (i : ℕ) (l : List ℕ) → length (take (length l - i) (drop i l)) ≡ length l - i
-rest-long i l = simp (length-take, length-drop) (omega arith)
 
 -- Serving in its midst: what is left to serve, written from the present place on, gives the whole.
 pub record Going (host whole replies : List ℕ) (s : Station) (i at left : ℕ) : Type 0 where

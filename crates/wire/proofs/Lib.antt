@@ -3,3 +3,4 @@ pub mod Stores
 pub mod Numbers
 pub mod Headers
 pub mod Signed
+pub mod Checks

@@ -1,10 +1,10 @@
 -- Laws of `sets`, the run of stores that the contracts speak of.
-use Prim.Native.Nat.{ℕ, suc, _+_, _≤_}
+use Prim.Native.Nat.{ℕ, suc, _+_, _-_, _≤_}
 use mathlib.Core.Path.{_≡_, refl, sym, ap, _∙_}
 use mathlib.Core.List.{List, [], _∷_, _++_, append-assoc, append-nil}
-use native.Mathlib.Nat.{add-zero, add-suc}
+use native.Mathlib.Nat.{add-zero, add-suc, le-refl}
 use native.Mathlib.Omega.{arith}
-use lib.ListN.{length, set, take, drop, length-drop, take-append-drop, drop-of-length-le}
+use lib.ListN.{length, set, take, drop, length-take, length-drop, take-append-drop, drop-of-length-le}
 use lib.Seq.{sets, sets-eq, set-out, take-set-le, drop-set-lt, drop-set-add, take-all, take-append-seam, drop-at, length-take-le}
 use borrow.Rule.Slice.PartMut.{midOf, putMid}
 
@@ -61,3 +61,10 @@ module _ {A : Type 0} where
       let part : sets (drop a s) 0 vs ≡ drop a (sets s a vs) = sym (rw (add-zero a) at (drop-sets-add a s 0 vs)) in
       rw (take-all k (drop a s) short, drop-of-length-le (drop a s) short, append-nil (sets (drop a s) 0 vs), part, ← take-sets a s a vs (omega arith))
       (take-append-drop a (sets s a vs))
+
+-- the rest of a list, as a part of it
+pub rest-part : (i : ℕ) (l : List ℕ) → take (length l - i) (drop i l) ≡ drop i l
+rest-part i l = take-all (length l - i) (drop i l) (simp length-drop (le-refl _))
+
+pub rest-long : (i : ℕ) (l : List ℕ) → length (take (length l - i) (drop i l)) ≡ length l - i
+rest-long i l = simp (length-take, length-drop) (omega arith)

@@ -7,11 +7,11 @@ use borrow.Author.Needs.{needs}
 use borrow.Rule.Slice.PartMut.{putMid}
 use lib.ListN.{length, take, drop}
 use lib.Seq.{sets}
-use Rattle.wire.proofs.Stores.{part-sets}
+use Rattle.wire.proofs.Stores.{part-sets, rest-long}
 use Rattle.cutting.specs.declared.Cut.{Cut}
 use Rattle.cutting.specs.Cutting.{Cutting, cuttingOf}
 use Rattle.runs.specs.Cutting.{ran}
-use Rattle.runs.proofs.Turns.{one-more, rest-long}
+use Rattle.runs.proofs.Turns.{one-more}
 use Rattle.runs.proofs.Cuts.{none-cut, Under, no-samples, no-bytes, begins, over, refused, turns}
 use Rattle.runs.proofs.skvornela_cut_run.Statement.{statement}
 use Rattle.runs.proofs.skvornela_cut_run.Tie as tie

@@ -6,11 +6,11 @@ use mathlib.Core.Path.{_≡_, refl, ap, _∙_}
 use mathlib.Core.List.{List}
 use borrow.Rule.Slice.PartMut.{putMid}
 use lib.Seq.{sets}
-use Rattle.wire.proofs.Stores.{part-sets}
+use Rattle.wire.proofs.Stores.{part-sets, rest-part, rest-long}
 use Rattle.station.specs.declared.Fed.{Fed}
 use lib.ListN.{length, drop, length-drop}
 use Rattle.station.specs.Feeding.{Feeding, feedingOf}
-use Rattle.talks.proofs.Serves.{Within, feeding-within, Going, none-left, none-more, no-room, rest-part, rest-long, begins, ends, turns}
+use Rattle.talks.proofs.Serves.{Within, feeding-within, Going, none-left, none-more, no-room, begins, ends, turns}
 use Rattle.talks.proofs.skvornela_serve.Statement.{statement}
 use Rattle.talks.proofs.skvornela_serve.Tie as tie
 

@@ -1,12 +1,11 @@
 -- Header, table and item decide in turn; what the first of them refuses keeps its code and every setting.
 use Prim.Native.Nat.{ℕ, _-_}
-use native.Mathlib.Nat.{le-refl}
 use mathlib.Core.Path.{_≡_, sym, ap, _∙_}
 use mathlib.Core.List.{List}
 use denote.Ref.{now}
-use lib.ListN.{length, getD, take, drop, length-drop}
-use lib.Seq.{take-all}
+use lib.ListN.{getD}
 use Rattle.wire.specs.Choice.{firstOf}
+use Rattle.wire.proofs.Stores.{rest-part}
 use Rattle.items.specs.Header.{headerChecks}
 use Rattle.items.specs.Table.{tableChecks}
 use Rattle.items.specs.Items.{rowOf}
@@ -21,10 +20,6 @@ shared-slice-read-header-code c = search needs
 
 header-code-requires : tie.Need-header-code-requires
 header-code-requires c κs = search needs
-
--- the part that starts at byte four
-part : (held : List ℕ) → take (length held - 4) (drop 4 held) ≡ drop 4 held
-part held = take-all (length held - 4) (drop 4 held) (simp length-drop (le-refl _))
 
 -- the message that is judged
 abbrev message : tie.Start → Message
@@ -76,7 +71,7 @@ returns-3 c =
     let d = c .before .before .before in
     let a = d .before .before .before .before .before .before .before in
     c .set-item .ensures
-    ∙ ap (λ (p : List ℕ). setBy (rowOf (d .before .before .item-in .result)) (a .args .s) p) (part (now (a .args .opening)))
+    ∙ ap (λ (p : List ℕ). setBy (rowOf (d .before .before .item-in .result)) (a .args .s) p) (rest-part 4 (now (a .args .opening)))
     ∙ ap (λ (n : ℕ). setBy (rowOf n) (a .args .s) (parameters (message a))) (d .before .before .item-in .ensures)
     ∙ set-judged (a .args .s) (message a) (c .before .before .if3 .taken)
     (by-item (a .args .s) (message a) (header-passed (d .before .before .before)) (table-passed d))
@@ -99,7 +94,7 @@ returns-4 c =
     let a = d .before .before .before .before .before .before .before in
     ap (λ (n : ℕ). record { code = n; settings = a .args .s })
     (c .asked-code .ensures
-    ∙ ap (λ (p : List ℕ). askedBy (rowOf (d .before .before .item-in .result)) p) (part (now (a .args .opening)))
+    ∙ ap (λ (p : List ℕ). askedBy (rowOf (d .before .before .item-in .result)) p) (rest-part 4 (now (a .args .opening)))
     ∙ ap (λ (n : ℕ). askedBy (rowOf n) (parameters (message a))) (d .before .before .item-in .ensures))
     ∙ asked-judged (a .args .s) (message a) (c .before .before .if3 .left)
     (by-item (a .args .s) (message a) (header-passed (d .before .before .before)) (table-passed d))

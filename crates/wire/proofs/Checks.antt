@@ -1,0 +1,69 @@
+-- Laws of a table of codes: "Each code is given exactly on its condition, earlier ones absent."
+use Prim.Native.Nat.{ℕ}
+use mathlib.Core.Path.{_≡_, refl}
+use mathlib.Core.Bool.{Bool, true, false, _&&_, not}
+use mathlib.Core.List.{List, [], _∷_, _++_}
+use borrow.Author.Tests.{eqb-false, not-true}
+use lib.Dec.{eqb}
+use Rattle.wire.specs.Choice.{pick, Check, firstOf}
+use Rattle.wire.proofs.Laws.{and-left, and-right}
+
+-- no check of the list holds
+abbrev pub Absent : List Check → Type 0
+Absent [] = Unit {0}
+Absent (c ∷ cs) = (c .holds ≡ false) × Absent cs
+
+-- no check of the list has this code: of codes written as numbers it computes
+abbrev pub differ : ℕ → List Check → Bool
+differ n [] = true
+differ n (c ∷ cs) = not (eqb (c .code) n) && differ n cs
+
+other-first : (n : ℕ) (c : Check) (cs : List Check) → differ n (c ∷ cs) ≡ true → c .code ≡ n → ⊥
+other-first n c cs d = eqb-false (c .code) n (not-true _ (and-left (not (eqb (c .code) n)) (differ n cs) d))
+
+others-later : (n : ℕ) (c : Check) (cs : List Check) → differ n (c ∷ cs) ≡ true → differ n cs ≡ true
+others-later n c cs d = and-right (not (eqb (c .code) n)) (differ n cs) d
+
+-- where none holds, the answer is the other one
+pub clear : (cs : List Check) (n : ℕ) → Absent cs → firstOf cs n ≡ n
+clear [] n a = refl
+clear (c ∷ cs) n a = rw (a .0) (clear cs n (a .1))
+
+-- where the answer is the other one, none holds
+pub absent : (cs : List Check) (n : ℕ) → differ n cs ≡ true → firstOf cs n ≡ n → Absent cs
+absent [] n d h = tt
+absent (c ∷ cs) n d h = go (c .holds) refl h (absent cs n (others-later n c cs d))
+  where
+    go : (b : Bool) → c .holds ≡ b → pick b (c .code) (firstOf cs n) ≡ n → (firstOf cs n ≡ n → Absent cs)
+        → (c .holds ≡ false) × Absent cs
+    go true q e later = absurd (other-first n c cs d e)
+    go false q e later = (q, later e)
+
+-- a code that no check has is not given
+pub not-given : (cs : List Check) (n m : ℕ) → differ m cs ≡ true → (n ≡ m → ⊥) → firstOf cs n ≡ m → ⊥
+not-given [] n m d other h = other h
+not-given (c ∷ cs) n m d other h = go (c .holds) h (not-given cs n m (others-later m c cs d) other)
+  where
+    go : (b : Bool) → pick b (c .code) (firstOf cs n) ≡ m → (firstOf cs n ≡ m → ⊥) → ⊥
+    go true e later = other-first m c cs d e
+    go false e later = later e
+
+-- a check that holds decides, whatever follows
+pub first-stops : (cs ds : List Check) (n : ℕ) → (firstOf cs n ≡ n → ⊥) → firstOf (cs ++ ds) n ≡ firstOf cs n
+first-stops [] ds n h = absurd (h refl)
+first-stops (c ∷ cs) ds n h = go (c .holds) h (first-stops cs ds n)
+  where
+    go : (b : Bool) → (pick b (c .code) (firstOf cs n) ≡ n → ⊥) → ((firstOf cs n ≡ n → ⊥) → firstOf (cs ++ ds) n ≡ firstOf cs n)
+        → pick b (c .code) (firstOf (cs ++ ds) n) ≡ pick b (c .code) (firstOf cs n)
+    go true h more = refl
+    go false h more = more h
+
+-- where none holds, what follows decides
+pub first-goes-on : (cs ds : List Check) (n : ℕ) → differ n cs ≡ true → firstOf cs n ≡ n → firstOf (cs ++ ds) n ≡ firstOf ds n
+first-goes-on [] ds n d h = refl
+first-goes-on (c ∷ cs) ds n d h = go (c .holds) h (first-goes-on cs ds n (others-later n c cs d))
+  where
+    go : (b : Bool) → pick b (c .code) (firstOf cs n) ≡ n → (firstOf cs n ≡ n → firstOf (cs ++ ds) n ≡ firstOf ds n)
+        → pick b (c .code) (firstOf (cs ++ ds) n) ≡ firstOf ds n
+    go true h more = absurd (other-first n c cs d h)
+    go false h more = more h
