@@ -18,7 +18,7 @@ use Rattle.items.specs.Answer.{replyOf, settingsAfter}
 use Rattle.station.specs.declared.Station.{Station}
 use Rattle.station.specs.Station.{valid, freshStation}
 use Rattle.station.specs.Feeding.{feedingOf, messageIn, refused, waiting, answered}
-use Rattle.items.proofs.Judging.{accepted, otherThan}
+use Rattle.wire.proofs.Checks.{absent}
 use Rattle.station.proofs.Kept.{ranges, in-range, message-keeps}
 use Rattle.framing.proofs.Cutting.{told, taken-left}
 use Rattle.framing.proofs.Leaving.{between-left}
@@ -66,14 +66,10 @@ counted s h less =
       serial = r .serial;
     })
 
-cut-refusals : (s : Station) (samples : List ℤ) (room : ℕ) → otherThan 1 (cutChecks s samples room)
-cut-refusals s samples room =
-    ((λ e. omega arith), ((λ e. omega arith), ((λ e. omega arith), ((λ e. omega arith), ((λ e. omega arith), ((λ e. omega arith), tt))))))
-
 -- a cut that is done had room in the capture
 below-most : (s : Station) (samples : List ℤ) (room : ℕ) → cutCode s samples room ≡ 1 → leb most (s .settings .count) ≡ false
 unfolding cutCode
-below-most s samples room h = accepted (cutChecks s samples room) 1 (cut-refusals s samples room) h .1 .1 .0
+below-most s samples room h = absent (cutChecks s samples room) 1 refl h .1 .1 .0
 
 -- cutting from a valid box leaves a valid box
 pub cutting-keeps : (s : Station) (samples : List ℤ) (room : ℕ) → valid s ≡ true → valid (cuttingOf s samples room .cut .station) ≡ true

@@ -22,7 +22,8 @@ use Rattle.station.specs.declared.Station.{Station}
 use Rattle.station.specs.Station.{valid}
 use Rattle.station.specs.Feeding.{Feeding, feedingOf, fedBy, messageIn, waiting, answered, refused as refuses}
 use Rattle.cutting.specs.Cutting.{formNow, cutChecks, cutCode, cuttingOf, cutFrom, refused}
-use Rattle.positions.proofs.Tests.{never, absent}
+use Rattle.wire.proofs.Checks.{absent}
+use Rattle.positions.proofs.Tests.{never}
 
 -- What a cut that is not refused tells: the box is valid, the count below the most, the samples of the form's number.
 pub record Made (s : Station) (samples : List ℤ) : Type 0 where
@@ -35,7 +36,7 @@ pub record Made (s : Station) (samples : List ℤ) : Type 0 where
 made : (s : Station) (samples : List ℤ) (room : ℕ) → cutCode s samples room ≡ 1 → Made s samples
 unfolding cutCode
 made s samples room e =
-    let clear = absent (cutChecks s samples room) refl e in
+    let clear = absent (cutChecks s samples room) 1 refl e in
     record {
       sound = not-false (valid s) (clear .0);
       running = not-false (s .settings .running) (clear .1 .0);
@@ -188,7 +189,7 @@ rows-start =
 unlocked : (s : Settings) (m : Message) → codeOf s m ≡ 1 → m .type ≡ typeSet → s .running ≡ true → row m .locked s (parameters m) ≡ false
 unfolding codeOf
 unlocked s m e t r =
-    let clear = absent (checks s m) refl e in
+    let clear = absent (checks s m) 1 refl e in
     let free : refusedRunning (row m) (m .type) s (parameters m) ≡ false = clear .1 .1 .1 .1 .1 .1 .1 .1 .0 in
     and-rest (eqb (m .type) typeSet && s .running) (row m .locked s (parameters m)) free (and-both (eqb (m .type) typeSet) (s .running) (eq-eqb _ _ t) r)
 

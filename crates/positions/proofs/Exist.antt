@@ -14,7 +14,7 @@ use Rattle.framing.specs.Framing.{couldBeLeft, between}
 use Rattle.station.specs.declared.Station.{Station}
 use Rattle.station.specs.Station.{valid}
 use Rattle.cutting.specs.Cutting.{Cutting, cutChecks, cutCode, cuttingOf, cutFrom}
-use Rattle.reader.proofs.Checks.{clear}
+use Rattle.wire.proofs.Checks.{clear}
 use Rattle.positions.specs.Captures.{Cuts, ends, cuts, Capture}
 
 -- a running box of serial 00000000 that has cut k packets

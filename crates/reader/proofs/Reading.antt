@@ -16,7 +16,7 @@ use Rattle.packets.specs.Numbers.{numberAt, stepOf, numberIn}
 use Rattle.packets.proofs.Forms.{is-listed-form, Whole, whole-is, packet-is}
 use Rattle.reader.specs.declared.Reader.{Reader}
 use Rattle.reader.specs.Reading.{last, sound, positionAfter, readChecks, readCode, readingOf, heardAt, unheard, sampleBytesOf}
-use Rattle.reader.proofs.Checks.{clear}
+use Rattle.wire.proofs.Checks.{clear}
 
 -- a slice is a packet where the form found has pairs
 pub no-packet : (p : List ℕ) → wholeOf p .pairs ≡ 0 → isPacket p ≡ false
