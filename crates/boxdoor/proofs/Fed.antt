@@ -10,8 +10,8 @@ use Rattle.wire.specs.Choice.{pick}
 use Rattle.station.specs.declared.Began.{Began}
 use Rattle.station.specs.declared.Fed.{Fed}
 use Rattle.station.specs.declared.Station.{Station}
-use Rattle.station.specs.declared.Tuning.{Tuning}
-use Rattle.station.specs.Station.{freshBox, tuningOf}
+use Rattle.tuning.specs.Told.{Told}
+use Rattle.station.specs.Station.{freshBox, tuningTold}
 use Rattle.station.specs.Feeding.{feedingOf}
 use Rattle.boxdoor.specs.States.{stationIn, stationBytes}
 use Rattle.boxdoor.specs.Feeding.{fedOver, feedOver, repliedOver, freshOver, Tuned, tuned, tunedOver}
@@ -47,7 +47,7 @@ pub fresh-broken : (serial state : List ℕ) → (length state ≡ 108 → ⊥) 
 unfolding freshOver
 fresh-broken serial state other = rw (ne-eqb (length state) 108 other)
 
-pub word-whole : (state : List ℕ) (s : Station) (t : Tuning) {w : Tuned} → length state ≡ 108 → s ≡ stationIn state → t ≡ tuningOf s → w ≡ tuned t
+pub word-whole : (state : List ℕ) (s : Station) (t : Told) {w : Tuned} → length state ≡ 108 → s ≡ stationIn state → t ≡ tuningTold s → w ≡ tuned t
     → w ≡ tunedOver state
 unfolding tunedOver
 word-whole state s t long p q r = r ∙ rw (q, p, eq-eqb (length state) 108 long)

@@ -5,8 +5,8 @@ use lib.Dec.{eqb, ltb}
 use lib.ListN.{length}
 use Rattle.wire.specs.Choice.{pick}
 use Rattle.station.specs.declared.Fed.{Fed}
-use Rattle.station.specs.declared.Tuning.{Tuning}
-use Rattle.station.specs.Station.{freshBox, tuningOf, codeIn, valuesIn}
+use Rattle.tuning.specs.Told.{Told}
+use Rattle.station.specs.Station.{freshBox, tuningTold}
 use Rattle.station.specs.Feeding.{feedingOf}
 use Rattle.boxdoor.specs.States.{stationSize, stationIn, stationBytes}
 
@@ -57,9 +57,9 @@ abbrev pub firstOr0 : List ℕ → ℕ
 firstOr0 [] = 0
 firstOr0 (w ∷ ws) = w
 
-abbrev pub tuned : Tuning → Tuned
-tuned t = record { code = codeIn t; word = firstOr0 (valuesIn t) }
+abbrev pub tuned : Told → Tuned
+tuned t = record { code = t .code; word = firstOr0 (t .values) }
 
 unfoldable pub tunedOver : List ℕ → Tuned
 tunedOver state =
-    pick (eqb (length state) stationSize) (tuned (tuningOf (stationIn state))) (record { code = 21; word = 0 })
+    pick (eqb (length state) stationSize) (tuned (tuningTold (stationIn state))) (record { code = 21; word = 0 })

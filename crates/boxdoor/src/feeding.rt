@@ -3,6 +3,7 @@ use station::Tuning;
 ghost use mathlib.Core.Path.{_≡_};
 ghost use lib.ListN.{length};
 ghost use lib.Seq.{sets};
+ghost use Rattle.station.specs.Station.{told};
 ghost use Rattle.boxdoor.specs.Feeding.{feedOver, repliedOver, freshOver, tuned, tunedOver};
 
 // A fresh box with a serial, in 108 bytes. Answers the code.
@@ -53,7 +54,7 @@ struct Tuned {
 }
 
 fn tuned_by(t: Tuning) -> Tuned
-    ensures { λ r. ⌜ record { code = r .code; word = r .word } ≡ tuned t ⌝ }
+    ensures { λ r. ⌜ record { code = r .code; word = r .word } ≡ tuned (told t) ⌝ }
 {
     match t {
         Tuning::Word(w) => Tuned { code: 1, word: w },

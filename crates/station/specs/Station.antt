@@ -3,6 +3,7 @@ use Prim.Native.Nat.{ℕ}
 use mathlib.Core.Bool.{Bool, _&&_}
 use mathlib.Core.List.{List, [], _∷_}
 use Rattle.wire.specs.Choice.{pick}
+use Rattle.tuning.specs.Told.{Told, tells}
 use Rattle.tuning.specs.Word.{wordOf}
 use Rattle.framing.specs.Framing.{between, couldBeLeft}
 use Rattle.items.specs.Settings.{inRange, freshOf, freshAnswer}
@@ -23,18 +24,14 @@ freshBox serial =
       station = record { settings = freshAnswer serial .settings; store = between };
     }
 
+-- what an answer tells, in the numbers of "What comes back": 1 and the word, or 21
+abbrev pub told : Tuning → Told
+told (Word w) = tells 1 (w ∷ [])
+told Broken = tells 21 []
+
 -- The tuning word: "it is worked out when asked". A broken box has none.
-unfoldable pub tuningOf : Station → Tuning
-tuningOf s = pick (valid s) (Word (wordOf (s .settings .frequency) (s .settings .clock))) Broken
-
--- what the answer tells in the numbers of "What comes back": 1 and the word, or 21
-abbrev pub codeIn : Tuning → ℕ
-codeIn (Word w) = 1
-codeIn Broken = 21
-
-abbrev pub valuesIn : Tuning → List ℕ
-valuesIn (Word w) = w ∷ []
-valuesIn Broken = []
+unfoldable pub tuningTold : Station → Told
+tuningTold s = pick (valid s) (tells 1 (wordOf (s .settings .frequency) (s .settings .clock) ∷ [])) (tells 21 [])
 
 -- a fresh box, between messages
 abbrev pub freshStation : List ℕ → Station

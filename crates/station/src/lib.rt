@@ -3,7 +3,7 @@ mod feeding; // feeding.rt: one call of feeding
 
 pub use feeding::feed;
 ghost use mathlib.Core.Path.{_≡_};
-ghost use Rattle.station.specs.Station.{valid, freshBox, tuningOf};
+ghost use Rattle.station.specs.Station.{valid, freshBox, told, tuningTold};
 use framing::Store;
 use items::Settings;
 
@@ -64,7 +64,7 @@ pub fn is_valid(s: Station) -> bool
 
 // The tuning word, worked out when asked.
 pub fn tuning_word(s: Station) -> Tuning
-    ensures { λ r. ⌜ r ≡ tuningOf s ⌝ }
+    ensures { λ r. ⌜ told r ≡ tuningTold s ⌝ }
 {
     if !is_valid(s) {
         return Tuning::Broken;

@@ -5,7 +5,7 @@ use mathlib.Core.Bool.{true}
 use borrow.Author.Tests.{not-true, not-false}
 use borrow.Author.Needs.{needs}
 use Rattle.tuning.specs.Word as tuning
-use Rattle.station.specs.Station.{valid, tuningOf}
+use Rattle.station.specs.Station.{valid, tuningTold}
 use Rattle.station.proofs.Words.{word-told, never-without}
 use Rattle.station.proofs.tuning_word.Statement.{statement}
 use Rattle.station.proofs.tuning_word.Tie as tie
@@ -17,7 +17,7 @@ is-valid-requires : tie.Need-is-valid-requires
 is-valid-requires c κs = search needs
 
 returns : tie.Need-returns
-unfolding tuningOf
+unfolding tuningTold
 returns c = rw (← c .before .is-valid .ensures, not-true (c .before .is-valid .result) (c .if1 .taken))
 
 word-of-requires : tie.Need-word-of-requires
