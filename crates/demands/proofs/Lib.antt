@@ -5,3 +5,4 @@ pub mod Packed
 pub mod Reached
 pub mod Shown
 pub mod ShownFed
+pub mod Refused

@@ -120,7 +120,7 @@ leave = (
   ),
 )
 
--- "other items are unchanged": a set of one item, whatever its parameters, leaves the value of every other, but for the status
+-- Other items are unchanged: a set of one item, whatever its parameters, leaves the value of every other, but for the status
 -- where the state is set
 pub others-unchanged : (a b : ℕ) → touches a b ≡ false → (s : Settings) (p q : List ℕ)
     → rowOf b .value (rowOf a .stored s p) q ≡ rowOf b .value s q
@@ -309,7 +309,7 @@ unfolding replyOf
 answered-alike s t q asked same =
     rw (asked-leaves t q asked, asked-leaves s q asked, asked-alike s t q asked, asked, same (parameters q))
 
--- "other items are unchanged": whatever messages come, a request of an item that none of them changes is answered as before
+-- Other items are unchanged: whatever messages come, a request of an item that none of them changes is answered as before
 pub same-answer : (s : Settings) (ms : List Message) (q : Message) → q .type ≡ typeRequest → noneChanges (itemIn q) s ms
     → replyOf (afterAll s ms) q ≡ replyOf s q
 same-answer s ms q asked none = answered-alike s (afterAll s ms) q asked (messages-leave (itemIn q) s ms none)

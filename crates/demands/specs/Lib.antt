@@ -3,3 +3,4 @@ pub mod Asked
 pub mod Packed
 pub mod Reached
 pub mod Shown
+pub mod Refused

@@ -60,7 +60,7 @@ shownIn (l ∷ ls) code s p = pick (eqb code (l .code)) (l .shown s p) (shownIn 
 unfoldable pub shownBy : ℕ → Settings → List ℕ → List ℕ
 shownBy code s p = shownIn lines code s p
 
--- "the value set": the same of a message
+-- the same of a message: the value that it set
 abbrev pub valueSet : Settings → Message → List ℕ
 valueSet s m = shownBy (itemIn m) s (parameters m)
 

@@ -63,6 +63,10 @@ count-least = taking-by (λ n s host t. n ≤ t .count) (λ n s. omega arith) (�
 pub count-most : (n : ℕ) (s : Store) (host : List ℕ) → taking n s host .count ≤ n + length host
 count-most = taking-by (λ n s host t. t .count ≤ n + length host) (λ n s. omega arith) (λ n s b bs f. omega arith) (λ n s b bs t f ih. omega arith)
 
+-- of a message that is not finished at least one byte is taken, where there is one
+pub count-some : (s : Store) (b : ℕ) (bs : List ℕ) → finished s ≡ false → 1 ≤ taken s (b ∷ bs) .count
+count-some s b bs f = rw (taking-on 0 s b bs f) (count-least 1 (pushed s b) bs)
+
 -- a call that does not finish the message has taken all its bytes
 pub count-all : (n : ℕ) (s : Store) (host : List ℕ) → taking n s host .finished ≡ false → taking n s host .count ≡ n + length host
 count-all =

@@ -1,4 +1,5 @@
--- A capture's packets as they come.
+-- A capture's packets as they come, byte by byte. What 01 says of the whole input stands in spans/specs/Report; `report-is`
+-- (spans/proofs/Inputs) ties the two.
 use Prim.Native.Nat.{ℕ, _+_, _*_, _%_}
 use mathlib.Core.Bool.{Bool, _&&_, not}
 use mathlib.Core.List.{List, [], _∷_}
@@ -29,7 +30,7 @@ inRange t =
 
 -- ---- one byte
 
--- the number of a low byte and a high byte. (What is no byte counts with its last eight bits.)
+-- the number of a low byte and a high byte. (Of a low byte that is none its last eight bits count.)
 abbrev pub joined : ℕ → ℕ → ℕ
 joined low high = low % 256 + 256 * high
 

@@ -14,7 +14,8 @@ use Rattle.items.specs.Items.{Channels, noChannel, anyChannel, zeroAndAl
 use Rattle.items.specs.Header.{headerChecks}
 use Rattle.items.specs.Table.{tableChecks}
 
--- A finished message: its type, its length as the header has it, and its first 64 bytes.
+-- A finished message: its type, its length as the header has it, and its first bytes: the 64 that are held, or the ten of
+-- them that decide (TenBytes in proofs/).
 pub record Message : Type 0 where
   pub type : ℕ
   pub size : ℕ

@@ -1,4 +1,5 @@
--- The lines that are due at one moment, and what writing them answers.
+-- The lines that are due at one moment, and what writing them answers. What 01 says of the whole input stands in
+-- spans/specs/Report.
 use Prim.Native.Nat.{ℕ}
 use mathlib.Core.Bool.{Bool, _&&_, not}
 use mathlib.Core.List.{List, [], _∷_, _++_}

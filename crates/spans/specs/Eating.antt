@@ -1,4 +1,5 @@
--- A span takes the input in pieces: what one call does with a piece, and what the end of the input brings.
+-- A span takes the input in pieces: what one call does with a piece, and what the end of the input brings. What 01 says of
+-- the whole input stands in Report; `report-is` (proofs/Inputs) ties the two.
 use Prim.Native.Nat.{ℕ, _+_, _-_, min}
 use mathlib.Core.Bool.{Bool, false, _&&_, _||_, not}
 use mathlib.Core.List.{List, [], _∷_, _++_}

@@ -84,16 +84,16 @@ next-view room r host enough g = go (taken (r .store) host .finished) refl
         rw (feeding-waiting (r .state .settings) (r .store) host room (good-valid r g) (told 0 (r .store) host ∙ f))
         (refl, refl)
 
-calling-view : (room calls : ℕ) (r : Stream Told) (host : List ℕ) → 64 ≤ room → Good r
-    → (calling room calls (view r) host ≡ view (stream.calling answer calls r host)) × Good (stream.calling answer calls r host)
+calling-view : (rooms : ℕ → ℕ) (calls : ℕ) (r : Stream Told) (host : List ℕ) → ((n : ℕ) → 64 ≤ rooms n) → Good r
+    → (calling rooms calls (view r) host ≡ view (stream.calling answer calls r host)) × Good (stream.calling answer calls r host)
 unfolding calling stream.calling
-calling-view room zero r host enough g = (refl, g)
-calling-view room (suc calls) r [] enough g = (refl, g)
-calling-view room (suc calls) r (b ∷ bs) enough g =
-    let here = next-view room r (b ∷ bs) enough g in
-    let rest = calling-view room calls (next r (b ∷ bs)) (drop (taken (r .store) (b ∷ bs) .count) (b ∷ bs)) enough (next-good r (b ∷ bs) g) in (
-      ap (λ (x : Served). calling room calls x (drop (feedingOf (view r .station) (b ∷ bs) room .fed .consumed) (b ∷ bs))) (here .0)
-          ∙ ap (λ (n : ℕ). calling room calls (view (next r (b ∷ bs))) (drop n (b ∷ bs))) (here .1)
+calling-view rooms zero r host enough g = (refl, g)
+calling-view rooms (suc calls) r [] enough g = (refl, g)
+calling-view rooms (suc calls) r (b ∷ bs) enough g =
+    let here = next-view (rooms calls) r (b ∷ bs) (enough calls) g in
+    let rest = calling-view rooms calls (next r (b ∷ bs)) (drop (taken (r .store) (b ∷ bs) .count) (b ∷ bs)) enough (next-good r (b ∷ bs) g) in (
+      ap (λ (x : Served). calling rooms calls x (drop (feedingOf (view r .station) (b ∷ bs) (rooms calls) .fed .consumed) (b ∷ bs))) (here .0)
+          ∙ ap (λ (n : ℕ). calling rooms calls (view (next r (b ∷ bs))) (drop n (b ∷ bs))) (here .1)
           ∙ rest .0,
       rest .1,
     )
@@ -106,7 +106,7 @@ serving-view : (r : Stream Told) (ps : List Piece) → roomy ps → Good r → s
 unfolding serving stream.handing
 serving-view r [] enough g = refl
 serving-view r (p ∷ ps) enough g =
-    let here = calling-view (p .room) (length (p .host)) r (p .host) (enough .0) g in
+    let here = calling-view (p .rooms) (length (p .host)) r (p .host) (enough .0) g in
     ap (λ (x : Served). serving x ps) (here .0)
     ∙ serving-view (stream.calling answer (length (p .host)) r (p .host)) ps (enough .1) (here .1)
 

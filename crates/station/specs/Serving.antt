@@ -29,23 +29,24 @@ called room r host =
       replies = noting (r .replies) (feedingOf (r .station) host room .bytes);
     }
 
--- "calling again until the bytes are used up". Each call on a valid box consumes a byte, so as many calls as there are
--- bytes are enough.
-unfoldable pub calling : ℕ → ℕ → Served → List ℕ → Served
-calling room zero r host = r
-calling room (suc calls) r [] = r
-calling room (suc calls) r (b ∷ bs) =
-    calling room calls (called room r (b ∷ bs)) (drop (feedingOf (r .station) (b ∷ bs) room .fed .consumed) (b ∷ bs))
+-- "calling again until the bytes are used up". Each call on a valid box consumes a byte (framing/proofs/Cutting:
+-- `count-some`), so as many calls as there are bytes are enough. `rooms` has the room of each call, by how many may follow.
+unfoldable pub calling : (ℕ → ℕ) → ℕ → Served → List ℕ → Served
+calling rooms zero r host = r
+calling rooms (suc calls) r [] = r
+calling rooms (suc calls) r (b ∷ bs) =
+    calling rooms calls (called (rooms calls) r (b ∷ bs))
+    (drop (feedingOf (r .station) (b ∷ bs) (rooms calls) .fed .consumed) (b ∷ bs))
 
--- a piece of the host's bytes, and the room for each reply while it is handed over
+-- a piece of the host's bytes, and the room that each call has while it is handed over
 pub record Piece : Type 0 where
-  pub room : ℕ
+  pub rooms : ℕ → ℕ
   pub host : List ℕ
 
 -- one piece after the other
 unfoldable pub serving : Served → List Piece → Served
 serving r [] = r
-serving r (p ∷ ps) = serving (calling (p .room) (length (p .host)) r (p .host)) ps
+serving r (p ∷ ps) = serving (calling (p .rooms) (length (p .host)) r (p .host)) ps
 
 -- the host's bytes, however they were cut
 abbrev pub joined : List Piece → List ℕ
@@ -55,7 +56,7 @@ joined (p ∷ ps) = p .host ++ joined ps
 -- "reply buffers of 64 bytes or more"
 abbrev pub roomy : List Piece → Type 0
 roomy [] = Unit {0}
-roomy (p ∷ ps) = (64 ≤ p .room) × roomy ps
+roomy (p ∷ ps) = ((calls : ℕ) → 64 ≤ p .rooms calls) × roomy ps
 
 -- what the type of a box says of its two arrays
 pub record Whole (s : Station) : Type 0 where

@@ -1,12 +1,12 @@
 -- Laws of a table of codes: "Each code is given exactly on its condition, earlier ones absent."
-use Prim.Native.Nat.{ℕ}
+use Prim.Native.Nat.{ℕ, _<_}
 use mathlib.Core.Path.{_≡_, refl}
 use mathlib.Core.Bool.{Bool, true, false, _&&_, not}
 use mathlib.Core.List.{List, [], _∷_, _++_}
-use borrow.Author.Tests.{eqb-false, not-true}
-use lib.Dec.{eqb}
+use borrow.Author.Tests.{eqb-false, ltb-true, not-true}
+use lib.Dec.{eqb, ltb}
 use Rattle.wire.specs.Choice.{pick, Check, firstOf}
-use Rattle.wire.proofs.Laws.{and-left, and-right}
+use Rattle.wire.proofs.Laws.{and-left, and-right, pick-keeps}
 
 -- no check of the list holds
 abbrev pub Absent : List Check → Type 0
@@ -67,3 +67,15 @@ first-goes-on (c ∷ cs) ds n d h = go (c .holds) h (first-goes-on cs ds n (othe
         → pick b (c .code) (firstOf (cs ++ ds) n) ≡ firstOf ds n
     go true h more = absurd (other-first n c cs d h)
     go false h more = more h
+
+-- every check of the list has a code below this number: of codes written as numbers it computes
+abbrev pub below : ℕ → List Check → Bool
+below k [] = true
+below k (c ∷ cs) = ltb (c .code) k && below k cs
+
+pub given-below : (k : ℕ) (cs : List Check) (n : ℕ) → below k cs ≡ true → n < k → firstOf cs n < k
+given-below k [] n b less = less
+given-below k (c ∷ cs) n b less =
+    pick-keeps (λ (m : ℕ). m < k) (c .holds) (c .code) (firstOf cs n)
+    (λ e. ltb-true (c .code) k (and-left (ltb (c .code) k) (below k cs) b))
+    (λ e. given-below k cs n (and-right (ltb (c .code) k) (below k cs) b) less)

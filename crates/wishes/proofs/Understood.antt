@@ -140,7 +140,7 @@ taken-granted AskRate s e = refl
 taken-granted (SetPacketSize n) s e = ap (λ (n : ℕ). withSize n s) (mod-eq-of-lt (value-fits (SetPacketSize n) e))
 taken-granted AskPacketSize s e = refl
 
--- "sets exactly that value": what an allowed wish leaves of the settings
+-- What an allowed wish leaves of the settings
 pub settings-of-wish : (w : Wish) (s : Settings) → allowed w ≡ true → settingsAfter s (asMessage w) ≡ pick (notNow w s) s (granted w s)
 unfolding settingsAfter
 settings-of-wish w s e = rw (code-of-wish w s e, row-of-wish w) (by (notNow w s))
