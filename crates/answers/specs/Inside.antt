@@ -6,6 +6,7 @@ use mathlib.Core.List.{List, [], _∷_}
 use lib.Dec.{eqb, ltb}
 use lib.ListN.{length}
 use Rattle.wire.specs.Choice.{pick}
+use Rattle.wire.specs.Codes as Code
 use Rattle.wire.specs.Header.{nak, typeReply}
 use Rattle.layouts.specs.declared.Layout.{Layout}
 use Rattle.items.specs.declared.Settings.{Settings}
@@ -28,4 +29,4 @@ echoing item echo width value = record { kind = typeReply; item = item; echoed =
 
 -- what is due for a code other than 2: the reply to an accepted message, NAK for a refusal
 abbrev pub due : ℕ → ℕ → ℕ → ℕ → Settings → List ℕ
-due code kind item echo s = pick (eqb code 1) (replyTo (rowOf item) kind s (echo ∷ [])) nak
+due code kind item echo s = pick (eqb code Code.done) (replyTo (rowOf item) kind s (echo ∷ [])) nak

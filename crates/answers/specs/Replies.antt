@@ -4,6 +4,7 @@ use mathlib.Core.List.{List, []}
 use lib.Dec.{ltb}
 use lib.ListN.{length}
 use Rattle.wire.specs.Choice.{pick}
+use Rattle.wire.specs.Codes as Code
 use Rattle.items.specs.declared.Settings.{Settings}
 use Rattle.items.specs.Answer.{Message, codeOf, settingsAfter, replyOf}
 use Rattle.answers.specs.declared.Answered.{Answered}
@@ -25,4 +26,4 @@ replied s m =
     }
 
 unfoldable pub answerOf : Settings → Message → ℕ → Answering
-answerOf s m room = pick (ltb room (length (replyOf s m))) (refused 20 s) (replied s m)
+answerOf s m room = pick (ltb room (length (replyOf s m))) (refused Code.noRoom s) (replied s m)

@@ -8,6 +8,7 @@ mod value; // value.rt: the reply that shows an item's current value
 mod writing; // writing.rt: what is written for a code
 
 use items::Settings;
+use wire::codes;
 
 // What one finished message came to: its code, how much was written at the start of the reply buffer, and the settings
 // after it.
@@ -25,9 +26,9 @@ pub fn answer(s: Settings, kind: u8, size: u16, opening: &[u8; 10], reply: &mut 
     let judged = judging::judge(s, kind, size, opening);
     let code = judged.code;
     let after = judged.settings;
-    if code == 2 {
+    if code == codes::NO_REPLY_DUE {
         return Answered {
-            code: 2,
+            code: codes::NO_REPLY_DUE,
             wrote: 0,
             settings: after,
         };
@@ -43,7 +44,7 @@ pub fn answer(s: Settings, kind: u8, size: u16, opening: &[u8; 10], reply: &mut 
     );
     if wrote == 0 {
         return Answered {
-            code: 20,
+            code: codes::NO_ROOM,
             wrote: 0,
             settings: s,
         };

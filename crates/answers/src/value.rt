@@ -11,7 +11,9 @@ ghost use Rattle.items.specs.Settings.{freshOf};
 ghost use Rattle.items.specs.Answer.{framed, replyBody};
 ghost use Rattle.answers.specs.Inside.{plainly, echoing};
 use items::Settings;
+use items::table;
 use layouts::Layout;
+use wire::types;
 
 // "NetSDR" and a zero byte, the first character in the low byte.
 const NAME: u64 = 0x0052_4453_7465_4E;
@@ -23,20 +25,20 @@ pub(crate) fn reply_layout(s: Settings, item: u16, echo: u8) -> Layout
     ensures { λ r. ⌜ laid r ≡ framed typeReply (replyBody (rowOf item) s (echo ∷ [])) ⌝ }
 {
     match item {
-        0x0001 => plain(item, 7, NAME),
-        0x0002 => {
+        table::NAME => plain(item, 7, NAME),
+        table::SERIAL => {
             let serial = s.serial;
             plain(item, 9, serial_value(&serial))
         }
-        0x0003 => plain(item, 2, 105),
-        0x0004 => version(echo),
-        0x0005 => plain(item, 1, status_value(s.running)),
-        0x0018 => plain(item, 4, state_value(s.running, s.mode)),
-        0x0020 => with_echo(item, echo, 5, s.frequency),
-        0x0038 => with_echo(item, echo, 1, s.gain as u64),
-        0x00B0 => with_echo(item, echo, 4, s.clock as u64),
-        0x00B8 => with_echo(item, echo, 4, rates::achieved(s.divisor) as u64),
-        0x00C4 => plain(item, 1, s.size as u64),
+        table::INTERFACE => plain(item, 2, 105),
+        table::VERSIONS => version(echo),
+        table::STATUS => plain(item, 1, status_value(s.running)),
+        table::STATE => plain(item, 4, state_value(s.running, s.mode)),
+        table::FREQUENCY => with_echo(item, echo, 5, s.frequency),
+        table::GAIN => with_echo(item, echo, 1, s.gain as u64),
+        table::CLOCK => with_echo(item, echo, 4, s.clock as u64),
+        table::RATE => with_echo(item, echo, 4, rates::achieved(s.divisor) as u64),
+        table::PACKET_SIZE => plain(item, 1, s.size as u64),
         _ => plain(item, 0, 0),
     }
 }
@@ -45,7 +47,7 @@ fn plain(item: u16, width: u8, value: u64) -> Layout
     ensures { λ r. ⌜ r ≡ plainly item width value ⌝ }
 {
     Layout {
-        kind: 0,
+        kind: types::REPLY,
         item,
         echoed: false,
         echo: 0,
@@ -58,7 +60,7 @@ fn with_echo(item: u16, echo: u8, width: u8, value: u64) -> Layout
     ensures { λ r. ⌜ r ≡ echoing item echo width value ⌝ }
 {
     Layout {
-        kind: 0,
+        kind: types::REPLY,
         item,
         echoed: true,
         echo,
@@ -72,11 +74,11 @@ fn version(id: u8) -> Layout
     ensures { λ r. ⌜ laid r ≡ framed typeReply (replyBody versions (freshOf []) (id ∷ [])) ⌝ }
 {
     match id {
-        0 => with_echo(0x0004, id, 2, 0x0064),
-        1 => with_echo(0x0004, id, 2, 0x006B),
-        2 => with_echo(0x0004, id, 2, 0x0066),
-        3 => with_echo(0x0004, id, 2, 0x0701),
-        _ => with_echo(0x0004, id, 0, 0),
+        0 => with_echo(table::VERSIONS, id, 2, 0x0064),
+        1 => with_echo(table::VERSIONS, id, 2, 0x006B),
+        2 => with_echo(table::VERSIONS, id, 2, 0x0066),
+        3 => with_echo(table::VERSIONS, id, 2, 0x0701),
+        _ => with_echo(table::VERSIONS, id, 0, 0),
     }
 }
 

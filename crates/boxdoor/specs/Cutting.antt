@@ -5,6 +5,7 @@ use lib.Dec.{eqb, ltb}
 use lib.IntN.{ℤ}
 use lib.ListN.{length}
 use Rattle.wire.specs.Choice.{pick}
+use Rattle.wire.specs.Codes as Code
 use Rattle.cutting.specs.declared.Cut.{Cut}
 use Rattle.cutting.specs.Cutting.{cuttingOf}
 use Rattle.boxdoor.specs.States.{stationSize, stationIn, stationBytes}
@@ -24,7 +25,7 @@ cutBy state r =
 unfoldable pub cutOver : List ℕ → List ℤ → ℕ → Answer
 cutOver state samples room =
     pick (eqb (length state) stationSize) (cutBy state (cuttingOf (stationIn state) samples room .cut))
-    (record { code = 21; wrote = 0; state = state })
+    (record { code = Code.broken; wrote = 0; state = state })
 
 -- what is written at the start of the lent packet
 unfoldable pub packetOver : List ℕ → List ℤ → ℕ → List ℕ

@@ -4,6 +4,7 @@ use mathlib.Core.List.{List, [], _∷_}
 use lib.Dec.{eqb, ltb}
 use lib.ListN.{length}
 use Rattle.wire.specs.Choice.{pick}
+use Rattle.wire.specs.Codes as Code
 use Rattle.station.specs.declared.Fed.{Fed}
 use Rattle.tuning.specs.Told.{Told}
 use Rattle.station.specs.Station.{freshBox, tuningTold}
@@ -31,7 +32,7 @@ fedOver state f =
 unfoldable pub feedOver : List ℕ → List ℕ → ℕ → Answer
 feedOver state host room =
     pick (eqb (length state) stationSize) (fedOver state (feedingOf (stationIn state) host room .fed))
-    (record { code = 21; consumed = 0; wrote = 0; state = state })
+    (record { code = Code.broken; consumed = 0; wrote = 0; state = state })
 
 -- what is written at the start of the reply buffer
 unfoldable pub repliedOver : List ℕ → List ℕ → ℕ → List ℕ
@@ -46,7 +47,7 @@ unfoldable pub freshOver : List ℕ → List ℕ → Fresh
 freshOver serial state =
     pick (eqb (length state) stationSize)
     (record { code = freshBox serial .code; state = stationBytes (freshBox serial .station) })
-    (record { code = 21; state = state })
+    (record { code = Code.broken; state = state })
 
 -- the code and the word, 0 in the place of a word that there is not
 pub record Tuned : Type 0 where
@@ -62,4 +63,4 @@ tuned t = record { code = t .code; word = firstOr0 (t .values) }
 
 unfoldable pub tunedOver : List ℕ → Tuned
 tunedOver state =
-    pick (eqb (length state) stationSize) (tuned (tuningTold (stationIn state))) (record { code = 21; word = 0 })
+    pick (eqb (length state) stationSize) (tuned (tuningTold (stationIn state))) (record { code = Code.broken; word = 0 })

@@ -3,6 +3,7 @@ ghost use mathlib.Core.Path.{_≡_};
 ghost use lib.ListN.{length};
 ghost use lib.Seq.{sets};
 ghost use Rattle.boxdoor.specs.Cutting.{cutOver, packetOver};
+use wire::codes;
 
 // Cuts the next packet from samples by a box of 108 bytes. Answers the code, and leaves how many bytes of packet were
 // written. Where the call is refused the box's bytes and the packet are as they came.
@@ -25,5 +26,5 @@ pub extern "C" fn skvornela_cut(
         return cut.code;
     }
     *wrote = 0;
-    21
+    codes::BROKEN
 }

@@ -1,5 +1,6 @@
 // A fresh box, feeding it, and its tuning word.
 use station::Tuning;
+use wire::codes;
 ghost use mathlib.Core.Path.{_≡_};
 ghost use lib.ListN.{length};
 ghost use lib.Seq.{sets};
@@ -17,7 +18,7 @@ pub extern "C" fn skvornela_fresh(serial: &[u8], state: &mut [u8]) -> u8
         crate::states::put_station(state, station);
         return began.code;
     }
-    21
+    codes::BROKEN
 }
 
 // Feeds a box of 108 bytes. Answers the code, and leaves how many of the host's bytes were consumed and how many bytes of
@@ -44,7 +45,7 @@ pub extern "C" fn skvornela_feed(
     }
     *consumed = 0;
     *wrote = 0;
-    21
+    codes::BROKEN
 }
 
 // A tuning word as numbers.
@@ -57,8 +58,14 @@ fn tuned_by(t: Tuning) -> Tuned
     ensures { λ r. ⌜ record { code = r .code; word = r .word } ≡ tuned (told t) ⌝ }
 {
     match t {
-        Tuning::Word(w) => Tuned { code: 1, word: w },
-        Tuning::Broken => Tuned { code: 21, word: 0 },
+        Tuning::Word(w) => Tuned {
+            code: codes::DONE,
+            word: w,
+        },
+        Tuning::Broken => Tuned {
+            code: codes::BROKEN,
+            word: 0,
+        },
     }
 }
 
@@ -73,5 +80,5 @@ pub extern "C" fn skvornela_word(state: &[u8], word: &mut u32) -> u8
         return t.code;
     }
     *word = 0;
-    21
+    codes::BROKEN
 }

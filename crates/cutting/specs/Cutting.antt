@@ -6,6 +6,7 @@ use lib.Dec.{eqb, leb, ltb}
 use lib.IntN.{ℤ}
 use lib.ListN.{length}
 use Rattle.wire.specs.Choice.{pick, Check, check, firstOf}
+use Rattle.wire.specs.Codes as Code
 use Rattle.wire.specs.Number.{bytes}
 use Rattle.wire.specs.Header.{headerOf, typeData}
 use Rattle.packets.specs.declared.Form.{Form}
@@ -30,16 +31,16 @@ formNow s = formFor (s .mode) (s .size)
 -- "Cutting 21, 22, 25, 23, 24, 20."
 abbrev pub cutChecks : Station → List ℤ → ℕ → List Check
 cutChecks s samples room =
-    check 21 (not (valid s))
-    ∷ check 22 (not (s .settings .running))
-    ∷ check 25 (leb most (s .settings .count))
-    ∷ check 23 (not (eqb (length samples) (2 * formNow (s .settings) .pairs)))
-    ∷ check 24 (not (allSamples samples))
-    ∷ check 20 (ltb room (totalOf (formNow (s .settings))))
+    check Code.broken (not (valid s))
+    ∷ check Code.whileIdle (not (s .settings .running))
+    ∷ check Code.captureFull (leb most (s .settings .count))
+    ∷ check Code.wrongCount (not (eqb (length samples) (2 * formNow (s .settings) .pairs)))
+    ∷ check Code.notASample (not (allSamples samples))
+    ∷ check Code.noRoom (ltb room (totalOf (formNow (s .settings))))
     ∷ []
 
 unfoldable pub cutCode : Station → List ℤ → ℕ → ℕ
-cutCode s samples room = firstOf (cutChecks s samples room) 1
+cutCode s samples room = firstOf (cutChecks s samples room) Code.done
 
 -- what a call returns, and the bytes that it writes at the start of the lent packet
 pub record Cutting : Type 0 where
@@ -55,7 +56,7 @@ cutFrom s samples =
     record {
       cut =
           record {
-            code = 1;
+            code = Code.done;
             wrote = totalOf (formNow (s .settings));
             station = record { settings = withCount (s .settings .count + 1) (s .settings); store = s .store };
           };
@@ -64,4 +65,4 @@ cutFrom s samples =
 
 unfoldable pub cuttingOf : Station → List ℤ → ℕ → Cutting
 cuttingOf s samples room =
-    pick (eqb (cutCode s samples room) 1) (cutFrom s samples) (refused (cutCode s samples room) s)
+    pick (eqb (cutCode s samples room) Code.done) (cutFrom s samples) (refused (cutCode s samples room) s)

@@ -6,3 +6,4 @@ pub mod Reached
 pub mod Shown
 pub mod ShownFed
 pub mod Refused
+pub mod Written

@@ -43,7 +43,7 @@ refused-kept s m r = rw (ne-eqb (codeOf s m) 1 (λ e. omega arith)) refl
 -- ---- feeding
 
 -- what holds of each way that a call of feeding can go
-each-way : (P : Feeding → Type 0) (s : Station) (host : List ℕ) (room : ℕ) → P (refused 21 s) → P (refused 20 s)
+pub each-way : (P : Feeding → Type 0) (s : Station) (host : List ℕ) (room : ℕ) → P (refused 21 s) → P (refused 20 s)
     → P (waiting (s .settings) (taken (s .store) host)) → P (answered (s .settings) (taken (s .store) host)) → P (feedingOf s host room)
 unfolding feedingOf
 each-way P s host room broken short open′ done =

@@ -4,6 +4,7 @@ use mathlib.Core.Path.{_≡_}
 use mathlib.Core.Bool.{true}
 use lib.ListN.{length}
 use Rattle.wire.specs.Choice.{pick}
+use Rattle.wire.specs.Codes as Code
 use Rattle.items.specs.declared.Settings.{Settings}
 use Rattle.items.specs.Settings.{inRange}
 use Rattle.station.specs.Feeding.{feedingOf}
@@ -17,7 +18,7 @@ use Rattle.demands.specs.Shown.{resting}
 -- (`granted`), unless it is running and the wish has to wait (17, NAK); and what it writes is read back as what it then
 -- says, NAK as NAK (`saidBy`).
 pub record Understands (w : Wish) (s : Settings) (room : ℕ) : Type 0 where
-  pub code : feedingOf (resting s) (messageOf w) room .fed .code ≡ pick (notNow w s) 17 1
+  pub code : feedingOf (resting s) (messageOf w) room .fed .code ≡ pick (notNow w s) Code.notWhileRunning Code.done
   pub does : feedingOf (resting s) (messageOf w) room .fed .station ≡ resting (pick (notNow w s) s (granted w s))
   pub says : toldOf w (feedingOf (resting s) (messageOf w) room .bytes) ≡ told (saidBy w s)
 

@@ -4,3 +4,4 @@ pub mod Packed
 pub mod Reached
 pub mod Shown
 pub mod Refused
+pub mod Written

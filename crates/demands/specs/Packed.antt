@@ -4,6 +4,7 @@ use mathlib.Core.Path.{_≡_}
 use mathlib.Core.List.{List, map}
 use lib.IntN.{ℤ}
 use lib.ListN.{length}
+use Rattle.wire.specs.Codes as Code
 use Rattle.packets.specs.Samples.{narrowed}
 use Rattle.station.specs.declared.Station.{Station}
 use Rattle.cutting.specs.Cutting.{formNow, cuttingOf}
@@ -12,9 +13,9 @@ use Rattle.reader.specs.Reading.{unpackCode, unpackedOf}
 -- A packet that the box cut, in any of the four forms, unpacked into a slice with room for its numbers: each sample as it
 -- is at the width sent (`narrowed`: itself at 24 bits, divided by 256 towards minus infinity at 16).
 pub record Unpacks (s : Station) (samples : List ℤ) (room out : ℕ) : Type 0 where
-  pub code : unpackCode (cuttingOf s samples room .bytes) out ≡ 1
+  pub code : unpackCode (cuttingOf s samples room .bytes) out ≡ Code.done
   pub numbers : unpackedOf (cuttingOf s samples room .bytes) out ≡ map (narrowed (formNow (s .settings) .bits)) samples
 
 abbrev pub WhatIsPackedIsUnpacked : Type 0
 WhatIsPackedIsUnpacked =
-    (s : Station) (samples : List ℤ) (room out : ℕ) → cuttingOf s samples room .cut .code ≡ 1 → length samples ≤ out → Unpacks s samples room out
+    (s : Station) (samples : List ℤ) (room out : ℕ) → cuttingOf s samples room .cut .code ≡ Code.done → length samples ≤ out → Unpacks s samples room out

@@ -8,6 +8,7 @@ use lib.Dec.{eqb}
 use lib.IntN.{ℤ}
 use lib.ListN.{length, take, drop, replicate}
 use Rattle.wire.specs.Choice.{pick}
+use Rattle.wire.specs.Codes as Code
 use Rattle.wire.specs.Number.{bytes, field}
 use Rattle.wire.specs.Header.{lengthIn, typeIn, nak, typeSet, typeRequest, typeReply}
 use Rattle.framing.specs.Framing.{allBytes, between, taken, headerIn, announced}
@@ -80,7 +81,7 @@ touches set asked = eqb set asked || (eqb set (state .code) && eqb asked (status
 
 -- the message is an accepted set, and of an item that can change what `asked` shows
 abbrev pub changes : ℕ → Settings → Message → Bool
-changes asked s m = eqb (codeOf s m) 1 && eqb (m .type) typeSet && touches (itemIn m) asked
+changes asked s m = eqb (codeOf s m) Code.done && eqb (m .type) typeSet && touches (itemIn m) asked
 
 -- the settings after one message after the other
 abbrev pub afterAll : Settings → List Message → Settings
@@ -111,7 +112,7 @@ resting s = record { settings = s; store = between }
 
 -- a call is done, and wrote this reply
 abbrev pub repliesWith : Feeding → List ℕ → Type 0
-repliesWith f reply = (f .fed .code ≡ 1) × (f .bytes ≡ reply)
+repliesWith f reply = (f .fed .code ≡ Code.done) × (f .bytes ≡ reply)
 
 -- Demand 2 of a way to feed a box, whichever it is: a whole set that is to be accepted is fed in one call, and a whole
 -- request of the same item in the next. Both replies show the value set.
@@ -119,8 +120,8 @@ abbrev pub ShowsSets : (Station → List ℕ → ℕ → Feeding) → Type 0
 ShowsSets feed =
     (s : Settings) (m : List ℕ) (room : ℕ) (q : List ℕ) (later : ℕ)
     → valid (resting s) ≡ true → length (s .serial) ≡ 8 → 64 ≤ room → 64 ≤ later
-    → OneMessage m → messageOf m .type ≡ typeSet → codeOf s (messageOf m) ≡ 1
-    → OneMessage q → messageOf q .type ≡ typeRequest → itemIn (messageOf q) ≡ itemIn (messageOf m) → codeOf s (messageOf q) ≡ 1
+    → OneMessage m → messageOf m .type ≡ typeSet → codeOf s (messageOf m) ≡ Code.done
+    → OneMessage q → messageOf q .type ≡ typeRequest → itemIn (messageOf q) ≡ itemIn (messageOf m) → codeOf s (messageOf q) ≡ Code.done
     → repliesWith (feed (resting s) m room) (showing (messageOf m) (valueSet s (messageOf m)))
     × repliesWith (feed (feed (resting s) m room .fed .station) q later) (showing (messageOf q) (valueSet s (messageOf m)))
 
@@ -149,7 +150,7 @@ finishedBy s host = messageIn (taken (s .store) host .store)
 -- the call accepts a set, and of an item that can change what `asked` shows
 abbrev pub disturbs : ℕ → Station → List ℕ → ℕ → Bool
 disturbs asked s host room =
-    eqb (feedingOf s host room .fed .code) 1
+    eqb (feedingOf s host room .fed .code) Code.done
     && eqb (finishedBy s host .type) typeSet
     && touches (itemIn (finishedBy s host)) asked
 

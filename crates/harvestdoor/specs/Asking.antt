@@ -5,6 +5,7 @@ use lib.Dec.{eqb}
 use lib.IntN.{ℤ, pos, negsuc}
 use lib.ListN.{length, getD}
 use Rattle.wire.specs.Choice.{pick}
+use Rattle.wire.specs.Codes as Code
 use Rattle.replies.specs.Reading.{Told}
 use Rattle.wishes.specs.declared.Wish.{Wish}
 use Rattle.wishes.specs.declared.Wish.the-variants as W
@@ -59,7 +60,7 @@ natural (negsuc n) = 0
 -- a reply of so many values, of which none is signed, and a refusal
 abbrev pub saidOf : ℕ → ℕ → ℕ → ℕ → Shown
 saidOf item count first second =
-    record { code = 1; item = item; count = count; first = first; second = second; gain = pos 0 }
+    record { code = Code.done; item = item; count = count; first = first; second = second; gain = pos 0 }
 
 abbrev pub refusedBy : ℕ → Shown
 refusedBy code = record { code = code; item = 0; count = 0; first = 0; second = 0; gain = pos 0 }

@@ -4,6 +4,7 @@ use mathlib.Core.List.{List}
 use lib.Dec.{eqb}
 use lib.ListN.{length, getD}
 use Rattle.wire.specs.Choice.{pick}
+use Rattle.wire.specs.Codes as Code
 use Rattle.reader.specs.declared.Heard.{Heard}
 use Rattle.reader.specs.Reading.{readingOf, sampleBytesOf}
 use Rattle.harvestdoor.specs.States.{readerSize, readerIn, readerBytes}
@@ -22,14 +23,14 @@ heardOver state h =
       code = h .code;
       position = h .position;
       sample = h .sample;
-      state = pick (eqb (h .code) 1) (readerBytes (h .reader)) state;
+      state = pick (eqb (h .code) Code.done) (readerBytes (h .reader)) state;
     }
 
 -- bytes that are not those of a reader are a broken one: 21
 unfoldable pub readOver : List ℕ → List ℕ → Read
 readOver state packet =
     pick (eqb (length state) readerSize) (heardOver state (readingOf (readerIn state) packet))
-    (record { code = 21; position = 0; sample = 0; state = state })
+    (record { code = Code.broken; position = 0; sample = 0; state = state })
 
 -- the byte at a place of a packet's sample bytes, 0 past their end
 abbrev pub sampleByteAt : ℕ → List ℕ → ℕ

@@ -1,5 +1,7 @@
 // Wishes and replies.
+use items::table;
 use replies::Reply;
+use wire::codes;
 use wishes::StateFields;
 use wishes::Wish;
 use wishes::Written;
@@ -51,9 +53,18 @@ fn told_by(w: Written) -> Told
     ensures { λ r. ⌜ record { code = r .code; wrote = r .wrote } ≡ told w ⌝ }
 {
     match w {
-        Written::Message(n) => Told { code: 1, wrote: n },
-        Written::NotAllowed => Told { code: 16, wrote: 0 },
-        Written::Short => Told { code: 20, wrote: 0 },
+        Written::Message(n) => Told {
+            code: codes::DONE,
+            wrote: n,
+        },
+        Written::NotAllowed => Told {
+            code: codes::VALUE_NOT_ALLOWED,
+            wrote: 0,
+        },
+        Written::Short => Told {
+            code: codes::NO_ROOM,
+            wrote: 0,
+        },
     }
 }
 
@@ -91,7 +102,7 @@ fn saying(item: u16, count: usize, first: u64, second: u64) -> Shown
     ensures { λ r. ⌜ record { code = r .code; item = r .item; count = r .count; first = r .first; second = r .second; gain = r .gain } ≡ saidOf item count first second ⌝ }
 {
     Shown {
-        code: 1,
+        code: codes::DONE,
         item: item,
         count: count,
         first: first,
@@ -125,28 +136,28 @@ fn shown_by(reply: Reply) -> Shown
     match reply {
         Reply::Nak => saying(0, 0, 0, 0),
         // the seven bytes of "NetSDR" and its zero
-        Reply::Name => saying(0x0001, 7, 0x4E, 0x65),
-        Reply::Serial(n) => saying(0x0002, 1, n, 0),
-        Reply::Interface(n) => saying(0x0003, 1, n as u64, 0),
-        Reply::Version(id, n) => saying(0x0004, 2, id as u64, n as u64),
-        Reply::Status(running) => saying(0x0005, 1, status_byte(running), 0),
-        Reply::State(fields) => saying(0x0018, 2, fields.run as u64, fields.mode as u64),
-        Reply::Frequency(hz) => saying(0x0020, 1, hz, 0),
+        Reply::Name => saying(table::NAME, 7, 0x4E, 0x65),
+        Reply::Serial(n) => saying(table::SERIAL, 1, n, 0),
+        Reply::Interface(n) => saying(table::INTERFACE, 1, n as u64, 0),
+        Reply::Version(id, n) => saying(table::VERSIONS, 2, id as u64, n as u64),
+        Reply::Status(running) => saying(table::STATUS, 1, status_byte(running), 0),
+        Reply::State(fields) => saying(table::STATE, 2, fields.run as u64, fields.mode as u64),
+        Reply::Frequency(hz) => saying(table::FREQUENCY, 1, hz, 0),
         // minimum, maximum and oscillator of each band
-        Reply::FrequencyRange => saying(0x0020, 6, 100_000, 34_000_000),
+        Reply::FrequencyRange => saying(table::FREQUENCY, 6, 100_000, 34_000_000),
         Reply::Gain(g) => Shown {
-            code: 1,
-            item: 0x0038,
+            code: codes::DONE,
+            item: table::GAIN,
             count: 1,
             first: 0,
             second: 0,
             gain: g,
         },
-        Reply::Clock(hz) => saying(0x00B0, 1, hz as u64, 0),
-        Reply::Rate(hz) => saying(0x00B8, 1, hz as u64, 0),
-        Reply::PacketSize(n) => saying(0x00C4, 1, n as u64, 0),
-        Reply::NotAllowed => refusing(16),
-        Reply::NotAReply => refusing(28),
+        Reply::Clock(hz) => saying(table::CLOCK, 1, hz as u64, 0),
+        Reply::Rate(hz) => saying(table::RATE, 1, hz as u64, 0),
+        Reply::PacketSize(n) => saying(table::PACKET_SIZE, 1, n as u64, 0),
+        Reply::NotAllowed => refusing(codes::VALUE_NOT_ALLOWED),
+        Reply::NotAReply => refusing(codes::NOT_A_REPLY),
     }
 }
 

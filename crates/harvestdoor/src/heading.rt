@@ -2,6 +2,7 @@
 use heads::Head;
 use heads::Opened;
 use heads::Written;
+use wire::codes;
 ghost use mathlib.Core.Path.{_≡_};
 ghost use lib.ListN.{length};
 ghost use lib.Seq.{sets};
@@ -18,9 +19,9 @@ fn code_of(w: Written) -> u8
     ensures { λ r. ⌜ r ≡ writtenCode w ⌝ }
 {
     match w {
-        Written::Whole => 1,
-        Written::NotAllowed => 16,
-        Written::NoRoom => 20,
+        Written::Whole => codes::DONE,
+        Written::NotAllowed => codes::VALUE_NOT_ALLOWED,
+        Written::NoRoom => codes::NO_ROOM,
     }
 }
 
@@ -62,9 +63,12 @@ fn found_by(o: Opened) -> Found
     ensures { λ r. ⌜ record { code = r .code; head = r .head } ≡ found (openedSays o) ⌝ }
 {
     match o {
-        Opened::Head(h) => Found { code: 1, head: h },
-        Opened::NotAHead => no_head(40),
-        Opened::OtherVersion => no_head(41),
+        Opened::Head(h) => Found {
+            code: codes::DONE,
+            head: h,
+        },
+        Opened::NotAHead => no_head(codes::NOT_A_HEAD),
+        Opened::OtherVersion => no_head(codes::OTHER_VERSION),
     }
 }
 

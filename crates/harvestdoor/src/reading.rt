@@ -4,6 +4,7 @@ ghost use lib.ListN.{length};
 ghost use lib.Seq.{sets};
 ghost use Rattle.reader.specs.Reading.{sampleBytesOf, unpackingOf, unpackedOf};
 ghost use Rattle.harvestdoor.specs.Reading.{readOver, sampleByteAt};
+use wire::codes;
 
 // Reads one packet with a reader of 25 bytes. Answers the code, and leaves the packet's position and that of its first
 // sample; both are 0 where the packet is refused, and the reader's bytes are then as they came.
@@ -20,7 +21,7 @@ pub extern "C" fn skvornela_read(
         let h = reader::read(crate::states::reader_in(state), packet);
         *position = h.position;
         *sample = h.sample;
-        if h.code == 1 {
+        if h.code == codes::DONE {
             let after = h.reader;
             crate::states::put_reader(state, after);
         }
@@ -28,7 +29,7 @@ pub extern "C" fn skvornela_read(
     }
     *position = 0;
     *sample = 0;
-    21
+    codes::BROKEN
 }
 
 // How many sample bytes a packet has; leaves the one at a place, 0 past their end.

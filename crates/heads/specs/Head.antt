@@ -5,6 +5,7 @@ use mathlib.Core.List.{List, [], _∷_, _++_}
 use lib.Dec.{eqb, ltb}
 use lib.ListN.{length}
 use Rattle.wire.specs.Choice.{pick, Check, check, firstOf}
+use Rattle.wire.specs.Codes as Code
 use Rattle.wire.specs.Number.{number, bytes, field}
 use Rattle.rates.specs.Rate.{isD}
 use Rattle.tuning.specs.Bands.{inBands}
@@ -45,33 +46,33 @@ headIn s = record { divisor = field 5 2 s; frequency = field 7 5 s; mode = field
 
 -- "The harvester writes it (refusing 16, then 20)": the head, and the length of the lent slice
 abbrev pub writeChecks : Head → ℕ → List Check
-writeChecks h room = check 16 (not (allowed h)) ∷ check 20 (ltb room headLength) ∷ []
+writeChecks h room = check Code.valueNotAllowed (not (allowed h)) ∷ check Code.noRoom (ltb room headLength) ∷ []
 
 unfoldable pub writeCode : Head → ℕ → ℕ
-writeCode h room = firstOf (writeChecks h room) 1
+writeCode h room = firstOf (writeChecks h room) Code.done
 
 -- the number of each answer of writing
 abbrev pub writtenCode : Written → ℕ
-writtenCode Whole = 1
-writtenCode NotAllowed = 16
-writtenCode NoRoom = 20
+writtenCode Whole = Code.done
+writtenCode NotAllowed = Code.valueNotAllowed
+writtenCode NoRoom = Code.noRoom
 
 -- what is written at the start of the lent slice
 abbrev pub writtenBytes : Head → ℕ → List ℕ
-writtenBytes h room = pick (eqb (writeCode h room) 1) (headBytes h) []
+writtenBytes h room = pick (eqb (writeCode h room) Code.done) (headBytes h) []
 
 -- "reads it from the first 14 bytes given. Under 14 bytes, wrong mark or a value not allowed is 40 (checked before 41, the
 -- version; with another version only mark and length are looked at)."
 abbrev pub readChecks : List ℕ → List Check
 readChecks s =
-    check 40 (ltb (length s) headLength)
-    ∷ check 40 (not (eqb (field 0 3 s) (number mark)))
-    ∷ check 41 (not (eqb (field 3 2 s) version))
-    ∷ check 40 (not (allowed (headIn s)))
+    check Code.notAHead (ltb (length s) headLength)
+    ∷ check Code.notAHead (not (eqb (field 0 3 s) (number mark)))
+    ∷ check Code.otherVersion (not (eqb (field 3 2 s) version))
+    ∷ check Code.notAHead (not (allowed (headIn s)))
     ∷ []
 
 unfoldable pub readCode : List ℕ → ℕ
-readCode s = firstOf (readChecks s) 1
+readCode s = firstOf (readChecks s) Code.done
 
 -- What an answer of reading says: its number, and the head where there is one.
 pub record Reading : Type 0 where
@@ -79,9 +80,9 @@ pub record Reading : Type 0 where
   pub heads : List Head
 
 abbrev pub openedSays : Opened → Reading
-openedSays (Found h) = record { code = 1; heads = h ∷ [] }
-openedSays NotAHead = record { code = 40; heads = [] }
-openedSays OtherVersion = record { code = 41; heads = [] }
+openedSays (Found h) = record { code = Code.done; heads = h ∷ [] }
+openedSays NotAHead = record { code = Code.notAHead; heads = [] }
+openedSays OtherVersion = record { code = Code.otherVersion; heads = [] }
 
 unfoldable pub readingOf : List ℕ → Reading
-readingOf s = record { code = readCode s; heads = pick (eqb (readCode s) 1) (headIn s ∷ []) [] }
+readingOf s = record { code = readCode s; heads = pick (eqb (readCode s) Code.done) (headIn s ∷ []) [] }

@@ -5,6 +5,14 @@ ghost use lib.Seq.{sets};
 ghost use Rattle.heads.specs.Head.{allowed, formIn, headBytes, headIn, writeCode, writtenCode, writtenBytes, openedSays, readingOf};
 use packets::Form;
 
+// A head has 14 bytes.
+pub const LENGTH: usize = 14;
+
+// SPN, the first character in the low byte.
+const MARK: u64 = 0x4E_50_53;
+
+const VERSION: u64 = 1;
+
 // What a capture's head says: the D of the rate, the frequency in Hz, the mode byte (80 for 24 bits, 00 for 16) and the
 // size byte (0 large, 1 small).
 pub struct Head {
@@ -55,8 +63,8 @@ pub fn is_allowed(h: Head) -> bool
 fn put_head(h: Head, out: &mut [u8])
     ensures { λ _. ⌜ now (out .exit) ≡ sets (now (out .entry)) 0 (headBytes h) ⌝ }
 {
-    wire::put(out, 0, 3, 0x4E_50_53);
-    wire::put(out, 3, 2, 1);
+    wire::put(out, 0, 3, MARK);
+    wire::put(out, 3, 2, VERSION);
     wire::put(out, 5, 2, h.divisor as u64);
     wire::put(out, 7, 5, h.frequency);
     wire::put(out, 12, 1, h.mode as u64);
@@ -70,7 +78,7 @@ pub fn write_head(h: Head, out: &mut [u8]) -> Written
     if !is_allowed(h) {
         return Written::NotAllowed;
     }
-    if out.len() < 14 {
+    if out.len() < LENGTH {
         return Written::NoRoom;
     }
     put_head(h, out);
@@ -93,13 +101,13 @@ pub fn head_in(s: &[u8]) -> Head
 pub fn read_head(s: &[u8]) -> Opened
     ensures { λ r. ⌜ openedSays r ≡ readingOf (now (s .entry)) ⌝ }
 {
-    if s.len() < 14 {
+    if s.len() < LENGTH {
         return Opened::NotAHead;
     }
-    if wire::number_at(s, 0, 3) != 0x4E_50_53 {
+    if wire::number_at(s, 0, 3) != MARK {
         return Opened::NotAHead;
     }
-    if wire::number_at(s, 3, 2) != 1 {
+    if wire::number_at(s, 3, 2) != VERSION {
         return Opened::OtherVersion;
     }
     let h = head_in(s);

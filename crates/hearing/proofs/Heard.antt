@@ -12,9 +12,8 @@ use Rattle.wire.proofs.Laws.{true-not-false, and-left, pick-keeps}
 use Rattle.wire.specs.Choice.{pick, check, firstOf}
 use Rattle.packets.specs.declared.Form.{Form}
 use Rattle.packets.specs.Forms.{sameForm, totalOf, listed}
-use Rattle.packets.specs.Numbers.{stepOf}
+use Rattle.packets.specs.Numbers.{stepOf, last}
 use Rattle.packets.proofs.Numbers.{step-above, step-not-above}
-use Rattle.reader.specs.Reading.{last}
 use Rattle.hearing.specs.declared.Tally.{Tally}
 use Rattle.hearing.specs.declared.Reach.{Reach}
 use Rattle.hearing.specs.Hearing.{formNow, positionNow, orphan, heardCode, taking, accepting, closes, cameTo}

@@ -10,7 +10,7 @@ use borrow.Author.Tests.{leb-true}
 use Rattle.wire.proofs.Laws.{and-left, and-right, and-both, pick-keeps}
 use Rattle.packets.specs.declared.Form.{Form}
 use Rattle.packets.specs.Forms.{listed}
-use Rattle.reader.specs.Reading.{last}
+use Rattle.packets.specs.Numbers.{last}
 use Rattle.hearing.specs.declared.Tally.{Tally}
 use Rattle.hearing.specs.declared.Reach.{Reach}
 use Rattle.hearing.specs.Hearing.{farthest, inRange, taking, cameTo, reaching, outcome, hearingOf}

@@ -14,9 +14,8 @@ use Rattle.wire.proofs.Laws.{pick-keeps, and-not-left, and-not-right}
 use Rattle.wire.specs.Header.{headerOf, typeData}
 use Rattle.packets.specs.declared.Form.{Form}
 use Rattle.packets.specs.Forms.{sameForm, totalOf, listed, formWithHeader}
-use Rattle.packets.specs.Numbers.{numberAt, stepOf}
+use Rattle.packets.specs.Numbers.{numberAt, stepOf, last}
 use Rattle.packets.proofs.Forms.{of-listed, same-is}
-use Rattle.reader.specs.Reading.{last}
 use Rattle.hearing.specs.declared.Tally.{Tally}
 use Rattle.hearing.specs.declared.Reach.{Reach}
 use Rattle.hearing.specs.Hearing.{joined, taking, formNow, positionNow, heardCode, accepting, closes, cameTo, reaching}

@@ -9,9 +9,8 @@ use lib.ListN.{length, drop}
 use Rattle.wire.specs.Header.{headerOf, typeData}
 use Rattle.packets.specs.declared.Form.{Form}
 use Rattle.packets.specs.Forms.{totalOf, listed, formWithHeader}
-use Rattle.packets.specs.Numbers.{numberAt, stepOf}
+use Rattle.packets.specs.Numbers.{numberAt, stepOf, last}
 use Rattle.packets.proofs.Numbers.{step-above, step-not-above}
-use Rattle.reader.specs.Reading.{last}
 use Rattle.hearing.specs.declared.Tally.{Tally}
 use Rattle.hearing.specs.Hearing.{reaching}
 use Rattle.hearing.specs.Inside.{goesOn, Sane, Goes, Between, Follows, twoAt}

@@ -5,10 +5,12 @@ use mathlib.Core.Bool.{Bool, _&&_, not}
 use mathlib.Core.List.{List, [], _∷_}
 use lib.Dec.{eqb, leb, ltb}
 use Rattle.wire.specs.Choice.{pick, Check, check, firstOf}
+use Rattle.wire.specs.Codes as Code
 use Rattle.packets.specs.declared.Form.{Form}
 use Rattle.packets.specs.Forms.{sameForm, totalOf, listed, formWithHeader}
+use Rattle.packets.specs.Numbers.{last}
 use Rattle.reader.specs.declared.Reader.{Reader}
-use Rattle.reader.specs.Reading.{last, positionAfter}
+use Rattle.reader.specs.Reading.{positionAfter}
 use Rattle.hearing.specs.declared.Tally.{Tally}
 use Rattle.hearing.specs.declared.Reach.{Reach}
 use Rattle.hearing.specs.declared.Outcome.{Outcome}
@@ -71,16 +73,16 @@ orphan t = not (eqb (t .number) 0) && eqb (t .heard) 0
 -- all else waits for the whole packet.
 abbrev pub heardChecks : Form → Tally → List Check
 heardChecks f t =
-    check 0 (ltb (t .taken) 2)
-    ∷ check 30 (not (listed (formNow t)))
-    ∷ check 0 (ltb (t .taken) (totalOf (formNow t)))
-    ∷ check 32 (not (sameForm (formNow t) f))
-    ∷ check 31 (orphan t)
-    ∷ check 33 (ltb last (positionNow t))
+    check Code.waiting (ltb (t .taken) 2)
+    ∷ check Code.notAPacket (not (listed (formNow t)))
+    ∷ check Code.waiting (ltb (t .taken) (totalOf (formNow t)))
+    ∷ check Code.formChanged (not (sameForm (formNow t) f))
+    ∷ check Code.noFirstPacket (orphan t)
+    ∷ check Code.pastLast (ltb last (positionNow t))
     ∷ []
 
 unfoldable pub heardCode : Form → Tally → ℕ
-heardCode f t = firstOf (heardChecks f t) 1
+heardCode f t = firstOf (heardChecks f t) Code.done
 
 -- the tally after an accepted packet: number 0 begins a new capture
 unfoldable pub accepting : Tally → Tally
@@ -103,22 +105,22 @@ closes t = eqb (t .number) 0 && not (eqb (t .heard) 0)
 -- the tally is then left before the packet's effect.
 unfoldable pub cameTo : ℕ → Form → Tally → Reach
 cameTo n f t =
-    pick (eqb (heardCode f t) 0) (record { at = n; code = 0; tally = t })
-    (pick (eqb (heardCode f t) 1 && not (closes t)) (record { at = n; code = 0; tally = accepting t })
+    pick (eqb (heardCode f t) Code.waiting) (record { at = n; code = Code.waiting; tally = t })
+    (pick (eqb (heardCode f t) Code.done && not (closes t)) (record { at = n; code = Code.waiting; tally = accepting t })
     (record { at = n; code = heardCode f t; tally = t }))
 
 -- Bytes are taken until a line is due or they are used up; n were taken before.
 unfoldable pub reaching : ℕ → Form → Tally → List ℕ → Reach
-reaching n f t [] = record { at = n; code = 0; tally = t }
+reaching n f t [] = record { at = n; code = Code.waiting; tally = t }
 reaching n f t (b ∷ bs) =
-    pick (eqb (cameTo (n + 1) f (taking t b) .code) 0) (reaching (n + 1) f (cameTo (n + 1) f (taking t b) .tally) bs)
+    pick (eqb (cameTo (n + 1) f (taking t b) .code) Code.waiting) (reaching (n + 1) f (cameTo (n + 1) f (taking t b) .tally) bs)
     (cameTo (n + 1) f (taking t b))
 
 -- ---- a piece
 
 -- the tally with which hearing goes on: where the open capture ended, the packet numbered 0 that ended it is accepted now
 abbrev pub nextTally : Reach → Tally
-nextTally r = pick (eqb (r .code) 1) (accepting (r .tally)) (r .tally)
+nextTally r = pick (eqb (r .code) Code.done) (accepting (r .tally)) (r .tally)
 
 abbrev pub outcome : Reach → Outcome
 outcome r = record { reach = r; next = nextTally r }
@@ -126,4 +128,4 @@ outcome r = record { reach = r; next = nextTally r }
 -- 21 for a broken tally or a form that is not listed
 unfoldable pub hearingOf : Form → Tally → List ℕ → Outcome
 hearingOf f t piece =
-    pick (inRange t && listed f) (outcome (reaching 0 f t piece)) (outcome (record { at = 0; code = 21; tally = t }))
+    pick (inRange t && listed f) (outcome (reaching 0 f t piece)) (outcome (record { at = 0; code = Code.broken; tally = t }))

@@ -7,17 +7,17 @@ use mathlib.Core.List.{List}
 use lib.Dec.{eqb}
 use lib.ListN.{length, getD, drop}
 use Rattle.wire.specs.Choice.{pick}
+use Rattle.wire.specs.Codes as Code
 use Rattle.packets.specs.declared.Form.{Form}
 use Rattle.packets.specs.Forms.{totalOf, listed}
-use Rattle.packets.specs.Numbers.{stepOf}
-use Rattle.reader.specs.Reading.{last}
+use Rattle.packets.specs.Numbers.{stepOf, last}
 use Rattle.hearing.specs.declared.Tally.{Tally}
 use Rattle.hearing.specs.declared.Reach.{Reach}
 use Rattle.hearing.specs.Hearing.{joined, formNow, reaching}
 
 -- going on from what was reached, with the bytes that are left
 unfoldable pub goesOn : Form → Reach → List ℕ → Reach
-goesOn f r rest = pick (eqb (r .code) 0) (reaching (r .at) f (r .tally) rest) r
+goesOn f r rest = pick (eqb (r .code) Code.waiting) (reaching (r .at) f (r .tally) rest) r
 
 -- a tally whose sums fit 64 bits while the rest of a piece is taken
 pub record Sane (rest : ℕ) (t : Tally) : Type 0 where

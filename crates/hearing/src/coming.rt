@@ -1,12 +1,13 @@
 // A packet as it comes, byte by byte: its header and its number are read, its samples are counted.
 ghost use mathlib.Core.Path.{_≡_};
 ghost use Prim.Native.Nat.{_+_, _≤_, _<_};
-ghost use Rattle.reader.specs.Reading.{last};
+ghost use Rattle.packets.specs.Numbers.{last};
 ghost use Rattle.hearing.specs.Hearing.{inRange, joined, fieldWith, taking, positionNow, orphan, heardCode, accepting, closes, cameTo};
 ghost use Rattle.hearing.specs.Inside.{Sane};
 use crate::Reach;
 use crate::Tally;
 use packets::Form;
+use wire::codes;
 
 // Whether each count of a tally is within its range. A tally that is not is broken.
 pub fn in_range(t: Tally) -> bool
@@ -24,7 +25,7 @@ pub fn in_range(t: Tally) -> bool
     if t.begins < t.captures {
         return false;
     }
-    t.position <= 3_999_999_999
+    t.position <= packets::LAST
 }
 
 // The number of a low byte and a high byte.
@@ -97,24 +98,24 @@ fn code_of(f: Form, t: Tally) -> u8
     let lone = is_orphan(t);
     let position = position_now(t);
     if t.taken < 2 {
-        return 0;
+        return codes::WAITING;
     }
     if !known {
-        return 30;
+        return codes::NOT_A_PACKET;
     }
     if t.taken < total {
-        return 0;
+        return codes::WAITING;
     }
     if !same {
-        return 32;
+        return codes::FORM_CHANGED;
     }
     if lone {
-        return 31;
+        return codes::NO_FIRST_PACKET;
     }
-    if 3_999_999_999 < position {
-        return 33;
+    if packets::LAST < position {
+        return codes::PAST_LAST;
     }
-    1
+    codes::DONE
 }
 
 // The tally after an accepted packet.
@@ -162,24 +163,24 @@ pub(crate) fn come_to(n: usize, f: Form, t: Tally) -> Reach
     ensures { λ r. ⌜ r ≡ cameTo n f t ⌝ }
 {
     let code = code_of(f, t);
-    if code == 0 {
+    if code == codes::WAITING {
         return Reach {
             at: n,
-            code: 0,
+            code: codes::WAITING,
             tally: t,
         };
     }
-    if code == 1 {
+    if code == codes::DONE {
         if is_close(t) {
             return Reach {
                 at: n,
-                code: 1,
+                code: codes::DONE,
                 tally: t,
             };
         }
         return Reach {
             at: n,
-            code: 0,
+            code: codes::WAITING,
             tally: accept(t),
         };
     }

@@ -3,8 +3,9 @@ ghost use mathlib.Core.Path.{_≡_};
 ghost use Prim.Native.Nat.{_+_, _-_, _≤_, _<_};
 ghost use mathlib.Core.Bool.{true};
 ghost use lib.ListN.{length};
+ghost use Rattle.wire.specs.Codes as Code;
 ghost use Rattle.packets.specs.Forms.{listed};
-ghost use Rattle.reader.specs.Reading.{last};
+ghost use Rattle.packets.specs.Numbers.{last};
 ghost use Rattle.hearing.specs.Hearing.{nextTally, outcome, hearingOf};
 ghost use Rattle.hearing.specs.Inside.{Sane, Goes, Between, Follows, Samples, Hears, skipped, wordAt};
 use crate::Outcome;
@@ -15,6 +16,7 @@ use crate::coming::come_to;
 use crate::coming::in_range;
 use crate::coming::take_byte;
 use packets::Form;
+use wire::codes;
 
 // ---- whole packets in one go
 
@@ -66,7 +68,7 @@ fn follow(piece: &[u8], at: usize, header: u32, total: usize, before: u16, posit
         return 0;
     }
     let next = position + packets::step(before, number);
-    if 3_999_999_999 < next {
+    if packets::LAST < next {
         return 0;
     }
     next
@@ -80,7 +82,7 @@ fn run(f: Form, t: Tally, piece: &[u8], from: usize) -> Reach
     if !is_between(t) {
         return Reach {
             at: from,
-            code: 0,
+            code: codes::WAITING,
             tally: t,
         };
     }
@@ -100,7 +102,7 @@ fn run(f: Form, t: Tally, piece: &[u8], from: usize) -> Reach
     }
     Reach {
         at,
-        code: 0,
+        code: codes::WAITING,
         tally: Tally {
             begins: t.begins + (at - from) as u64,
             taken: 0,
@@ -161,7 +163,7 @@ fn hear_some(f: Form, t: Tally, piece: &[u8], at: usize) -> Reach
     if 0 < k {
         return Reach {
             at: at + k,
-            code: 0,
+            code: codes::WAITING,
             tally: skip(t, k),
         };
     }
@@ -177,7 +179,7 @@ fn hear_all(f: Form, t: Tally, piece: &[u8]) -> Reach
     let mut now = t;
     while at < piece.len() {
         let r = hear_some(f, now, piece, at);
-        if r.code != 0 {
+        if r.code != codes::WAITING {
             return r;
         }
         at = r.at;
@@ -186,17 +188,17 @@ fn hear_all(f: Form, t: Tally, piece: &[u8]) -> Reach
     }
     Reach {
         at,
-        code: 0,
+        code: codes::WAITING,
         tally: now,
     }
 }
 
 // The tally with which hearing goes on from what was reached.
 fn after(r: Reach) -> Tally
-    requires { ⌜ (r .code ≡ 1 → Sane 0 (r .tally) × (0 < r .tally .taken)) ⌝ }
+    requires { ⌜ (r .code ≡ Code.done → Sane 0 (r .tally) × (0 < r .tally .taken)) ⌝ }
     ensures { λ t. ⌜ t ≡ nextTally r ⌝ }
 {
-    if r.code == 1 {
+    if r.code == codes::DONE {
         return accept(r.tally);
     }
     r.tally
@@ -204,12 +206,12 @@ fn after(r: Reach) -> Tally
 
 // What a broken tally or a form that is not listed answers.
 fn broken(t: Tally) -> Outcome
-    ensures { λ r. ⌜ r ≡ outcome (record { at = 0; code = 21; tally = t }) ⌝ }
+    ensures { λ r. ⌜ r ≡ outcome (record { at = 0; code = Code.broken; tally = t }) ⌝ }
 {
     Outcome {
         reach: Reach {
             at: 0,
-            code: 21,
+            code: codes::BROKEN,
             tally: t,
         },
         next: t,

@@ -5,6 +5,7 @@ use mathlib.Core.List.{List, [], _∷_, _++_}
 use lib.Dec.{eqb}
 use lib.ListN.{length, getD, take, drop}
 use Rattle.wire.specs.Choice.{pick, Check, check, firstOf, oneOf}
+use Rattle.wire.specs.Codes as Code
 use Rattle.wire.specs.Number.{bytes, field}
 use Rattle.wire.specs.Header.{headerOf, nak, typeSet, typeRequest, typeRange, typeReply, typeRangeReply}
 use Rattle.tuning.specs.Bands.{bands, rangeBytes}
@@ -48,25 +49,25 @@ refusedRunning i kind s p = eqb kind typeSet && s .running && i .locked s p
 -- The last three checks, which an item makes of its parameters.
 abbrev pub itemChecks : Item → ℕ → Settings → List ℕ → List Check
 itemChecks i kind s p =
-    check 15 (not (channelAllowed (i .channels) kind (getD p 0 0)))
-    ∷ check 16 (not (valueAllowed i kind p))
-    ∷ check 17 (refusedRunning i kind s p)
+    check Code.channelNotAllowed (not (channelAllowed (i .channels) kind (getD p 0 0)))
+    ∷ check Code.valueNotAllowed (not (valueAllowed i kind p))
+    ∷ check Code.notWhileRunning (refusedRunning i kind s p)
     ∷ []
 
 -- what the item makes of its parameters: 15, 16, 17, or 1
 abbrev pub itemCode : Item → ℕ → Settings → List ℕ → ℕ
-itemCode i kind s p = firstOf (itemChecks i kind s p) 1
+itemCode i kind s p = firstOf (itemChecks i kind s p) Code.done
 
 -- a request or a range request, which is not refused while running
 abbrev pub askedBy : Item → List ℕ → ℕ
 askedBy i p =
     firstOf
-    (check 15 (not (channelAllowed (i .channels) typeRequest (getD p 0 0))) ∷ check 16 (not (valueAllowed i typeRequest p)) ∷ [])
-    1
+    (check Code.channelNotAllowed (not (channelAllowed (i .channels) typeRequest (getD p 0 0))) ∷ check Code.valueNotAllowed (not (valueAllowed i typeRequest p)) ∷ [])
+    Code.done
 
 -- a set with these parameters: its code, and the settings after it
 abbrev pub setBy : Item → Settings → List ℕ → Judged
-setBy i s p = record { code = itemCode i typeSet s p; settings = pick (eqb (itemCode i typeSet s p) 1) (i .stored s p) s }
+setBy i s p = record { code = itemCode i typeSet s p; settings = pick (eqb (itemCode i typeSet s p) Code.done) (i .stored s p) s }
 
 -- "Codes 10 to 17 stand in order of checking (11 first)".
 abbrev pub checks : Settings → Message → List Check
@@ -77,11 +78,11 @@ checks s m =
 
 -- the message's code: 1 where nothing speaks against it
 unfoldable pub codeOf : Settings → Message → ℕ
-codeOf s m = firstOf (checks s m) 1
+codeOf s m = firstOf (checks s m) Code.done
 
 -- the settings after it: an accepted set stores, everything else leaves every setting
 unfoldable pub settingsAfter : Settings → Message → Settings
-settingsAfter s m = pick (eqb (codeOf s m) 1 && eqb (m .type) typeSet) (row m .stored s (parameters m)) s
+settingsAfter s m = pick (eqb (codeOf s m) Code.done && eqb (m .type) typeSet) (row m .stored s (parameters m)) s
 
 -- both
 abbrev pub judgedOf : Settings → Message → Judged
@@ -106,5 +107,5 @@ replyTo i kind s p = pick (eqb kind typeRange) (framed typeRangeReply (rangeBody
 -- what is written for a code: the reply for 1, nothing for 2, NAK for a refusal
 unfoldable pub replyOf : Settings → Message → List ℕ
 replyOf s m =
-    pick (eqb (codeOf s m) 1) (replyTo (row m) (m .type) (settingsAfter s m) (parameters m))
-    (pick (eqb (codeOf s m) 2) [] nak)
+    pick (eqb (codeOf s m) Code.done) (replyTo (row m) (m .type) (settingsAfter s m) (parameters m))
+    (pick (eqb (codeOf s m) Code.noReplyDue) [] nak)

@@ -5,6 +5,7 @@ use mathlib.Core.Bool.{Bool, _&&_, _||_, not}
 use mathlib.Core.List.{List, [], _∷_}
 use lib.Dec.{eqb, leb, ltb}
 use Rattle.wire.specs.Choice.{Check, check}
+use Rattle.wire.specs.Codes as Code
 use Rattle.wire.specs.Header.{typeSet, typeAcknowledgement, typeData}
 
 -- "acknowledgements of length 3 naming item 0 to 3"
@@ -32,4 +33,4 @@ tooLong type size = leb type 2 && ltb 64 size
 -- 11 stands before 10; 2 is for the unanswered, of which none has a bad header.
 abbrev pub headerChecks : ℕ → ℕ → ℕ → List Check
 headerChecks type size named =
-    check 2 (unanswered type size named) ∷ check 11 (badHeader type size named) ∷ check 10 (tooLong type size) ∷ []
+    check Code.noReplyDue (unanswered type size named) ∷ check Code.badHeader (badHeader type size named) ∷ check Code.tooLong (tooLong type size) ∷ []

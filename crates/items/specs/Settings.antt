@@ -6,6 +6,7 @@ use lib.Dec.{leb, eqb}
 use lib.ListN.{length, replicate}
 use lib.IntN.{ℤ, pos, negsuc}
 use Rattle.wire.specs.Choice.{pick, oneOf, within}
+use Rattle.wire.specs.Codes as Code
 use Rattle.wire.specs.Signed.{coded}
 use Rattle.rates.specs.Rate.{isD}
 use Rattle.tuning.specs.Bands.{inBands}
@@ -71,7 +72,7 @@ isSerial serial = eqb (length serial) 8 && allSerial serial
 -- "serial not eight of A-Z, 0-9": 26, and "the fresh box has serial 00000000"
 abbrev pub freshAnswer : List ℕ → Judged
 freshAnswer serial =
-    pick (isSerial serial) (record { code = 1; settings = freshOf serial }) (record { code = 26; settings = freshOf (replicate 8 0x30) })
+    pick (isSerial serial) (record { code = Code.done; settings = freshOf serial }) (record { code = Code.notASerial; settings = freshOf (replicate 8 0x30) })
 
 -- all of them, in their order
 abbrev settings : ℕ → ℕ → ℕ → ℕ → Bool → ℕ → ℕ → ℕ → List ℕ → Settings

@@ -4,6 +4,7 @@ use mathlib.Core.Bool.{Bool, true, false, not}
 use mathlib.Core.List.{List, [], _∷_}
 use lib.Dec.{eqb}
 use Rattle.wire.specs.Choice.{pick, Check, check}
+use Rattle.wire.specs.Codes as Code
 use Rattle.wire.specs.Header.{typeSet, typeRequest, typeRange}
 use Rattle.items.specs.declared.Expected.{Expected}
 use Rattle.items.specs.declared.Expected.the-variants.{Total, Unlisted, NotOffered}
@@ -24,18 +25,18 @@ pub record Told : Type 0 where
 
 -- "item known, this kind not offered": 14
 abbrev pub told : Offer → Told
-told (total n) = record { code = 1; length = n }
-told dash = record { code = 14; length = 0 }
+told (total n) = record { code = Code.done; length = n }
+told dash = record { code = Code.notOffered; length = 0 }
 
 -- "item not in the list": 12
 abbrev pub tableSays : ℕ → ℕ → Told
-tableSays item kind = pick (listed item) (told (offered (rowOf item) kind)) (record { code = 12; length = 0 })
+tableSays item kind = pick (listed item) (told (offered (rowOf item) kind)) (record { code = Code.notListed; length = 0 })
 
 -- The same for the enum that the code answers with: the number and the value of each of its cases.
 abbrev pub tell : Expected → Told
-tell (Total n) = record { code = 1; length = n }
-tell Unlisted = record { code = 12; length = 0 }
-tell NotOffered = record { code = 14; length = 0 }
+tell (Total n) = record { code = Code.done; length = n }
+tell Unlisted = record { code = Code.notListed; length = 0 }
+tell NotOffered = record { code = Code.notOffered; length = 0 }
 
 abbrev pub isDash : Offer → Bool
 isDash (total n) = false
@@ -48,7 +49,7 @@ isTotal dash size = false
 -- "item not in the list", "item known, this kind not offered", "wrong length for item and kind", in the order of checking
 abbrev pub tableChecks : ℕ → ℕ → ℕ → List Check
 tableChecks item kind size =
-    check 12 (not (listed item))
-    ∷ check 14 (isDash (offered (rowOf item) kind))
-    ∷ check 13 (not (isTotal (offered (rowOf item) kind) size))
+    check Code.notListed (not (listed item))
+    ∷ check Code.notOffered (isDash (offered (rowOf item) kind))
+    ∷ check Code.wrongLength (not (isTotal (offered (rowOf item) kind) size))
     ∷ []

@@ -2,22 +2,26 @@
 ghost use mathlib.Core.Path.{_≡_};
 ghost use Prim.Native.Nat.{_≤_};
 ghost use Rattle.wire.specs.Choice.{firstOf};
+ghost use Rattle.wire.specs.Codes as Code;
+ghost use Rattle.wire.specs.Header.{typeAcknowledgement};
 ghost use Rattle.items.specs.Header.{headerChecks};
+use wire::codes;
+use wire::types;
 
 // 2 where no reply is due, 11 for a bad header, 10 for a message that is too long, 1 where the header is in order.
 // `named` is the message's third byte: the item that an acknowledgement names.
 pub fn header_code(kind: u8, size: u16, named: u8) -> u8
-    ensures { λ r. ⌜ r ≡ firstOf (headerChecks kind size named) 1 ⌝ }
+    ensures { λ r. ⌜ r ≡ firstOf (headerChecks kind size named) Code.done ⌝ }
 {
     match kind {
-        0..=2 => control_code(kind, size),
-        3 => acknowledgement_code(size, named),
+        types::SET..=types::RANGE => control_code(kind, size),
+        types::ACKNOWLEDGEMENT => acknowledgement_code(size, named),
         // data items "of every length but 1" are unanswered
         _ => {
             if size == 1 {
-                return 11;
+                return codes::BAD_HEADER;
             }
-            2
+            codes::NO_REPLY_DUE
         }
     }
 }
@@ -25,31 +29,31 @@ pub fn header_code(kind: u8, size: u16, named: u8) -> u8
 // A set, a request or a range request.
 fn control_code(kind: u8, size: u16) -> u8
     requires { ⌜ kind ≤ 2 ⌝ }
-    ensures { λ r. ⌜ r ≡ firstOf (headerChecks kind size 0) 1 ⌝ }
+    ensures { λ r. ⌜ r ≡ firstOf (headerChecks kind size 0) Code.done ⌝ }
 {
     match size {
-        0 | 1 => 11,
+        0 | 1 => codes::BAD_HEADER,
         2 => {
-            if kind == 0 {
-                return 2;
+            if kind == types::SET {
+                return codes::NO_REPLY_DUE;
             }
-            11
+            codes::BAD_HEADER
         }
-        3 => 11,
-        4..=64 => 1,
-        _ => 10,
+        3 => codes::BAD_HEADER,
+        4..=64 => codes::DONE,
+        _ => codes::TOO_LONG,
     }
 }
 
 // An acknowledgement: of length 3 and naming item 0 to 3, or a bad header.
 fn acknowledgement_code(size: u16, named: u8) -> u8
-    ensures { λ r. ⌜ r ≡ firstOf (headerChecks 3 size named) 1 ⌝ }
+    ensures { λ r. ⌜ r ≡ firstOf (headerChecks typeAcknowledgement size named) Code.done ⌝ }
 {
     if size == 3 {
         if named <= 3 {
-            return 2;
+            return codes::NO_REPLY_DUE;
         }
-        return 11;
+        return codes::BAD_HEADER;
     }
-    11
+    codes::BAD_HEADER
 }

@@ -3,6 +3,7 @@ ghost use mathlib.Core.Path.{_≡_};
 ghost use Rattle.items.specs.Settings.{inRange, freshOf, freshAnswer, isMode, isGain, isSize, isSerialByte, allSerial};
 use crate::Judged;
 use crate::Settings;
+use wire::codes;
 
 // Every setting lies within its range. All are tested, with no branch between them.
 pub fn in_range(s: Settings) -> bool
@@ -10,7 +11,7 @@ pub fn in_range(s: Settings) -> bool
 {
     let serial = s.serial;
     tuning::in_bands(s.frequency)
-        & (s.count <= 4_000_000_000)
+        & (s.count <= packets::MOST)
         & tuning::is_clock(s.clock)
         & rates::is_d(s.divisor)
         & is_mode(s.mode)
@@ -25,7 +26,7 @@ pub fn fresh(serial: &[u8]) -> Judged
 {
     if serial.len() != 8 {
         return Judged {
-            code: 26,
+            code: codes::NOT_A_SERIAL,
             settings: started([b'0'; 8]),
         };
     }
@@ -41,12 +42,12 @@ pub fn fresh(serial: &[u8]) -> Judged
     ];
     if !all_serial(own) {
         return Judged {
-            code: 26,
+            code: codes::NOT_A_SERIAL,
             settings: started([b'0'; 8]),
         };
     }
     Judged {
-        code: 1,
+        code: codes::DONE,
         settings: started(own),
     }
 }

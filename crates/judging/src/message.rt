@@ -11,6 +11,8 @@ use items::Judged;
 use items::Settings;
 use items::header;
 use items::table;
+use wire::codes;
+use wire::types;
 
 // The code of a finished message of a type and a length, and the settings after it. `opening` is its first ten bytes, zero where it has fewer. "Codes 10
 // to 17 stand in order of checking (11 first)."
@@ -19,7 +21,7 @@ pub fn judge(s: Settings, kind: u8, size: u16, opening: &[u8; 10]) -> Judged
 {
     let message = &opening[..];
     let early = header::header_code(kind, size, message[2]);
-    if early != 1 {
+    if early != codes::DONE {
         return Judged {
             code: early,
             settings: s,
@@ -27,13 +29,13 @@ pub fn judge(s: Settings, kind: u8, size: u16, opening: &[u8; 10]) -> Judged
     }
     let item = item_in(message);
     let listed = table::listed_code(item, kind, size);
-    if listed != 1 {
+    if listed != codes::DONE {
         return Judged {
             code: listed,
             settings: s,
         };
     }
-    if kind == 0 {
+    if kind == types::SET {
         return sets::set_item(s, item, &message[4..]);
     }
     Judged {
@@ -55,15 +57,15 @@ fn asked_code(item: u16, p: &[u8]) -> u8
     ensures { λ r. ⌜ r ≡ askedBy (rowOf item) (now (p .entry)) ⌝ }
 {
     match item {
-        0x0004 => {
+        table::VERSIONS => {
             if p[0] <= 3 {
-                return 1;
+                return codes::DONE;
             }
-            16
+            codes::VALUE_NOT_ALLOWED
         }
-        0x0020 => asked_channel(p[0]),
-        0x0038 => asked_channel(p[0]),
-        _ => 1,
+        table::FREQUENCY => asked_channel(p[0]),
+        table::GAIN => asked_channel(p[0]),
+        _ => codes::DONE,
     }
 }
 
@@ -72,7 +74,7 @@ fn asked_channel(byte: u8) -> u8
     ensures { λ r. ⌜ r ≡ askedBy frequency (byte ∷ []) ⌝ }
 {
     if byte == 0 {
-        return 1;
+        return codes::DONE;
     }
-    15
+    codes::CHANNEL_NOT_ALLOWED
 }

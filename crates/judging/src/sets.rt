@@ -9,6 +9,8 @@ ghost use Rattle.items.specs.Answer.{setBy, channelAllowed};
 use items::Judged;
 use items::Settings;
 use items::ranges;
+use items::table;
+use wire::codes;
 
 // A set of an item. Where the table has a dash there is nothing to store; such a set is refused before (14).
 pub(crate) fn set_item(s: Settings, item: u16, p: &[u8]) -> Judged
@@ -16,14 +18,14 @@ pub(crate) fn set_item(s: Settings, item: u16, p: &[u8]) -> Judged
     ensures { λ r. ⌜ r ≡ setBy (rowOf item) s (now (p .entry)) ⌝ }
 {
     match item {
-        0x0018 => set_state(s, p),
-        0x0020 => set_frequency(s, p),
-        0x0038 => set_gain(s, p),
-        0x00B0 => set_clock(s, p),
-        0x00B8 => set_rate(s, p),
-        0x00C4 => set_size(s, p),
+        table::STATE => set_state(s, p),
+        table::FREQUENCY => set_frequency(s, p),
+        table::GAIN => set_gain(s, p),
+        table::CLOCK => set_clock(s, p),
+        table::RATE => set_rate(s, p),
+        table::PACKET_SIZE => set_size(s, p),
         _ => Judged {
-            code: 1,
+            code: codes::DONE,
             settings: s,
         },
     }
@@ -39,13 +41,13 @@ fn set_state(s: Settings, p: &[u8]) -> Judged
             let mut idle = s;
             idle.running = false;
             Judged {
-                code: 1,
+                code: codes::DONE,
                 settings: idle,
             }
         }
         2 => start(s, p[0], p[2]),
         _ => Judged {
-            code: 16,
+            code: codes::VALUE_NOT_ALLOWED,
             settings: s,
         },
     }
@@ -58,13 +60,13 @@ fn start(s: Settings, first: u8, mode: u8) -> Judged
 {
     if first != 0x80 {
         return Judged {
-            code: 16,
+            code: codes::VALUE_NOT_ALLOWED,
             settings: s,
         };
     }
     if !ranges::is_mode(mode) {
         return Judged {
-            code: 16,
+            code: codes::VALUE_NOT_ALLOWED,
             settings: s,
         };
     }
@@ -72,12 +74,12 @@ fn start(s: Settings, first: u8, mode: u8) -> Judged
     if already {
         if mode != s.mode {
             return Judged {
-                code: 17,
+                code: codes::NOT_WHILE_RUNNING,
                 settings: s,
             };
         }
         return Judged {
-            code: 1,
+            code: codes::DONE,
             settings: s,
         };
     }
@@ -86,7 +88,7 @@ fn start(s: Settings, first: u8, mode: u8) -> Judged
     begun.mode = mode;
     begun.count = 0;
     Judged {
-        code: 1,
+        code: codes::DONE,
         settings: begun,
     }
 }
@@ -101,20 +103,20 @@ fn set_gain(s: Settings, p: &[u8]) -> Judged
     let to_gain = ranges::is_gain(byte);
     if !to_channel {
         return Judged {
-            code: 15,
+            code: codes::CHANNEL_NOT_ALLOWED,
             settings: s,
         };
     }
     if !to_gain {
         return Judged {
-            code: 16,
+            code: codes::VALUE_NOT_ALLOWED,
             settings: s,
         };
     }
     let mut set = s;
     set.gain = byte;
     Judged {
-        code: 1,
+        code: codes::DONE,
         settings: set,
     }
 }
@@ -127,20 +129,20 @@ fn set_size(s: Settings, p: &[u8]) -> Judged
     let byte = p[0];
     if !ranges::is_size(byte) {
         return Judged {
-            code: 16,
+            code: codes::VALUE_NOT_ALLOWED,
             settings: s,
         };
     }
     if s.running {
         return Judged {
-            code: 17,
+            code: codes::NOT_WHILE_RUNNING,
             settings: s,
         };
     }
     let mut set = s;
     set.size = byte;
     Judged {
-        code: 1,
+        code: codes::DONE,
         settings: set,
     }
 }
@@ -162,21 +164,21 @@ fn set_frequency(s: Settings, p: &[u8]) -> Judged
 {
     if !set_channel(p[0]) {
         return Judged {
-            code: 15,
+            code: codes::CHANNEL_NOT_ALLOWED,
             settings: s,
         };
     }
     let hz = wire::number_at(p, 1, 5);
     if !tuning::in_bands(hz) {
         return Judged {
-            code: 16,
+            code: codes::VALUE_NOT_ALLOWED,
             settings: s,
         };
     }
     let mut set = s;
     set.frequency = hz;
     Judged {
-        code: 1,
+        code: codes::DONE,
         settings: set,
     }
 }
@@ -188,14 +190,14 @@ fn set_clock(s: Settings, p: &[u8]) -> Judged
     let hz = wire::number_at(p, 1, 4) as u32;
     if !tuning::is_clock(hz) {
         return Judged {
-            code: 16,
+            code: codes::VALUE_NOT_ALLOWED,
             settings: s,
         };
     }
     let mut set = s;
     set.clock = hz;
     Judged {
-        code: 1,
+        code: codes::DONE,
         settings: set,
     }
 }
@@ -209,20 +211,20 @@ fn set_rate(s: Settings, p: &[u8]) -> Judged
     let running = s.running;
     if !allowed {
         return Judged {
-            code: 16,
+            code: codes::VALUE_NOT_ALLOWED,
             settings: s,
         };
     }
     if running {
         return Judged {
-            code: 17,
+            code: codes::NOT_WHILE_RUNNING,
             settings: s,
         };
     }
     let mut set = s;
     set.divisor = rates::nearest(asked);
     Judged {
-        code: 1,
+        code: codes::DONE,
         settings: set,
     }
 }

@@ -6,6 +6,8 @@ use mathlib.Core.List.{List, [], _∷_, _++_}
 use lib.Dec.{eqb, leb, ltb}
 use lib.ListN.{length}
 use Rattle.wire.specs.Choice.{pick}
+use Rattle.wire.specs.Codes as Code
+use Rattle.packets.specs.Numbers.{last}
 use Rattle.lines.specs.declared.Due.{Due}
 use Rattle.lines.specs.declared.Told.{Told}
 use Rattle.lines.specs.Lines.{Line, textOf, openingLine, captureLine, refusalLine, endLine}
@@ -29,7 +31,7 @@ dueLines d = openingIf (d .opening) ++ (captureIf d ++ endingIf d)
 
 -- a position, pairs and a D within what a capture can have: the products of its line fit 64 bits then
 unfoldable pub sized : Due → Bool
-sized d = leb (d .position) 3_999_999_999 && leb (d .pairs) 256 && leb (d .divisor) 625
+sized d = leb (d .position) last && leb (d .pairs) 256 && leb (d .divisor) 625
 
 -- what writing answers, and the bytes that it writes at the start of the lent slice
 pub record Telling : Type 0 where
@@ -43,8 +45,8 @@ silentWith code = record { told = record { code = code; wrote = 0 }; bytes = [] 
 -- a text is written whole, or not at all, with 20, where the slice is shorter
 abbrev pub telling : List ℕ → ℕ → Telling
 telling text room =
-    pick (ltb room (length text)) (silentWith 20) (record { told = record { code = 1; wrote = length text }; bytes = text })
+    pick (ltb room (length text)) (silentWith Code.noRoom) (record { told = record { code = Code.done; wrote = length text }; bytes = text })
 
 -- 16 for numbers that no capture has, and else the lines' text
 unfoldable pub tellingOf : Due → ℕ → Telling
-tellingOf d room = pick (not (sized d)) (silentWith 16) (telling (textOf (dueLines d)) room)
+tellingOf d room = pick (not (sized d)) (silentWith Code.valueNotAllowed) (telling (textOf (dueLines d)) room)

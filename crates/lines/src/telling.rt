@@ -11,6 +11,7 @@ use crate::Due;
 use crate::Told;
 use crate::text::copy;
 use crate::text::put_line;
+use wire::codes;
 
 // "SPAN 1", where it is due.
 fn put_opening(on: bool, buf: &mut [u8], at: usize) -> usize
@@ -76,7 +77,7 @@ fn put_due(d: Due, buf: &mut [u8]) -> usize
 fn is_sized(d: Due) -> bool
     ensures { λ r. ⌜ r ≡ sized d ⌝ }
 {
-    if 3_999_999_999 < d.position {
+    if packets::LAST < d.position {
         return false;
     }
     if 256 < d.pairs {
@@ -91,13 +92,22 @@ pub fn tell(d: Due, out: &mut [u8]) -> Told
     ensures { λ r. ⌜ (r ≡ tellingOf d (length (now (out .entry))) .told) × (now (out .exit) ≡ sets (now (out .entry)) 0 (tellingOf d (length (now (out .entry))) .bytes)) ⌝ }
 {
     if !is_sized(d) {
-        return Told { code: 16, wrote: 0 };
+        return Told {
+            code: codes::VALUE_NOT_ALLOWED,
+            wrote: 0,
+        };
     }
     let mut text = [0u8; 256];
     let n = put_due(d, &mut text);
     if out.len() < n {
-        return Told { code: 20, wrote: 0 };
+        return Told {
+            code: codes::NO_ROOM,
+            wrote: 0,
+        };
     }
     copy(&text[..n], out, 0);
-    Told { code: 1, wrote: n }
+    Told {
+        code: codes::DONE,
+        wrote: n,
+    }
 }

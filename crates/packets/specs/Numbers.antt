@@ -18,6 +18,10 @@ stepOf s t = pick (ltb s t) (t - s) (t + 65_535 - s)
 abbrev pub numberIn : List ℕ → ℕ
 numberIn packet = field 2 2 packet
 
--- "capture holds 4,000,000,000 packets": positions 0 to 3,999,999,999
+-- "capture holds 4,000,000,000 packets"
 abbrev pub most : ℕ
 most = 4_000_000_000
+
+-- the last position that a capture can have
+abbrev pub last : ℕ
+last = 3_999_999_999

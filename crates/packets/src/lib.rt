@@ -7,6 +7,11 @@ ghost use Rattle.wire.specs.Number.{field};
 ghost use Rattle.packets.specs.Forms.{formFor, listed, sameForm, totalOf, noForm, formWithHeader, wholeOf};
 ghost use Rattle.packets.specs.Numbers.{numberAt, numberIn, stepOf};
 
+// How many packets a capture can hold, and the position of the last of them.
+pub const MOST: u64 = 4_000_000_000;
+
+pub const LAST: u64 = 3_999_999_999;
+
 // How a packet is laid out: the bits of a sample and the I/Q pairs in a packet. The four listed forms are those of the
 // table in specs/Forms.antt.
 pub struct Form {

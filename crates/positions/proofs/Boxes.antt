@@ -33,7 +33,7 @@ pub record Made (s : Station) (samples : List ℤ) : Type 0 where
   pub enough : length samples ≡ 2 * formNow (s .settings) .pairs
   pub fits : allSamples samples ≡ true
 
-made : (s : Station) (samples : List ℤ) (room : ℕ) → cutCode s samples room ≡ 1 → Made s samples
+pub made : (s : Station) (samples : List ℤ) (room : ℕ) → cutCode s samples room ≡ 1 → Made s samples
 unfolding cutCode
 made s samples room e =
     let clear = absent (cutChecks s samples room) 1 refl e in

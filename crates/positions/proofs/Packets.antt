@@ -27,7 +27,7 @@ length-samples bits (z ∷ zs) =
     ∙ omega (arith, length-bytes (bits / 8) (coded bits (narrowed bits z)), length-samples bits zs, suc-mul (length zs) (bits / 8))
 
 module _ (f : Form) (p : ℕ) (zs : List ℤ) where
-  packet-length : length zs ≡ 2 * f .pairs → length (packetOf f p zs) ≡ totalOf f
+  pub packet-length : length zs ≡ 2 * f .pairs → length (packetOf f p zs) ≡ totalOf f
   packet-length e =
       let width : ℕ = f .bits / 8 in
       let all : length (samplesBytes (f .bits) zs) ≡ 2 * f .pairs * width = length-samples (f .bits) zs ∙ ap (λ (n : ℕ). n * width) e in

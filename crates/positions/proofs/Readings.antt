@@ -8,10 +8,10 @@ use borrow.Author.Tests.{eq-eqb, ne-eqb, le-leb, le-ltb}
 use lib.Dec.{eqb}
 use Rattle.packets.specs.declared.Form.{Form}
 use Rattle.packets.specs.Forms.{listed, wholeOf, sameForm}
-use Rattle.packets.specs.Numbers.{numberAt, numberIn, stepOf, most}
+use Rattle.packets.specs.Numbers.{numberAt, numberIn, stepOf, most, last}
 use Rattle.packets.proofs.Numbers.{number-zero}
 use Rattle.reader.specs.declared.Reader.{Reader}
-use Rattle.reader.specs.Reading.{last, sound, positionAfter, readingOf, heardAt}
+use Rattle.reader.specs.Reading.{sound, positionAfter, readingOf, heardAt}
 use Rattle.reader.proofs.Reading.{taken}
 use Rattle.positions.proofs.Steps.{position-is-exact, repeated-is-a-turn}
 

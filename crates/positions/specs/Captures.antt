@@ -4,6 +4,7 @@ use mathlib.Core.Bool.{true}
 use mathlib.Core.List.{List, [], _∷_}
 use mathlib.Core.Path.{_≡_}
 use lib.IntN.{ℤ}
+use Rattle.wire.specs.Codes as Code
 use Rattle.station.specs.declared.Station.{Station}
 use Rattle.station.specs.Feeding.{feedingOf}
 use Rattle.cutting.specs.Cutting.{cuttingOf}
@@ -15,7 +16,7 @@ pub data Cuts : Station → List (List ℕ) → Type 0 where
   ends : {s : Station} → Cuts s []
   cuts :
       {s : Station} {packets : List (List ℕ)} (samples : List ℤ) (room : ℕ)
-      → cuttingOf s samples room .cut .code ≡ 1
+      → cuttingOf s samples room .cut .code ≡ Code.done
       → Cuts (cuttingOf s samples room .cut .station) packets
       → Cuts s (cuttingOf s samples room .bytes ∷ packets)
   feeds :

@@ -12,10 +12,10 @@ use lib.Seq.{take-all}
 use Rattle.wire.proofs.Laws.{pick-true, pick-false, and-left, and-not-left}
 use Rattle.packets.specs.declared.Form.{Form}
 use Rattle.packets.specs.Forms.{noForm, sameForm, listed, wholeOf, isPacket, totalOf}
-use Rattle.packets.specs.Numbers.{numberAt, stepOf, numberIn}
+use Rattle.packets.specs.Numbers.{numberAt, stepOf, numberIn, last}
 use Rattle.packets.proofs.Forms.{is-listed-form, Whole, whole-is, packet-is}
 use Rattle.reader.specs.declared.Reader.{Reader}
-use Rattle.reader.specs.Reading.{last, sound, positionAfter, readChecks, readCode, readingOf, heardAt, unheard, sampleBytesOf}
+use Rattle.reader.specs.Reading.{sound, positionAfter, readChecks, readCode, readingOf, heardAt, unheard, sampleBytesOf}
 use Rattle.wire.proofs.Checks.{clear}
 
 -- a slice is a packet where the form found has pairs

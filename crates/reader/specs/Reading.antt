@@ -6,17 +6,14 @@ use lib.Dec.{eqb, leb, ltb}
 use lib.IntN.{ℤ}
 use lib.ListN.{drop}
 use Rattle.wire.specs.Choice.{pick, Check, check, firstOf}
+use Rattle.wire.specs.Codes as Code
 use Rattle.packets.specs.declared.Form.{Form}
 use Rattle.packets.specs.Forms.{noForm, sameForm, listed, wholeOf, isPacket}
-use Rattle.packets.specs.Numbers.{numberAt, stepOf, numberIn}
+use Rattle.packets.specs.Numbers.{numberAt, stepOf, numberIn, last}
 use Rattle.packets.specs.Samples.{samplesFrom}
 use Rattle.reader.specs.declared.Reader.{Reader}
 use Rattle.reader.specs.declared.Heard.{Heard}
 use Rattle.reader.specs.declared.Unpacked.{Unpacked}
-
--- the last position that a capture can have
-abbrev pub last : ℕ
-last = 3_999_999_999
 
 -- a reader that has heard nothing
 abbrev pub silent : Reader
@@ -33,21 +30,21 @@ positionAfter r number = pick (eqb number 0) 0 (r .position + stepOf (numberAt (
 -- "Packet reading 21, 30, 31, 32, 33."
 abbrev pub readChecks : Reader → List ℕ → List Check
 readChecks r packet =
-    check 21 (not (sound r))
-    ∷ check 30 (not (isPacket packet))
-    ∷ check 31 (not (eqb (numberIn packet) 0) && not (r .heard))
-    ∷ check 32 (not (eqb (numberIn packet) 0) && not (sameForm (wholeOf packet) (r .form)))
-    ∷ check 33 (ltb last (positionAfter r (numberIn packet)))
+    check Code.broken (not (sound r))
+    ∷ check Code.notAPacket (not (isPacket packet))
+    ∷ check Code.noFirstPacket (not (eqb (numberIn packet) 0) && not (r .heard))
+    ∷ check Code.formChanged (not (eqb (numberIn packet) 0) && not (sameForm (wholeOf packet) (r .form)))
+    ∷ check Code.pastLast (ltb last (positionAfter r (numberIn packet)))
     ∷ []
 
 unfoldable pub readCode : Reader → List ℕ → ℕ
-readCode r packet = firstOf (readChecks r packet) 1
+readCode r packet = firstOf (readChecks r packet) Code.done
 
 -- "The answer is the packet's position and its first sample's position (packet position times I/Q pairs)."
 abbrev pub heardAt : ℕ → Form → Heard
 heardAt position f =
     record {
-      code = 1;
+      code = Code.done;
       position = position;
       sample = position * f .pairs;
       reader = record { heard = true; position = position; form = f };
@@ -58,7 +55,7 @@ unheard code r = record { code = code; position = 0; sample = 0; reader = r }
 
 unfoldable pub readingOf : Reader → List ℕ → Heard
 readingOf r packet =
-    pick (eqb (readCode r packet) 1) (heardAt (positionAfter r (numberIn packet)) (wholeOf packet))
+    pick (eqb (readCode r packet) Code.done) (heardAt (positionAfter r (numberIn packet)) (wholeOf packet))
     (unheard (readCode r packet) r)
 
 -- "A call of its own answers with the sample bytes handed back as that part of the caller's packet, or with an empty part
@@ -71,17 +68,17 @@ abbrev pub countIn : List ℕ → ℕ
 countIn packet = 2 * wholeOf packet .pairs
 
 abbrev pub unpackChecks : List ℕ → ℕ → List Check
-unpackChecks packet room = check 30 (not (isPacket packet)) ∷ check 20 (ltb room (countIn packet)) ∷ []
+unpackChecks packet room = check Code.notAPacket (not (isPacket packet)) ∷ check Code.noRoom (ltb room (countIn packet)) ∷ []
 
 unfoldable pub unpackCode : List ℕ → ℕ → ℕ
-unpackCode packet room = firstOf (unpackChecks packet room) 1
+unpackCode packet room = firstOf (unpackChecks packet room) Code.done
 
 -- its answer: the code, and how many numbers it writes, which is none where it refuses
 unfoldable pub unpackingOf : List ℕ → ℕ → Unpacked
 unpackingOf packet room =
-    record { code = unpackCode packet room; count = pick (eqb (unpackCode packet room) 1) (countIn packet) 0 }
+    record { code = unpackCode packet room; count = pick (eqb (unpackCode packet room) Code.done) (countIn packet) 0 }
 
 -- the numbers that unpacking writes at the start of the lent slice
 unfoldable pub unpackedOf : List ℕ → ℕ → List ℤ
 unpackedOf packet room =
-    pick (eqb (unpackCode packet room) 1) (samplesFrom (wholeOf packet .bits) (drop 4 packet) 0 (countIn packet)) []
+    pick (eqb (unpackCode packet room) Code.done) (samplesFrom (wholeOf packet .bits) (drop 4 packet) 0 (countIn packet)) []

@@ -1,10 +1,11 @@
 // The harvester's packet reader: a packet's position, its sample bytes, its samples.
 use packets::Form;
+use wire::codes;
 ghost use mathlib.Core.Path.{_≡_};
 ghost use Prim.Native.Nat.{_+_, _<_};
 ghost use lib.ListN.{length};
 ghost use lib.Seq.{sets};
-ghost use Rattle.packets.specs.Numbers.{numberAt, stepOf};
+ghost use Rattle.packets.specs.Numbers.{numberAt, stepOf, most};
 ghost use Rattle.reader.specs.Reading.{silent, sound, unheard, heardAt, readingOf, sampleBytesOf, unpackingOf, unpackedOf};
 
 // What a reader has heard of the capture so far: the position and form of the last packet; before the first packet
@@ -30,9 +31,6 @@ pub struct Unpacked {
     pub count: usize,
 }
 
-// The last position that a capture can have.
-const LAST: u64 = 3_999_999_999;
-
 // A reader that has heard nothing.
 pub fn silent() -> Reader
     ensures { λ r. ⌜ r ≡ silent ⌝ }
@@ -50,7 +48,7 @@ pub fn is_sound(r: Reader) -> bool
 {
     let form = r.form;
     if r.heard {
-        if LAST < r.position {
+        if packets::LAST < r.position {
             return false;
         }
         return packets::is_listed(form);
@@ -75,12 +73,12 @@ fn refused(code: u8, r: Reader) -> Heard
 
 // A packet taken at a position: its first sample stands at that position times the I/Q pairs.
 fn heard_at(position: u64, form: Form) -> Heard
-    requires { ⌜ (position < 4000000000) × (form .pairs < 257) ⌝ }
+    requires { ⌜ (position < most) × (form .pairs < 257) ⌝ }
     ensures { λ h. ⌜ h ≡ heardAt position form ⌝ }
 {
     let sample = position * form.pairs;
     Heard {
-        code: 1,
+        code: codes::DONE,
         position,
         sample,
         reader: Reader {
@@ -94,7 +92,7 @@ fn heard_at(position: u64, form: Form) -> Heard
 // The position that a step from the last packet's position leads to. Mostly it is the very next one; to ask for that first
 // lets the processor go on before it has worked out the last packet's number.
 fn position_after(position: u64, number: u16) -> u64
-    requires { ⌜ position < 4000000000 ⌝ }
+    requires { ⌜ position < most ⌝ }
     ensures { λ r. ⌜ r ≡ position + stepOf (numberAt position) number ⌝ }
 {
     if packets::number_at_position(position + 1) == number {
@@ -108,26 +106,26 @@ pub fn read(r: Reader, packet: &[u8]) -> Heard
     ensures { λ h. ⌜ h ≡ readingOf r (now (packet .entry)) ⌝ }
 {
     if !is_sound(r) {
-        return refused(21, r);
+        return refused(codes::BROKEN, r);
     }
     let form = packets::whole(packet);
     if form.pairs == 0 {
-        return refused(30, r);
+        return refused(codes::NOT_A_PACKET, r);
     }
     let number = packets::number_in(packet);
     if number == 0 {
         return heard_at(0, form);
     }
     if !r.heard {
-        return refused(31, r);
+        return refused(codes::NO_FIRST_PACKET, r);
     }
     let last_form = r.form;
     if !packets::same_form(form, last_form) {
-        return refused(32, r);
+        return refused(codes::FORM_CHANGED, r);
     }
     let position = position_after(r.position, number);
-    if LAST < position {
-        return refused(33, r);
+    if packets::LAST < position {
+        return refused(codes::PAST_LAST, r);
     }
     heard_at(position, form)
 }
@@ -150,11 +148,20 @@ pub fn unpack(packet: &[u8], out: &mut [i32]) -> Unpacked
 {
     let form = packets::whole(packet);
     if form.pairs == 0 {
-        return Unpacked { code: 30, count: 0 };
+        return Unpacked {
+            code: codes::NOT_A_PACKET,
+            count: 0,
+        };
     }
     if !samples::unpack(form, packet, out) {
-        return Unpacked { code: 20, count: 0 };
+        return Unpacked {
+            code: codes::NO_ROOM,
+            count: 0,
+        };
     }
     let count = 2 * form.pairs as usize;
-    Unpacked { code: 1, count }
+    Unpacked {
+        code: codes::DONE,
+        count,
+    }
 }

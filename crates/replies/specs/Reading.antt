@@ -5,6 +5,7 @@ use mathlib.Core.List.{List, [], _∷_, map}
 use lib.Dec.{eqb}
 use lib.IntN.{ℤ, pos}
 use Rattle.wire.specs.Choice.{pick, Check, check, firstOf}
+use Rattle.wire.specs.Codes as Code
 use Rattle.wire.specs.Header.{nak}
 use Rattle.tuning.specs.Bands.{Band, bands}
 use Rattle.items.specs.Items.{name, serial, interface, versions, status, state, frequency, gain, clock, rate, packetSize}
@@ -32,10 +33,10 @@ isReply w bs = awaited w .could (numberIn w bs) && same bs (replyBytes w (number
 -- "one the writer would refuse is 16; it accepts NAK for any other, and exactly those further replies that some valid box
 -- could give to it; else 28"
 abbrev pub readChecks : Wish → List ℕ → List Check
-readChecks w bs = check 16 (not (allowed w)) ∷ check 28 (not (isNak bs || isReply w bs)) ∷ []
+readChecks w bs = check Code.valueNotAllowed (not (allowed w)) ∷ check Code.notAReply (not (isNak bs || isReply w bs)) ∷ []
 
 unfoldable pub readCode : Wish → List ℕ → ℕ
-readCode w bs = firstOf (readChecks w bs) 1
+readCode w bs = firstOf (readChecks w bs) Code.done
 
 -- what an accepted reply says
 abbrev pub heard : Wish → List ℕ → Reply
@@ -48,7 +49,7 @@ pub record Told : Type 0 where
   pub values : List ℤ
 
 abbrev pub said : ℕ → List ℤ → Told
-said item values = record { code = 1; item = item; values = values }
+said item values = record { code = Code.done; item = item; values = values }
 
 abbrev pub refused : ℕ → Told
 refused code = record { code = code; item = 0; values = [] }
@@ -73,9 +74,9 @@ told (Gain g) = said (gain .code) (g ∷ [])
 told (Clock hz) = said (clock .code) (pos hz ∷ [])
 told (Rate hz) = said (rate .code) (pos hz ∷ [])
 told (PacketSize n) = said (packetSize .code) (pos n ∷ [])
-told NotAllowed = refused 16
-told NotAReply = refused 28
+told NotAllowed = refused Code.valueNotAllowed
+told NotAReply = refused Code.notAReply
 
 -- what reading the bytes that came answers
 unfoldable pub toldOf : Wish → List ℕ → Told
-toldOf w bs = pick (eqb (readCode w bs) 1) (told (heard w bs)) (refused (readCode w bs))
+toldOf w bs = pick (eqb (readCode w bs) Code.done) (told (heard w bs)) (refused (readCode w bs))

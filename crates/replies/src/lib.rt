@@ -9,6 +9,7 @@ ghost use Rattle.replies.specs.Awaited.{awaited, isSerial, isStatus, isS
 ghost use Rattle.replies.specs.declared.Reply.the-variants.{State};
 ghost use Rattle.replies.specs.Reading.{same, isNak, told, toldOf};
 use layouts::Layout;
+use wire::types;
 use wishes::StateFields;
 use wishes::Wish;
 
@@ -192,7 +193,7 @@ fn reply_layout(w: Wish, n: u64) -> Layout
 {
     let asked = wishes::layout_of(w);
     Layout {
-        kind: 0,
+        kind: types::REPLY,
         item: asked.item,
         echoed: asked.echoed,
         echo: asked.echo,
@@ -244,7 +245,12 @@ fn read_range(bytes: &[u8]) -> Reply
     ensures { λ r. ⌜ told r ≡ toldOf Wish.AskFrequencyRange (now (bytes .entry)) ⌝ }
 {
     let mut range = [0u8; 36];
-    wire::put(&mut range, 0, 2, wire::header_of(2, 36) as u64);
+    wire::put(
+        &mut range,
+        0,
+        2,
+        wire::header_of(types::RANGE_REPLY, 36) as u64,
+    );
     wire::put(&mut range, 2, 4, 0x0200_0020);
     tuning::put_range(&mut range, 6);
     if check::same(bytes, &range) {

@@ -7,6 +7,7 @@ use lib.IntN.{ℤ}
 use lib.ListN.{length, take, drop}
 use lib.Seq.{sets}
 use Rattle.wire.specs.Choice.{pick}
+use Rattle.wire.specs.Codes as Code
 use Rattle.framing.specs.Framing.{between}
 use Rattle.station.specs.declared.Station.{Station}
 use Rattle.cutting.specs.Cutting.{cuttingOf}
@@ -43,7 +44,7 @@ ran count out = record { count = count; out = out }
 unfoldable pub cutOn : ℕ → ℕ → ℕ → Station → List ℤ → ℕ → ℕ → List ℕ → Ran
 cutOn zero n total s samples count at out = ran count out
 cutOn (suc left) n total s samples count at out =
-    pick (eqb (cuttingOf s (take n samples) (length out - at) .cut .code) 1)
+    pick (eqb (cuttingOf s (take n samples) (length out - at) .cut .code) Code.done)
     (cutOn left n total (cuttingOf s (take n samples) (length out - at) .cut .station) (drop n samples) (count + 1) (at + total)
     (sets out at (cuttingOf s (take n samples) (length out - at) .bytes)))
     (ran count out)

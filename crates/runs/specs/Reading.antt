@@ -4,6 +4,7 @@ use mathlib.Core.List.{List}
 use lib.Dec.{eqb}
 use lib.ListN.{length, take, drop}
 use Rattle.wire.specs.Choice.{pick}
+use Rattle.wire.specs.Codes as Code
 use Rattle.reader.specs.declared.Reader.{Reader}
 use Rattle.reader.specs.Reading.{silent, readingOf}
 
@@ -12,7 +13,7 @@ use Rattle.reader.specs.Reading.{silent, readingOf}
 unfoldable pub heardRun : ℕ → ℕ → Reader → ℕ → List ℕ → ℕ
 heardRun zero total r sample rest = sample
 heardRun (suc left) total r sample rest =
-    pick (eqb (readingOf r (take total rest) .code) 1)
+    pick (eqb (readingOf r (take total rest) .code) Code.done)
     (heardRun left total (readingOf r (take total rest) .reader) (readingOf r (take total rest) .sample) (drop total rest))
     sample
 

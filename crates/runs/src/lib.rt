@@ -2,6 +2,7 @@
 // once, so the state stays where the library keeps it. (A run of messages is a talk: crate talks.)
 use items::Settings;
 use station::Station;
+use wire::codes;
 ghost use mathlib.Core.Path.{_≡_};
 ghost use Prim.Native.Nat.{min};
 ghost use lib.ListN.{length};
@@ -25,7 +26,7 @@ pub extern "C" fn skvornela_read_run(packets: &[u8], total: usize) -> u64
     while 0 < left {
         let end = at + total;
         let h = reader::read(r, &packets[at..end]);
-        if h.code != 1 {
+        if h.code != codes::DONE {
             return sample;
         }
         sample = h.sample;
@@ -91,7 +92,7 @@ pub extern "C" fn skvornela_cut_run(
     while 0 < left {
         let end = i + n;
         let cut = cutting::cut_packet(s, &samples[i..end], &mut out[at..]);
-        if cut.code != 1 {
+        if cut.code != codes::DONE {
             return count;
         }
         let after = cut.station;

@@ -10,7 +10,7 @@ use lib.ListN.{length}
 use borrow.Author.Tests.{lt-ltb, le-leb, eq-eqb}
 use Rattle.wire.proofs.Laws.{pick-keeps, or-right, or-left, and-both}
 use Rattle.packets.specs.declared.Form.{Form}
-use Rattle.reader.specs.Reading.{last}
+use Rattle.packets.specs.Numbers.{last}
 use Rattle.heads.specs.Head.{headLength}
 use Rattle.heads.specs.Head.{readCode as headCode}
 use Rattle.heads.proofs.Rounds.{passed}

@@ -14,10 +14,10 @@ use Rattle.wire.specs.Number.{field}
 use Rattle.wire.proofs.Laws.{and-left, and-both, true-not-false}
 use Rattle.packets.specs.declared.Form.{Form}
 use Rattle.packets.specs.Forms.{sameForm, totalOf, listed, formWithHeader, wholeOf, isPacket}
-use Rattle.packets.specs.Numbers.{numberAt, stepOf, numberIn}
+use Rattle.packets.specs.Numbers.{numberAt, stepOf, numberIn, last}
 use Rattle.packets.proofs.Numbers.{field-two}
 use Rattle.reader.specs.declared.Reader.{Reader}
-use Rattle.reader.specs.Reading.{last, sound, positionAfter, readCode}
+use Rattle.reader.specs.Reading.{sound, positionAfter, readCode}
 use Rattle.heads.specs.declared.Head.{Head}
 use Rattle.heads.specs.Head.{formIn}
 use Rattle.hearing.specs.declared.Tally.{Tally}

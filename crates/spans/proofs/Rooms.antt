@@ -8,8 +8,8 @@ use lib.Dec.{eqb}
 use lib.ListN.{length, length-append}
 use Rattle.wire.specs.Choice.{pick}
 use Rattle.wire.proofs.Laws.{pick-keeps}
+use Rattle.packets.specs.Numbers.{last}
 use Rattle.packets.proofs.Forms.{is-listed-form}
-use Rattle.reader.specs.Reading.{last}
 use Rattle.heads.specs.declared.Head.{Head}
 use Rattle.heads.specs.Head.{formIn, allowed}
 use Rattle.heads.proofs.Rounds.{form-listed, divisor-small}

@@ -7,6 +7,7 @@ use lib.Dec.{eqb, ltb}
 use lib.ListN.{length, take, replicate}
 use lib.Seq.{sets}
 use Rattle.wire.specs.Choice.{pick}
+use Rattle.wire.specs.Codes as Code
 use Rattle.heads.specs.declared.Head.{Head}
 use Rattle.heads.specs.Head.{headLength, formIn, headIn}
 use Rattle.heads.specs.Head.{readCode as headCode}
@@ -29,7 +30,7 @@ freshSpan = record { stopped = false; taken = 0; held = replicate 14 0; tally = 
 
 -- the head is still coming, or is whole and one that is read
 abbrev pub headOk : Span → Bool
-headOk s = ltb (s .taken) headLength || (eqb (s .taken) headLength && eqb (headCode (s .held)) 1)
+headOk s = ltb (s .taken) headLength || (eqb (s .taken) headLength && eqb (headCode (s .held)) Code.done)
 
 -- A span that has not stopped is broken (21) where a count of its tally is out of its range, or its head is whole and one
 -- that is refused. All else is taken as it is, whether or not some bytes leave it.
@@ -61,8 +62,8 @@ silently code n after = record { eaten = record { code = code; consumed = n; wro
 -- 1: lines are due after n bytes; 20 where the slice has no room for all of them
 abbrev pub saying : Span → ℕ → ℕ → List Line → Span → Eating
 saying s room n lines after =
-    pick (ltb room (length (textOf lines))) (refused 20 s)
-    (record { eaten = record { code = 1; consumed = n; wrote = length (textOf lines); span = after }; bytes = textOf lines })
+    pick (ltb room (length (textOf lines))) (refused Code.noRoom s)
+    (record { eaten = record { code = Code.done; consumed = n; wrote = length (textOf lines); span = after }; bytes = textOf lines })
 
 -- The head: as many bytes as it lacks are taken of a piece.
 abbrev pub lacking : Span → List ℕ → ℕ
@@ -79,16 +80,16 @@ headTaken s piece =
 
 -- the lines of a whole head that reads with a code: it begins at byte 0
 abbrev pub headLines : ℕ → List Line
-headLines code = openingLine ∷ pick (eqb code 1) [] (refusalLine code 0 ∷ [])
+headLines code = openingLine ∷ pick (eqb code Code.done) [] (refusalLine code 0 ∷ [])
 
 -- the span after a whole head that reads with a code: it stops where the head is refused
 abbrev pub headRead : ℕ → Span → Span
-headRead code s = record { stopped = not (eqb code 1); taken = s .taken; held = s .held; tally = s .tally }
+headRead code s = record { stopped = not (eqb code Code.done); taken = s .taken; held = s .held; tally = s .tally }
 
 -- a span s, after the n bytes that its head lacked of a piece
 abbrev pub openingBy : Span → ℕ → ℕ → Span → Eating
 openingBy s room n after =
-    pick (ltb (after .taken) headLength) (silently 0 n after)
+    pick (ltb (after .taken) headLength) (silently Code.waiting n after)
     (saying s room n (headLines (headCode (after .held))) (headRead (headCode (after .held)) after))
 
 unfoldable pub opening : Span → List ℕ → ℕ → Eating
@@ -102,14 +103,14 @@ endedNow h t =
 
 -- Packets: where a line is due, the open capture ends; then a new one begins, or a packet is refused and the span stops.
 abbrev pub heardLines : Head → Reach → List Line
-heardLines h r = endedNow h (r .tally) ++ pick (eqb (r .code) 1) [] (refusalLine (r .code) (r .tally .begins) ∷ [])
+heardLines h r = endedNow h (r .tally) ++ pick (eqb (r .code) Code.done) [] (refusalLine (r .code) (r .tally .begins) ∷ [])
 
 abbrev pub heardSpan : Span → Reach → Span
-heardSpan s r = withTally (not (eqb (r .code) 1)) s (nextTally r)
+heardSpan s r = withTally (not (eqb (r .code) Code.done)) s (nextTally r)
 
 abbrev pub listeningBy : Span → ℕ → Reach → Eating
 listeningBy s room r =
-    pick (eqb (r .code) 0) (silently 0 (r .at) (withTally false s (r .tally)))
+    pick (eqb (r .code) Code.waiting) (silently Code.waiting (r .at) (withTally false s (r .tally)))
     (saying s room (r .at) (heardLines (headOf s) r) (heardSpan s r))
 
 unfoldable pub listening : Span → List ℕ → ℕ → Eating
@@ -117,8 +118,8 @@ listening s piece room = listeningBy s room (reaching 0 (formIn (headOf s)) (s .
 
 unfoldable pub eatingOf : Span → List ℕ → ℕ → Eating
 eatingOf s piece room =
-    pick (not (validSpan s)) (refused 21 s)
-    (pick (s .stopped) (silently 2 (length piece) s)
+    pick (not (validSpan s)) (refused Code.broken s)
+    (pick (s .stopped) (silently Code.noReplyDue (length piece) s)
     (pick (ltb (s .taken) headLength) (opening s piece room) (listening s piece room)))
 
 -- ---- the end of the input
@@ -126,12 +127,12 @@ eatingOf s piece room =
 -- A head or a packet that is cut off is refused with 40 or 30, and else the count of captures ends it all.
 abbrev pub lastLines : Span → List Line
 lastLines s =
-    pick (ltb (s .taken) headLength) (openingLine ∷ refusalLine 40 0 ∷ [])
+    pick (ltb (s .taken) headLength) (openingLine ∷ refusalLine Code.notAHead 0 ∷ [])
     (endedNow (headOf s) (s .tally)
-    ++ pick (eqb (s .tally .taken) 0) (endLine (s .tally .captures) ∷ []) (refusalLine 30 (s .tally .begins) ∷ []))
+    ++ pick (eqb (s .tally .taken) 0) (endLine (s .tally .captures) ∷ []) (refusalLine Code.notAPacket (s .tally .begins) ∷ []))
 
 -- 21 for a broken span, 2 for one that has stopped
 unfoldable pub finishingOf : Span → ℕ → Telling
 finishingOf s room =
-    pick (not (validSpan s)) (silentWith 21)
-    (pick (s .stopped) (silentWith 2) (telling (textOf (lastLines s)) room))
+    pick (not (validSpan s)) (silentWith Code.broken)
+    (pick (s .stopped) (silentWith Code.noReplyDue) (telling (textOf (lastLines s)) room))

@@ -5,6 +5,7 @@ use mathlib.Core.List.{List, [], _∷_, _++_}
 use lib.Dec.{eqb}
 use lib.ListN.{length, take, drop}
 use Rattle.wire.specs.Choice.{pick, check, firstOf}
+use Rattle.wire.specs.Codes as Code
 use Rattle.wire.specs.Number.{field}
 use Rattle.packets.specs.Forms.{sameForm, totalOf, formWithHeader, wholeOf, isPacket}
 use Rattle.packets.specs.Numbers.{numberIn}
@@ -42,7 +43,7 @@ packetIn rest = take (totalOf (formWithHeader (field 0 2 rest))) rest
 -- "A form unlike the head's is 32, checked after 30 and before 31; a cut-off packet is 30." The rest is the packet reader's.
 unfoldable pub packetCode : Head → Known → List ℕ → ℕ
 packetCode h k packet =
-    firstOf (check 30 (not (isPacket packet)) ∷ check 32 (not (sameForm (wholeOf packet) (formIn h))) ∷ [])
+    firstOf (check Code.notAPacket (not (isPacket packet)) ∷ check Code.formChanged (not (sameForm (wholeOf packet) (formIn h))) ∷ [])
     (readCode (readerAfter h (k .accepted)) packet)
 
 -- "Number 0 begins a new capture, at any moment": the open one ends
@@ -74,7 +75,7 @@ unfoldable pub linesFrom : ℕ → Head → Known → List ℕ → List Line
 linesFrom zero h k rest = atEnd h k
 linesFrom (suc n) h k rest =
     pick (eqb (length rest) 0) (atEnd h k)
-    (pick (eqb (packetCode h k (packetIn rest)) 1)
+    (pick (eqb (packetCode h k (packetIn rest)) Code.done)
     (pick (begins (packetIn rest)) (ended h k) []
     ++ linesFrom n h (knownAfter h k (packetIn rest)) (drop (length (packetIn rest)) rest))
     (atRefusal h k (packetCode h k (packetIn rest))))
@@ -87,7 +88,7 @@ nothing = record { captures = 0; accepted = []; offset = headLength }
 unfoldable pub linesOf : List ℕ → List Line
 linesOf input =
     openingLine
-    ∷ pick (eqb (headCode input) 1) (linesFrom (length input) (headIn input) nothing (drop headLength input))
+    ∷ pick (eqb (headCode input) Code.done) (linesFrom (length input) (headIn input) nothing (drop headLength input))
     (refusalLine (headCode input) 0 ∷ [])
 
 -- what is printed

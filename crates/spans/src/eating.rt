@@ -4,8 +4,8 @@ ghost use Prim.Native.Nat.{_-_, _<_, _≤_, min};
 ghost use mathlib.Core.Bool.{true, false};
 ghost use lib.ListN.{length};
 ghost use lib.Seq.{sets};
-ghost use Rattle.reader.specs.Reading.{last};
-ghost use Rattle.heads.specs.Head.{allowed};
+ghost use Rattle.packets.specs.Numbers.{last};
+ghost use Rattle.heads.specs.Head.{allowed, headLength};
 ghost use Rattle.heads.specs.Head.{readCode as headCode};
 ghost use Rattle.lines.specs.Due.{dueLines, sized};
 ghost use Rattle.hearing.specs.Hearing.{inRange};
@@ -19,6 +19,7 @@ use hearing::Reach;
 use hearing::Tally;
 use lines::Due;
 use lines::Told;
+use wire::codes;
 
 // A span before its first byte.
 pub fn fresh() -> Span
@@ -46,9 +47,9 @@ fn head_code(s: &[u8]) -> u8
 {
     let o = heads::read_head(s);
     match o {
-        Opened::Head(_) => 1,
-        Opened::NotAHead => 40,
-        Opened::OtherVersion => 41,
+        Opened::Head(_) => codes::DONE,
+        Opened::NotAHead => codes::NOT_A_HEAD,
+        Opened::OtherVersion => codes::OTHER_VERSION,
     }
 }
 
@@ -56,14 +57,14 @@ fn head_code(s: &[u8]) -> u8
 fn head_ok(s: Span) -> bool
     ensures { λ r. ⌜ r ≡ headOk s ⌝ }
 {
-    if s.taken < 14 {
+    if s.taken < heads::LENGTH {
         return true;
     }
-    if s.taken != 14 {
+    if s.taken != heads::LENGTH {
         return false;
     }
     let held = s.held;
-    head_code(&held) == 1
+    head_code(&held) == codes::DONE
 }
 
 // Whether a span is not broken: no count of it is out of its range, and no whole head of it is refused.
@@ -88,11 +89,11 @@ fn lesser(a: usize, b: usize) -> usize
 
 // The span with the bytes that its head lacks taken of a piece.
 fn take_head(s: Span, piece: &[u8]) -> Span
-    requires { ⌜ s .taken < 14 ⌝ }
+    requires { ⌜ s .taken < headLength ⌝ }
     ensures { λ r. ⌜ r ≡ headTaken s (now (piece .entry)) ⌝ }
 {
     let taken = s.taken;
-    let k = lesser(14 - taken, piece.len());
+    let k = lesser(heads::LENGTH - taken, piece.len());
     let mut held = s.held;
     lines::copy(&piece[..k], &mut held, taken);
     let tally = s.tally;
@@ -120,7 +121,7 @@ fn refuse(code: u8, s: Span) -> Eaten
 fn head_due(code: u8) -> Due
     ensures { λ r. ⌜ (dueLines r ≡ headLines code) × (sized r ≡ true) ⌝ }
 {
-    if code == 1 {
+    if code == codes::DONE {
         return Due {
             opening: true,
             capture: 0,
@@ -149,7 +150,7 @@ fn head_due(code: u8) -> Due
 }
 
 // The line of the open capture, and a refusal (1) or the end (2) behind it.
-fn ended_due(h: Head, t: Tally, ending: u8, code: u64, offset: u64) -> Due
+fn ended_due(h: Head, t: Tally, ending: u8, code: u8, offset: u64) -> Due
     ensures { λ r. ⌜ r ≡ dueNow h t ending code offset ⌝ }
 {
     let f = heads::form_in(h);
@@ -162,7 +163,7 @@ fn ended_due(h: Head, t: Tally, ending: u8, code: u64, offset: u64) -> Due
         heard: t.heard,
         position: t.position,
         ending,
-        code,
+        code: code as u64,
         offset,
     }
 }
@@ -173,19 +174,19 @@ fn heard_due(h: Head, r: Reach) -> Due
     ensures { λ d. ⌜ (dueLines d ≡ heardLines h r) × (sized d ≡ true) ⌝ }
 {
     let t = r.tally;
-    if r.code == 1 {
+    if r.code == codes::DONE {
         return ended_due(h, t, 0, 0, 0);
     }
-    ended_due(h, t, 1, r.code as u64, t.begins)
+    ended_due(h, t, 1, r.code, t.begins)
 }
 
 // The lines that the end of the input brings.
 fn last_due(s: Span) -> Due
-    requires { ⌜ (s .tally .position ≤ last) × (14 ≤ s .taken → allowed (headOf s) ≡ true) ⌝ }
+    requires { ⌜ (s .tally .position ≤ last) × (headLength ≤ s .taken → allowed (headOf s) ≡ true) ⌝ }
     ensures { λ d. ⌜ (dueLines d ≡ lastLines s) × (sized d ≡ true) ⌝ }
 {
-    if s.taken < 14 {
-        return head_due(40);
+    if s.taken < heads::LENGTH {
+        return head_due(codes::NOT_A_HEAD);
     }
     let held = s.held;
     let h = heads::head_in(&held);
@@ -193,7 +194,7 @@ fn last_due(s: Span) -> Due
     if t.taken == 0 {
         return ended_due(h, t, 2, 0, 0);
     }
-    ended_due(h, t, 1, 30, t.begins)
+    ended_due(h, t, 1, codes::NOT_A_PACKET, t.begins)
 }
 
 // The span after a whole head that reads with a code.
@@ -203,7 +204,7 @@ fn read_span(code: u8, s: Span) -> Span
     let held = s.held;
     let tally = s.tally;
     Span {
-        stopped: code != 1,
+        stopped: code != codes::DONE,
         taken: s.taken,
         held,
         tally,
@@ -212,14 +213,14 @@ fn read_span(code: u8, s: Span) -> Span
 
 // The head's part of a piece.
 fn open(s: Span, piece: &[u8], out: &mut [u8]) -> Eaten
-    requires { ⌜ s .taken < 14 ⌝ }
+    requires { ⌜ s .taken < headLength ⌝ }
     ensures { λ r. ⌜ (r ≡ opening s (now (piece .entry)) (length (now (out .entry))) .eaten) × (now (out .exit) ≡ sets (now (out .entry)) 0 (opening s (now (piece .entry)) (length (now (out .entry))) .bytes)) ⌝ }
 {
     let after = take_head(s, piece);
     let k = after.taken - s.taken;
-    if after.taken < 14 {
+    if after.taken < heads::LENGTH {
         return Eaten {
-            code: 0,
+            code: codes::WAITING,
             consumed: k,
             wrote: 0,
             span: after,
@@ -228,11 +229,11 @@ fn open(s: Span, piece: &[u8], out: &mut [u8]) -> Eaten
     let held = after.held;
     let code = head_code(&held);
     let told = lines::tell(head_due(code), out);
-    if told.code == 20 {
-        return refuse(20, s);
+    if told.code == codes::NO_ROOM {
+        return refuse(codes::NO_ROOM, s);
     }
     Eaten {
-        code: 1,
+        code: codes::DONE,
         consumed: k,
         wrote: told.wrote,
         span: read_span(code, after),
@@ -261,23 +262,23 @@ fn listen(s: Span, piece: &[u8], out: &mut [u8]) -> Eaten
     let h = heads::head_in(&held);
     let heard = hearing::hear(heads::form_in(h), s.tally, piece);
     let r = heard.reach;
-    if r.code == 0 {
+    if r.code == codes::WAITING {
         return Eaten {
-            code: 0,
+            code: codes::WAITING,
             consumed: r.at,
             wrote: 0,
             span: with_tally(false, s, r.tally),
         };
     }
     let told = lines::tell(heard_due(h, r), out);
-    if told.code == 20 {
-        return refuse(20, s);
+    if told.code == codes::NO_ROOM {
+        return refuse(codes::NO_ROOM, s);
     }
     Eaten {
-        code: 1,
+        code: codes::DONE,
         consumed: r.at,
         wrote: told.wrote,
-        span: with_tally(r.code != 1, s, heard.next),
+        span: with_tally(r.code != codes::DONE, s, heard.next),
     }
 }
 
@@ -289,17 +290,17 @@ pub fn eat(s: Span, piece: &[u8], out: &mut [u8]) -> Eaten
     ensures { λ r. ⌜ (r ≡ eatingOf s (now (piece .entry)) (length (now (out .entry))) .eaten) × (now (out .exit) ≡ sets (now (out .entry)) 0 (eatingOf s (now (piece .entry)) (length (now (out .entry))) .bytes)) ⌝ }
 {
     if !is_valid(s) {
-        return refuse(21, s);
+        return refuse(codes::BROKEN, s);
     }
     if s.stopped {
         return Eaten {
-            code: 2,
+            code: codes::NO_REPLY_DUE,
             consumed: piece.len(),
             wrote: 0,
             span: s,
         };
     }
-    if s.taken < 14 {
+    if s.taken < heads::LENGTH {
         return open(s, piece, out);
     }
     listen(s, piece, out)
@@ -311,10 +312,16 @@ pub fn finish(s: Span, out: &mut [u8]) -> Told
     ensures { λ r. ⌜ (r ≡ finishingOf s (length (now (out .entry))) .told) × (now (out .exit) ≡ sets (now (out .entry)) 0 (finishingOf s (length (now (out .entry))) .bytes)) ⌝ }
 {
     if !is_valid(s) {
-        return Told { code: 21, wrote: 0 };
+        return Told {
+            code: codes::BROKEN,
+            wrote: 0,
+        };
     }
     if s.stopped {
-        return Told { code: 2, wrote: 0 };
+        return Told {
+            code: codes::NO_REPLY_DUE,
+            wrote: 0,
+        };
     }
     lines::tell(last_due(s), out)
 }

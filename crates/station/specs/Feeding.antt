@@ -5,6 +5,7 @@ use mathlib.Core.List.{List, []}
 use lib.Dec.{ltb}
 use lib.ListN.{length}
 use Rattle.wire.specs.Choice.{pick}
+use Rattle.wire.specs.Codes as Code
 use Rattle.wire.specs.Header.{lengthIn, typeIn}
 use Rattle.framing.specs.Framing.{Taking, taken, finished, headerIn, between}
 use Rattle.framing.specs.declared.Store.{Store}
@@ -31,7 +32,7 @@ refused code s = record { fed = record { code = code; consumed = 0; wrote = 0; s
 abbrev pub waiting : Settings → Taking → Feeding
 waiting s t =
     record {
-      fed = record { code = 0; consumed = t .count; wrote = 0; station = record { settings = s; store = t .store } };
+      fed = record { code = Code.waiting; consumed = t .count; wrote = 0; station = record { settings = s; store = t .store } };
       bytes = [];
     }
 
@@ -52,7 +53,7 @@ answered s t =
 -- where there is room: "lent buffer shorter than what this call would write" is 20
 abbrev pub answering : Station → Taking → ℕ → Feeding
 answering s t room =
-    pick (ltb room (length (replyOf (s .settings) (messageIn (t .store))))) (refused 20 s) (answered (s .settings) t)
+    pick (ltb room (length (replyOf (s .settings) (messageIn (t .store))))) (refused Code.noRoom s) (answered (s .settings) t)
 
 -- what the taken bytes come to
 abbrev pub fedBy : Station → Taking → ℕ → Feeding
@@ -60,4 +61,4 @@ fedBy s t room = pick (not (finished (t .store))) (waiting (s .settings) t) (ans
 
 -- "Orders: feeding 21, 20."
 unfoldable pub feedingOf : Station → List ℕ → ℕ → Feeding
-feedingOf s host room = pick (not (valid s)) (refused 21 s) (fedBy s (taken (s .store) host) room)
+feedingOf s host room = pick (not (valid s)) (refused Code.broken s) (fedBy s (taken (s .store) host) room)

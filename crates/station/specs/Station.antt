@@ -3,6 +3,7 @@ use Prim.Native.Nat.{ℕ}
 use mathlib.Core.Bool.{Bool, _&&_}
 use mathlib.Core.List.{List, [], _∷_}
 use Rattle.wire.specs.Choice.{pick}
+use Rattle.wire.specs.Codes as Code
 use Rattle.tuning.specs.Told.{Told, tells}
 use Rattle.tuning.specs.Word.{wordOf}
 use Rattle.framing.specs.Framing.{between, couldBeLeft}
@@ -26,12 +27,12 @@ freshBox serial =
 
 -- what an answer tells, in the numbers of "What comes back": 1 and the word, or 21
 abbrev pub told : Tuning → Told
-told (Word w) = tells 1 (w ∷ [])
-told Broken = tells 21 []
+told (Word w) = tells Code.done (w ∷ [])
+told Broken = tells Code.broken []
 
 -- The tuning word: "it is worked out when asked". A broken box has none.
 unfoldable pub tuningTold : Station → Told
-tuningTold s = pick (valid s) (tells 1 (wordOf (s .settings .frequency) (s .settings .clock) ∷ [])) (tells 21 [])
+tuningTold s = pick (valid s) (tells Code.done (wordOf (s .settings .frequency) (s .settings .clock) ∷ [])) (tells Code.broken [])
 
 -- a fresh box, between messages
 abbrev pub freshStation : List ℕ → Station

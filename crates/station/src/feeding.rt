@@ -10,6 +10,7 @@ use crate::Station;
 use framing::Store;
 use framing::Took;
 use items::Settings;
+use wire::codes;
 
 // Takes the host's bytes up to the end of one message, and answers it. Of a valid box, with room for 64 bytes, calling
 // again with the bytes that are left comes to the same replies and the same box however they are cut (Serving).
@@ -20,7 +21,7 @@ pub fn feed(s: Station, host: &[u8], reply: &mut [u8]) -> Fed
           × (now (reply .exit) ≡ sets (now (reply .entry)) 0 (feedingOf s (now (host .entry)) room .bytes)) ⌝ }
 {
     if !crate::is_valid(s) {
-        return refused(21, s);
+        return refused(codes::BROKEN, s);
     }
     let store = s.store;
     let mut held = store.held;
@@ -57,7 +58,7 @@ fn waiting(s: Station, held: [u8; 64], t: Took) -> Fed
         store: store,
     };
     Fed {
-        code: 0,
+        code: codes::WAITING,
         consumed: t.count,
         wrote: 0,
         station: station,
@@ -82,8 +83,8 @@ fn answer(s: Station, t: Took, reply: &mut [u8]) -> Fed
         reply,
     );
     let code = answered.code;
-    if code == 20 {
-        return refused(20, s);
+    if code == codes::NO_ROOM {
+        return refused(codes::NO_ROOM, s);
     }
     let after = answered.settings;
     done(code, t.count, answered.wrote, after)

@@ -3,6 +3,7 @@ use Prim.Native.Nat.{ℕ}
 use mathlib.Core.List.{List, []}
 use lib.Dec.{eqb}
 use Rattle.wire.specs.Choice.{pick}
+use Rattle.wire.specs.Codes as Code
 
 pub record Told : Type 0 where
   pub code : ℕ
@@ -10,4 +11,4 @@ pub record Told : Type 0 where
 
 -- values come with number 1 alone: "done; a reply, packet or value"
 abbrev pub tells : ℕ → List ℕ → Told
-tells code values = record { code = code; values = pick (eqb code 1) values [] }
+tells code values = record { code = code; values = pick (eqb code Code.done) values [] }

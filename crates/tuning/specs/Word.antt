@@ -5,6 +5,7 @@ use mathlib.Core.Bool.{Bool, not}
 use mathlib.Core.List.{List, [], _∷_}
 use lib.Dec.{eqb}
 use Rattle.wire.specs.Choice.{pick, check, firstOf, within}
+use Rattle.wire.specs.Codes as Code
 use Rattle.tuning.specs.Bands.{Band, bands, inBands}
 use Rattle.tuning.specs.Told.{Told, tells}
 use Rattle.tuning.specs.declared.word.Word.{Word}
@@ -32,12 +33,12 @@ isClock hz = within 79_992_000 80_008_000 hz
 
 -- the number and the value of each case: 1 and the word, or 16
 abbrev pub told : Word → Told
-told (Is w) = record { code = 1; values = w ∷ [] }
-told NotAllowed = record { code = 16; values = [] }
+told (Is w) = record { code = Code.done; values = w ∷ [] }
+told NotAllowed = record { code = Code.valueNotAllowed; values = [] }
 
 -- "value not allowed": the frequency lies in no band, or the clock is none that may be set
 abbrev pub wordCode : ℕ → ℕ → ℕ
-wordCode hz clock = firstOf (check 16 (not (inBands hz)) ∷ check 16 (not (isClock clock)) ∷ []) 1
+wordCode hz clock = firstOf (check Code.valueNotAllowed (not (inBands hz)) ∷ check Code.valueNotAllowed (not (isClock clock)) ∷ []) Code.done
 
 -- what asking for the word of a frequency at a clock tells
 abbrev pub wordTold : ℕ → ℕ → Told

@@ -68,6 +68,17 @@ first-goes-on (c ∷ cs) ds n d h = go (c .holds) h (first-goes-on cs ds n (othe
     go true h more = absurd (other-first n c cs d h)
     go false h more = more h
 
+-- what holds of the code of each check
+abbrev pub Each : (ℕ → Type 0) → List Check → Type 0
+Each P [] = Unit {0}
+Each P (c ∷ cs) = P (c .code) × Each P cs
+
+-- holds of the code that is given
+pub given-has : (P : ℕ → Type 0) (cs : List Check) (n : ℕ) → Each P cs → P n → P (firstOf cs n)
+given-has P [] n each other = other
+given-has P (c ∷ cs) n each other =
+    pick-keeps P (c .holds) (c .code) (firstOf cs n) (λ e. each .0) (λ e. given-has P cs n (each .1) other)
+
 -- every check of the list has a code below this number: of codes written as numbers it computes
 abbrev pub below : ℕ → List Check → Bool
 below k [] = true

@@ -2,3 +2,4 @@ pub mod Choice
 pub mod Number
 pub mod Signed
 pub mod Header
+pub mod Codes

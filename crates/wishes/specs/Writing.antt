@@ -5,6 +5,7 @@ use mathlib.Core.List.{List, [], _∷_}
 use lib.Dec.{eqb, ltb}
 use lib.ListN.{length}
 use Rattle.wire.specs.Choice.{pick, Check, check, firstOf}
+use Rattle.wire.specs.Codes as Code
 use Rattle.wishes.specs.declared.Wish.{Wish}
 use Rattle.wishes.specs.declared.Written.{Written}
 use Rattle.wishes.specs.declared.Written.the-variants.{Message, NotAllowed, Short}
@@ -12,14 +13,14 @@ use Rattle.wishes.specs.Wishes.{allowed, messageOf}
 
 -- "16 values the box would refuse so, with 20 a buffer under 16 bytes (16 checked first)"
 abbrev pub writeChecks : Wish → ℕ → List Check
-writeChecks w room = check 16 (not (allowed w)) ∷ check 20 (ltb room 16) ∷ []
+writeChecks w room = check Code.valueNotAllowed (not (allowed w)) ∷ check Code.noRoom (ltb room 16) ∷ []
 
 unfoldable pub writeCode : Wish → ℕ → ℕ
-writeCode w room = firstOf (writeChecks w room) 1
+writeCode w room = firstOf (writeChecks w room) Code.done
 
 -- what is written at the start of a buffer of so many bytes: the message, or nothing where it refuses
 unfoldable pub bytesWritten : Wish → ℕ → List ℕ
-bytesWritten w room = pick (eqb (writeCode w room) 1) (messageOf w) []
+bytesWritten w room = pick (eqb (writeCode w room) Code.done) (messageOf w) []
 
 -- An answer in document 01's terms: its code, and how many bytes were written.
 pub record Told : Type 0 where
@@ -28,9 +29,9 @@ pub record Told : Type 0 where
 
 -- the number and the value of each case
 abbrev pub told : Written → Told
-told (Message n) = record { code = 1; wrote = n }
-told NotAllowed = record { code = 16; wrote = 0 }
-told Short = record { code = 20; wrote = 0 }
+told (Message n) = record { code = Code.done; wrote = n }
+told NotAllowed = record { code = Code.valueNotAllowed; wrote = 0 }
+told Short = record { code = Code.noRoom; wrote = 0 }
 
 -- what writing a wish into a buffer of so many bytes answers
 abbrev pub toldOf : Wish → ℕ → Told

@@ -3,9 +3,12 @@ ghost use mathlib.Core.Path.{_≡_};
 ghost use lib.ListN.{length};
 ghost use lib.Seq.{sets};
 ghost use Rattle.wire.specs.Signed.{coded};
+ghost use Rattle.wire.specs.Header.{typeSet, typeRequest};
 ghost use Rattle.wishes.specs.Wishes.{layoutOf, stateNumber, allowed, mayWishState};
 ghost use Rattle.wishes.specs.Writing.{told, toldOf, bytesWritten};
+use items::table;
 use layouts::Layout;
+use wire::types;
 
 // The state that is wished for: its run byte, 1 for idle or 2 for run, and its capture mode, which idle does not look at.
 pub struct StateFields {
@@ -62,10 +65,10 @@ fn state_number(fields: StateFields) -> u64
 
 // A request has no value.
 fn request(item: u16, echoed: bool, echo: u8) -> Layout
-    ensures { λ r. ⌜ r ≡ record { kind = 1; item = item; echoed = echoed; echo = echo; width = 0; value = 0 } ⌝ }
+    ensures { λ r. ⌜ r ≡ record { kind = typeRequest; item = item; echoed = echoed; echo = echo; width = 0; value = 0 } ⌝ }
 {
     Layout {
-        kind: 1,
+        kind: types::REQUEST,
         item: item,
         echoed: echoed,
         echo: echo,
@@ -76,10 +79,10 @@ fn request(item: u16, echoed: bool, echo: u8) -> Layout
 
 // A set has "channel byte 00", where it has one.
 fn setting(item: u16, echoed: bool, width: u8, value: u64) -> Layout
-    ensures { λ r. ⌜ r ≡ record { kind = 0; item = item; echoed = echoed; echo = 0; width = width; value = value } ⌝ }
+    ensures { λ r. ⌜ r ≡ record { kind = typeSet; item = item; echoed = echoed; echo = 0; width = width; value = value } ⌝ }
 {
     Layout {
-        kind: 0,
+        kind: types::SET,
         item: item,
         echoed: echoed,
         echo: 0,
@@ -93,31 +96,31 @@ pub fn layout_of(w: Wish) -> Layout
     ensures { λ r. ⌜ r ≡ layoutOf w ⌝ }
 {
     match w {
-        Wish::AskName => request(0x0001, false, 0),
-        Wish::AskSerial => request(0x0002, false, 0),
-        Wish::AskInterface => request(0x0003, false, 0),
-        Wish::AskVersion(id) => request(0x0004, true, id),
-        Wish::AskStatus => request(0x0005, false, 0),
-        Wish::SetState(fields) => setting(0x0018, false, 4, state_number(fields)),
-        Wish::AskState => request(0x0018, false, 0),
-        Wish::SetFrequency(hz) => setting(0x0020, true, 5, hz),
-        Wish::AskFrequency => request(0x0020, true, 0),
+        Wish::AskName => request(table::NAME, false, 0),
+        Wish::AskSerial => request(table::SERIAL, false, 0),
+        Wish::AskInterface => request(table::INTERFACE, false, 0),
+        Wish::AskVersion(id) => request(table::VERSIONS, true, id),
+        Wish::AskStatus => request(table::STATUS, false, 0),
+        Wish::SetState(fields) => setting(table::STATE, false, 4, state_number(fields)),
+        Wish::AskState => request(table::STATE, false, 0),
+        Wish::SetFrequency(hz) => setting(table::FREQUENCY, true, 5, hz),
+        Wish::AskFrequency => request(table::FREQUENCY, true, 0),
         Wish::AskFrequencyRange => Layout {
-            kind: 2,
-            item: 0x0020,
+            kind: types::RANGE,
+            item: table::FREQUENCY,
             echoed: true,
             echo: 0,
             width: 0,
             value: 0,
         },
-        Wish::SetGain(g) => setting(0x0038, true, 1, gain_byte(g) as u64),
-        Wish::AskGain => request(0x0038, true, 0),
-        Wish::SetClock(hz) => setting(0x00B0, true, 4, hz as u64),
-        Wish::AskClock => request(0x00B0, true, 0),
-        Wish::SetRate(hz) => setting(0x00B8, true, 4, hz as u64),
-        Wish::AskRate => request(0x00B8, true, 0),
-        Wish::SetPacketSize(n) => setting(0x00C4, false, 1, n as u64),
-        Wish::AskPacketSize => request(0x00C4, false, 0),
+        Wish::SetGain(g) => setting(table::GAIN, true, 1, gain_byte(g) as u64),
+        Wish::AskGain => request(table::GAIN, true, 0),
+        Wish::SetClock(hz) => setting(table::CLOCK, true, 4, hz as u64),
+        Wish::AskClock => request(table::CLOCK, true, 0),
+        Wish::SetRate(hz) => setting(table::RATE, true, 4, hz as u64),
+        Wish::AskRate => request(table::RATE, true, 0),
+        Wish::SetPacketSize(n) => setting(table::PACKET_SIZE, false, 1, n as u64),
+        Wish::AskPacketSize => request(table::PACKET_SIZE, false, 0),
     }
 }
 

@@ -8,7 +8,7 @@ use denote.Ref.{now}
 use lib.Dec.{eqb}
 use lib.ListN.{length}
 use Rattle.packets.specs.declared.Form.{Form}
-use Rattle.reader.specs.Reading.{last}
+use Rattle.packets.specs.Numbers.{last}
 use Rattle.heads.specs.declared.Head.{Head}
 use Rattle.heads.specs.Head.{formIn, allowed}
 use Rattle.heads.proofs.Rounds.{form-listed}

@@ -1,0 +1,165 @@
+-- What comes back: the table of codes, in its order, each by its name.
+use Prim.Native.Nat.{ℕ}
+use mathlib.Core.Path.{_≡_}
+use mathlib.Core.List.{List, [], _∷_}
+use lib.Dec.{eqb}
+use Rattle.wire.specs.Choice.{pick}
+use Rattle.wire.specs.Header.{nak}
+
+-- waiting, all bytes consumed
+abbrev pub waiting : ℕ
+waiting = 0
+
+-- done; a reply, packet or value
+abbrev pub done : ℕ
+done = 1
+
+-- finished, no reply due
+abbrev pub noReplyDue : ℕ
+noReplyDue = 2
+
+-- bad header
+abbrev pub badHeader : ℕ
+badHeader = 11
+
+-- types 0 to 2, length over 64
+abbrev pub tooLong : ℕ
+tooLong = 10
+
+-- item not in the list
+abbrev pub notListed : ℕ
+notListed = 12
+
+-- item known, this kind not offered
+abbrev pub notOffered : ℕ
+notOffered = 14
+
+-- wrong length for item and kind
+abbrev pub wrongLength : ℕ
+wrongLength = 13
+
+-- channel byte not allowed
+abbrev pub channelNotAllowed : ℕ
+channelNotAllowed = 15
+
+-- value not allowed
+abbrev pub valueNotAllowed : ℕ
+valueNotAllowed = 16
+
+-- not while running
+abbrev pub notWhileRunning : ℕ
+notWhileRunning = 17
+
+-- lent buffer shorter than what this call would write (wish writer: under 16)
+abbrev pub noRoom : ℕ
+noRoom = 20
+
+-- broken box or reader state
+abbrev pub broken : ℕ
+broken = 21
+
+-- cut asked while idle
+abbrev pub whileIdle : ℕ
+whileIdle = 22
+
+-- wrong count of samples
+abbrev pub wrongCount : ℕ
+wrongCount = 23
+
+-- sample outside 24 bits
+abbrev pub notASample : ℕ
+notASample = 24
+
+-- capture holds 4,000,000,000 packets
+abbrev pub captureFull : ℕ
+captureFull = 25
+
+-- serial not eight of A-Z, 0-9
+abbrev pub notASerial : ℕ
+notASerial = 26
+
+-- bytes are not a reply to this wish
+abbrev pub notAReply : ℕ
+notAReply = 28
+
+-- not a packet
+abbrev pub notAPacket : ℕ
+notAPacket = 30
+
+-- no packet numbered 0 yet
+abbrev pub noFirstPacket : ℕ
+noFirstPacket = 31
+
+-- packet form changed within a capture
+abbrev pub formChanged : ℕ
+formChanged = 32
+
+-- position past 3,999,999,999
+abbrev pub pastLast : ℕ
+pastLast = 33
+
+-- not a capture head
+abbrev pub notAHead : ℕ
+notAHead = 40
+
+-- head of another version
+abbrev pub otherVersion : ℕ
+otherVersion = 41
+
+-- The table's third column, "Written".
+pub data Written : Type 0 where
+  nothing : Written
+  -- "exactly its length"
+  itsLength : Written
+  -- "NAK", which only the box writes: of code 16 "outside the box nothing"
+  aNak : Written
+
+pub record Row : Type 0 where
+  pub code : ℕ
+  pub written : Written
+
+abbrev row : ℕ → Written → Row
+row code written = record { code = code; written = written }
+
+abbrev pub table : List Row
+table =
+    row waiting nothing
+    ∷ row done itsLength
+    ∷ row noReplyDue nothing
+    ∷ row badHeader aNak
+    ∷ row tooLong aNak
+    ∷ row notListed aNak
+    ∷ row notOffered aNak
+    ∷ row wrongLength aNak
+    ∷ row channelNotAllowed aNak
+    ∷ row valueNotAllowed aNak
+    ∷ row notWhileRunning aNak
+    ∷ row noRoom nothing
+    ∷ row broken nothing
+    ∷ row whileIdle nothing
+    ∷ row wrongCount nothing
+    ∷ row notASample nothing
+    ∷ row captureFull nothing
+    ∷ row notASerial nothing
+    ∷ row notAReply nothing
+    ∷ row notAPacket nothing
+    ∷ row noFirstPacket nothing
+    ∷ row formChanged nothing
+    ∷ row pastLast nothing
+    ∷ row notAHead nothing
+    ∷ row otherVersion nothing
+    ∷ []
+
+-- what is written with a code, `due` being the reply, packet or value; a code that is not in the table writes nothing
+abbrev pub columnOf : List Row → ℕ → Written
+columnOf [] code = nothing
+columnOf (r ∷ rs) code = pick (eqb code (r .code)) (r .written) (columnOf rs code)
+
+-- The bytes that the box writes with a code are those of the table's column.
+abbrev pub Fits : Written → List ℕ → Type 0
+Fits nothing bytes = bytes ≡ []
+Fits itsLength bytes = Unit {0}
+Fits aNak bytes = bytes ≡ nak
+
+abbrev pub AsTheTableSays : ℕ → List ℕ → Type 0
+AsTheTableSays code bytes = Fits (columnOf table code) bytes
