@@ -18,13 +18,12 @@ use Rattle.station.specs.declared.Station.{Station}
 use Rattle.station.specs.declared.Fed.{Fed}
 use Rattle.station.specs.Station.{valid, freshBox, sessionSerial}
 use Rattle.station.specs.Feeding.{Feeding, messageIn, feedingOf}
-use Rattle.station.specs.Serving.{Whole}
 use Rattle.station.proofs.Kept.{message-keeps, serial-kept}
 use Rattle.station.proofs.Short.{reply-short}
 use Rattle.station.proofs.Valid.{valid-settings, valid-store, valid-both, feeding-answered, feeding-waiting}
 use Rattle.session.specs.Session.{Sound}
 
--- what the program goes by
+-- what the program goes by, in place of tests
 pub record Good (host : List ℕ) (f : Feeding) : Type 0 where
   pub some : 0 < length host → 1 ≤ f .fed .consumed
   pub most : f .fed .consumed ≤ length host

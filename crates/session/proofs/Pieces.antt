@@ -5,15 +5,16 @@ use native.Mathlib.Nat.{le-refl}
 use native.Mathlib.Omega.{arith}
 use mathlib.Core.Path.{_≡_, refl, sym, ap, _∙_}
 use mathlib.Core.List.{List, [], _∷_}
-use lib.ListN.{length, take, drop, length-drop, drop-of-length-le}
+use lib.ListN.{length, take, drop, length-drop}
 use lib.Seq.{drop-drop, take-all}
 use Rattle.station.specs.declared.Station.{Station}
 use Rattle.station.specs.declared.Fed.{Fed}
 use Rattle.station.specs.Feeding.{feedingOf}
 use Rattle.station.specs.Serving.{Served, called, calling, serving}
-use Rattle.session.specs.Session.{Sound, piece, handed, Handed}
+use Rattle.session.specs.Session.{Sound, piece, handed, HandedOver}
 use Rattle.session.proofs.Calls.{Good, call-good}
 
+-- handing over goes on with a box and the replies so far, for at most so many calls
 abbrev leading : ℕ → Served → List ℕ → Served
 leading calls r host = calling (piece host .rooms) calls r host
 
@@ -43,7 +44,7 @@ pub begins : (s : Station) (host : List ℕ) → Sound s → Going s host s 0
 unfolding serving
 begins s host g = record { inside = omega arith; sound = g; replies = []; calls = length host; enough = omega arith; left = refl }
 
-pub ends : (s : Station) (host : List ℕ) (now : Station) (at : ℕ) → Going s host now at → length host ≤ at → Handed s host now
+pub ends : (s : Station) (host : List ℕ) (now : Station) (at : ℕ) → Going s host now at → length host ≤ at → HandedOver s host now
 ends s host now at g done =
     let all : length (drop at host) ≡ 0 = simp length-drop (omega arith) in
     record {

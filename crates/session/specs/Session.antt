@@ -20,12 +20,12 @@ piece host = record { rooms = λ calls. 64; host = host }
 abbrev pub handed : Station → List ℕ → Served
 handed s host = serving (unserved s) (piece host ∷ [])
 
--- what handing a piece over promises of the box that it returns
-pub record Handed (s : Station) (host : List ℕ) (after : Station) : Type 0 where
+-- what the program promises of the box that a piece leaves
+pub record HandedOver (s : Station) (host : List ℕ) (after : Station) : Type 0 where
   pub box : after ≡ handed s host .station
   pub sound : Sound after
 
--- the same behind the replies before
+-- the replies before, and then these
 abbrev pub following : List (List ℕ) → Served → Served
 following before r = record { station = r .station; replies = before ++ r .replies }
 

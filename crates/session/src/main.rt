@@ -6,9 +6,10 @@ use station::Fed;
 use station::Station;
 ghost use mathlib.Core.Path.{_≡_};
 ghost use Rattle.station.specs.Feeding.{feedingOf};
-ghost use Rattle.session.specs.Session.{Sound, Handed};
+ghost use Rattle.session.specs.Session.{Sound, HandedOver};
 
-// Writes the reply of this box to these bytes of the host, in one write. The first two are there for the contract to say so.
+// Writes the reply of a box to some bytes of the host, in one write. Box and bytes are there for the contract alone, which
+// says whose reply it is.
 fn write_reply(s: Station, host: &[u8], reply: &[u8])
     requires { ⌜ now reply ≡ feedingOf s (now host) 64 .bytes ⌝ }
 {
@@ -30,7 +31,7 @@ fn feed_once(s: Station, host: &[u8]) -> Fed
 // Hands a piece over by calling again until its bytes are used up.
 fn feed_piece(s: Station, piece: &[u8]) -> Station
     requires { ⌜ Sound s ⌝ }
-    ensures { λ r. ⌜ Handed s (now (piece .entry)) r ⌝ }
+    ensures { λ r. ⌜ HandedOver s (now (piece .entry)) r ⌝ }
 {
     let mut now = s;
     let mut at = 0;

@@ -1,13 +1,7 @@
 -- The reply lies within its array, and the part that was written is the box's reply.
-use Prim.Native.Nat.{_≤_}
 use mathlib.Core.Path.{refl, sym}
-use mathlib.Core.List.{List}
-use native.Mathlib.Omega.{arith}
-use lib.ListN.{length, take}
 use lib.Seq.{length-take-le}
 use borrow.Author.Needs.{needs}
-use Rattle.station.specs.declared.Fed.{Fed}
-use Rattle.station.specs.Feeding.{Feeding, feedingOf}
 use Rattle.session.proofs.Calls.{Reply, reply-is}
 use Rattle.session.proofs.feed_once.Statement.{statement}
 use Rattle.session.proofs.feed_once.Tie as tie
