@@ -85,7 +85,7 @@ fn counted(s: Station, wrote: usize) -> Cut
     requires { ⌜ s .settings .count < most ⌝ }
     ensures { λ r.
         ⌜ r
-        ≡ record { code = 1; wrote = wrote; station = record { settings = withCount (s .settings .count + 1) (s .settings); store = s .store } } ⌝ }
+        ≡ record { code = Code.done; wrote = wrote; station = record { settings = withCount (s .settings .count + 1) (s .settings); store = s .store } } ⌝ }
 {
     let mut settings = s.settings;
     settings.count = settings.count + 1;

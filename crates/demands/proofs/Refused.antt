@@ -54,12 +54,12 @@ each-way P s host room broken short open′ done =
     t : Taking
     t = taken (s .store) host
 
-pub nak-and-nothing-else : (s : Station) (host : List ℕ) (room : ℕ) → NakOnly s (feedingOf s host room)
+pub nak-and-nothing-else : (s : Station) (host : List ℕ) (room : ℕ) → NakOnly s host (feedingOf s host room)
 nak-and-nothing-else s host room =
-    each-way (NakOnly s) s host room (λ low high. absurd (omega arith)) (λ low high. absurd (omega arith)) (λ low high. absurd (omega arith))
+    each-way (NakOnly s host) s host room (λ low high. absurd (omega arith)) (λ low high. absurd (omega arith)) (λ low high. absurd (omega arith))
     (λ low high.
     let m = messageIn (taken (s .store) host .store) in
-    rw (refused-reply (s .settings) m low, refused-kept (s .settings) m low) (refl, refl, refl))
+    rw (refused-reply (s .settings) m low, refused-kept (s .settings) m low) (refl, refl, refl, refl))
 
 pub fed-refused : (s : Station) (host : List ℕ) (room : ℕ) → FeedsNothing s (feedingOf s host room)
 fed-refused s host room =

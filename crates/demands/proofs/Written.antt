@@ -1,4 +1,4 @@
--- The third column of "What comes back": what the box writes with each code.
+-- The third column of "What comes back": what is written with each code.
 -- Assumes nothing.
 use Prim.Native.Nat.{ℕ}
 use mathlib.Core.Path.{_≡_, refl, sym}
@@ -6,50 +6,94 @@ use mathlib.Core.List.{List, []}
 use borrow.Author.Tests.{eqb-true, eqb-false}
 use lib.Dec.{eqb}
 use lib.IntN.{ℤ}
+use lib.ListN.{length, drop}
 use Rattle.wire.specs.Choice.{pick}
-use Rattle.wire.specs.Codes.{AsTheTableSays}
+use Rattle.wire.specs.Codes.{boxWrites}
 use Rattle.wire.specs.Codes as Code
 use Rattle.wire.specs.Header.{nak}
 use Rattle.wire.proofs.Checks.{given-has}
+use Rattle.wire.proofs.Writes.{alone}
 use Rattle.wire.proofs.Laws.{pick-keeps}
+use Rattle.packets.specs.Forms.{wholeOf}
+use Rattle.packets.specs.Samples.{samplesFrom}
 use Rattle.items.specs.declared.Settings.{Settings}
-use Rattle.items.specs.Answer.{Message, row, parameters, checks, codeOf, settingsAfter, replyTo, replyOf}
+use Rattle.items.specs.Answer.{Message, checks, codeOf, replyOf}
 use Rattle.framing.specs.Framing.{taken}
 use Rattle.station.specs.declared.Station.{Station}
-use Rattle.station.specs.Feeding.{messageIn, feedingOf}
-use Rattle.cutting.specs.Cutting.{cutChecks, cutCode, cutFrom, cuttingOf, formNow}
+use Rattle.station.specs.Feeding.{Feeding, messageIn, feedingOf}
+use Rattle.cutting.specs.Cutting.{Cutting, packetOf, cutChecks, cutCode, cutFrom, cuttingOf, formNow}
 use Rattle.cutting.specs.Cutting as cutting
+use Rattle.reader.specs.Reading.{countIn, unpackChecks, unpackCode, unpackedOf}
+use Rattle.wishes.specs.declared.Wish.{Wish}
+use Rattle.wishes.specs.Wishes.{messageOf}
+use Rattle.wishes.specs.Writing.{writeChecks, writeCode, bytesWritten}
+use Rattle.heads.specs.declared.Head.{Head}
+use Rattle.heads.specs.Head.{headBytes}
+use Rattle.heads.specs.Head.{writeChecks as headChecks, writeCode as headCode}
 use Rattle.positions.proofs.Boxes.{made}
 use Rattle.positions.proofs.Packets.{packet-length}
-use Rattle.demands.specs.Written.{FeedsByTheTable, CutsByTheTable}
+use Rattle.demands.specs.Written.{replyDue, FeedsByTheTable, CutsByTheTable, WishesByTheTable, HeadsByTheTable, UnpacksByTheTable}
 use Rattle.demands.proofs.Refused.{each-way}
 
--- what is written for a code, whatever the reply
-abbrev written : List ℕ → ℕ → List ℕ
-written reply code = pick (eqb code Code.done) reply (pick (eqb code Code.noReplyDue) [] nak)
+-- ---- the box
 
--- each code that a message can have, and the table's column beside it
-message-writes : (s : Settings) (m : Message) → AsTheTableSays (codeOf s m) (replyOf s m)
+-- each code that a message can have, and the table's entry beside it
+message-writes : (s : Settings) (m : Message) → replyOf s m ≡ boxWrites (codeOf s m) (replyDue s m)
 unfolding codeOf replyOf
 message-writes s m =
-    given-has (λ (code : ℕ). AsTheTableSays code (written (replyTo (row m) (m .type) (settingsAfter s m) (parameters m)) code)) (checks s m) Code.done
-    (refl, (refl, (refl, (refl, (refl, (refl, (refl, (refl, (refl, tt))))))))) tt
+    given-has (λ (code : ℕ). pick (eqb code Code.done) (replyDue s m) (pick (eqb code Code.noReplyDue) [] nak) ≡ boxWrites code (replyDue s m)) (checks s m) Code.done
+    (refl, (refl, (refl, (refl, (refl, (refl, (refl, (refl, (refl, tt))))))))) refl
 
-pub feeds-by-the-table : (s : Station) (host : List ℕ) (room : ℕ) → FeedsByTheTable (feedingOf s host room)
-feeds-by-the-table s host room =
-    each-way FeedsByTheTable s host room (refl, refl) (refl, refl) (refl, refl)
-    (message-writes (s .settings) (messageIn (taken (s .store) host .store)), refl)
+pub feeds-by-the-table : (s : Station) (host : List ℕ) (room : ℕ) → FeedsByTheTable s host room
+feeds-by-the-table s host room = record { bytes = bytes; wrote = wrote }
+  where
+    m : Message
+    m = messageIn (taken (s .store) host .store)
+
+    bytes : feedingOf s host room .bytes ≡ boxWrites (feedingOf s host room .fed .code) (replyDue (s .settings) m)
+    bytes =
+        each-way (λ (f : Feeding). f .bytes ≡ boxWrites (f .fed .code) (replyDue (s .settings) m)) s host room refl refl refl
+        (message-writes (s .settings) m)
+
+    wrote : feedingOf s host room .fed .wrote ≡ length (feedingOf s host room .bytes)
+    wrote = each-way (λ (f : Feeding). f .fed .wrote ≡ length (f .bytes)) s host room refl refl refl refl
 
 -- a refused cut writes nothing, as the table has it beside each of its codes
-refused-cut : (s : Station) (samples : List ℤ) (room : ℕ) → (cutCode s samples room ≡ 1 → ⊥) → AsTheTableSays (cutCode s samples room) []
+refused-cut : (s : Station) (samples : List ℤ) (room : ℕ) (packet : List ℕ) → (cutCode s samples room ≡ 1 → ⊥)
+    → [] ≡ boxWrites (cutCode s samples room) packet
 unfolding cutCode
-refused-cut s samples room =
-    given-has (λ (code : ℕ). (code ≡ 1 → ⊥) → AsTheTableSays code []) (cutChecks s samples room) Code.done
+refused-cut s samples room packet =
+    given-has (λ (code : ℕ). (code ≡ 1 → ⊥) → [] ≡ boxWrites code packet) (cutChecks s samples room) Code.done
     (λ n. refl, (λ n. refl, (λ n. refl, (λ n. refl, (λ n. refl, (λ n. refl, tt)))))) (λ n. absurd (n refl))
 
-pub cuts-by-the-table : (s : Station) (samples : List ℤ) (room : ℕ) → CutsByTheTable (cuttingOf s samples room)
+pub cuts-by-the-table : (s : Station) (samples : List ℤ) (room : ℕ) → CutsByTheTable s samples room
 unfolding cuttingOf
 cuts-by-the-table s samples room =
-    pick-keeps CutsByTheTable (eqb (cutCode s samples room) 1) (cutFrom s samples) (cutting.refused (cutCode s samples room) s)
-    (λ e. (tt, sym (packet-length (formNow (s .settings)) (s .settings .count) samples (made s samples room (eqb-true _ _ e) .enough))))
-    (λ e. (refused-cut s samples room (eqb-false _ _ e), refl))
+    record {
+      bytes =
+          pick-keeps (λ (c : Cutting). c .bytes ≡ boxWrites (c .cut .code) packet) (eqb (cutCode s samples room) 1) (cutFrom s samples)
+          (cutting.refused (cutCode s samples room) s) (λ e. refl) (λ e. refused-cut s samples room packet (eqb-false _ _ e));
+      wrote =
+          pick-keeps (λ (c : Cutting). c .cut .wrote ≡ length (c .bytes)) (eqb (cutCode s samples room) 1) (cutFrom s samples)
+          (cutting.refused (cutCode s samples room) s)
+          (λ e. sym (packet-length (formNow (s .settings)) (s .settings .count) samples (made s samples room (eqb-true _ _ e) .enough)))
+          (λ e. refl);
+    }
+  where
+    packet : List ℕ
+    packet = packetOf (formNow (s .settings)) (s .settings .count) samples
+
+-- ---- outside the box
+
+pub wishes-by-the-table : (w : Wish) (room : ℕ) → WishesByTheTable w room
+unfolding bytesWritten writeCode
+wishes-by-the-table w room = alone (messageOf w) (writeChecks w room) (refl, (refl, tt))
+
+pub heads-by-the-table : (h : Head) (room : ℕ) → HeadsByTheTable h room
+unfolding headCode
+heads-by-the-table h room = alone (headBytes h) (headChecks h room) (refl, (refl, tt))
+
+pub unpacks-by-the-table : (packet : List ℕ) (room : ℕ) → UnpacksByTheTable packet room
+unfolding unpackedOf unpackCode
+unpacks-by-the-table packet room =
+    alone (samplesFrom (wholeOf packet .bits) (drop 4 packet) 0 (countIn packet)) (unpackChecks packet room) (refl, (refl, tt))

@@ -1,21 +1,25 @@
 -- Demand 1: "A message the box will not obey gets the two-byte NAK and touches no setting." "Any other refused call writes nothing
 -- and changes nothing."
-use Prim.Native.Nat.{_≤_}
+use Prim.Native.Nat.{ℕ, _≤_}
 use mathlib.Core.Path.{_≡_}
-use mathlib.Core.List.{[]}
+use mathlib.Core.List.{List, []}
 use Rattle.wire.specs.Header.{nak}
-use Rattle.framing.specs.Framing.{between}
+use Rattle.framing.specs.Framing.{between, taken}
 use Rattle.reader.specs.declared.Heard.{Heard}
 use Rattle.reader.specs.declared.Reader.{Reader}
 use Rattle.station.specs.declared.Station.{Station}
 use Rattle.station.specs.Feeding.{Feeding}
 use Rattle.cutting.specs.Cutting.{Cutting}
 
--- a call of feeding that came to a code from 10 to 17: NAK, and only the unfinished-message store changes
-abbrev pub NakOnly : Station → Feeding → Type 0
-NakOnly s f =
+-- a call of feeding that came to a code from 10 to 17: "such a message is consumed and only the unfinished-message store
+-- changes", and NAK is written
+abbrev pub NakOnly : Station → List ℕ → Feeding → Type 0
+NakOnly s host f =
     10 ≤ f .fed .code → f .fed .code ≤ 17
-    → (f .bytes ≡ nak) × (f .fed .wrote ≡ 2) × (f .fed .station ≡ record { settings = s .settings; store = between })
+    → (f .bytes ≡ nak)
+    × (f .fed .wrote ≡ 2)
+    × (f .fed .consumed ≡ taken (s .store) host .count)
+    × (f .fed .station ≡ record { settings = s .settings; store = between })
 
 -- a call with a code from 20: "Codes from 20 consume nothing and return the state given"
 abbrev pub FeedsNothing : Station → Feeding → Type 0

@@ -7,7 +7,7 @@ use mathlib.Core.List.{List, [], _∷_, _++_}
 use lib.Dec.{eqb}
 use lib.IntN.{ℤ}
 use lib.ListN.{length, take, drop, replicate}
-use Rattle.wire.specs.Choice.{pick}
+use Rattle.wire.specs.Choice.{pick, firstRow}
 use Rattle.wire.specs.Codes as Code
 use Rattle.wire.specs.Number.{bytes, field}
 use Rattle.wire.specs.Header.{lengthIn, typeIn, nak, typeSet, typeRequest, typeReply}
@@ -53,13 +53,9 @@ lines =
     ∷ line 0x00C4 (sent 0 1)
     ∷ []
 
-abbrev pub shownIn : List Line → ℕ → Settings → List ℕ → List ℕ
-shownIn [] code s p = []
-shownIn (l ∷ ls) code s p = pick (eqb code (l .code)) (l .shown s p) (shownIn ls code s p)
-
 -- what a request of an item shows after an accepted set of it with these parameters
 unfoldable pub shownBy : ℕ → Settings → List ℕ → List ℕ
-shownBy code s p = shownIn lines code s p
+shownBy code s p = firstRow (λ l. eqb code (l .code)) (λ l. l .shown s p) [] lines
 
 -- the same of a message: the value that it set
 abbrev pub valueSet : Settings → Message → List ℕ

@@ -17,6 +17,7 @@ use crate::coming::in_range;
 use crate::coming::take_byte;
 use packets::Form;
 use wire::codes;
+use wire::types;
 
 // ---- whole packets in one go
 
@@ -87,7 +88,7 @@ fn run(f: Form, t: Tally, piece: &[u8], from: usize) -> Reach
         };
     }
     let total = packets::total_of(f) as usize;
-    let header = wire::header_of(4, total as u16) as u32;
+    let header = wire::header_of(types::DATA, total as u16) as u32;
     let mut at = from;
     let mut heard = t.heard;
     let mut position = t.position;

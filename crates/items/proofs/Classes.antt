@@ -2,9 +2,9 @@
 use Prim.Native.Nat.{ℕ, zero, suc, _≤_, _<_}
 use mathlib.Core.Path.{_≡_, refl}
 use native.Mathlib.Omega.{arith}
-use mathlib.Core.Bool.{false, or-true}
+use mathlib.Core.Bool.{false, or-true, and-false}
 use lib.Dec.{eqb, ltb}
-use borrow.Author.Tests.{ne-eqb, le-ltb, lt-ltb, le-leb}
+use borrow.Author.Tests.{ne-eqb, le-ltb, lt-ltb, le-leb, lt-leb}
 use Rattle.wire.specs.Choice.{pick, firstOf}
 use Rattle.items.specs.Header.{headerChecks}
 
@@ -67,9 +67,9 @@ other size named h = simp (ne-eqb size 3 h, or-true)
 
 -- a data item of length 1
 pub data-one : (kind named : ℕ) → 4 ≤ kind → 11 ≡ firstOf (headerChecks kind 1 named) 1
-data-one kind named h = simp (ne-eqb kind 0 (λ e. omega arith), ne-eqb kind 3 (λ e. omega arith), le-leb 4 kind h)
+data-one kind named h = refl
 
 -- a data item of another length
 pub data-other : (kind size named : ℕ) → 4 ≤ kind → (size ≡ 1 → ⊥) → 2 ≡ firstOf (headerChecks kind size named) 1
 data-other kind size named h w =
-    simp (ne-eqb kind 0 (λ e. omega arith), ne-eqb kind 3 (λ e. omega arith), le-leb 4 kind h, ne-eqb size 1 w)
+    simp (ne-eqb kind 0 (λ e. omega arith), ne-eqb kind 3 (λ e. omega arith), lt-leb kind 3 (omega arith), lt-leb kind 2 (omega arith), le-leb 4 kind h, ne-eqb size 1 w, and-false)

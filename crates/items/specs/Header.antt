@@ -30,7 +30,10 @@ badHeader type size named =
 abbrev pub tooLong : ℕ → ℕ → Bool
 tooLong type size = leb type 2 && ltb 64 size
 
--- 11 stands before 10; 2 is for the unanswered, of which none has a bad header.
+-- "Codes 10 to 17 stand in order of checking (11 first)"; an unanswered message has no bad header, and none is too long.
 abbrev pub headerChecks : ℕ → ℕ → ℕ → List Check
 headerChecks type size named =
-    check Code.noReplyDue (unanswered type size named) ∷ check Code.badHeader (badHeader type size named) ∷ check Code.tooLong (tooLong type size) ∷ []
+    check Code.badHeader (badHeader type size named)
+    ∷ check Code.noReplyDue (unanswered type size named)
+    ∷ check Code.tooLong (tooLong type size)
+    ∷ []

@@ -1,11 +1,11 @@
--- The table of items. "Lengths are totals; a dash means not offered (14)." A row has what the table and the paragraphs
--- below it say of one item; what every item shares stands in Answer.antt.
+-- The table of items. "Lengths are totals; a dash means not offered (14)." What every item shares
+-- stands in Answer.antt.
 use Prim.Native.Nat.{ℕ, _+_}
 use mathlib.Core.Bool.{Bool, true, false, _&&_, _||_, not}
 use mathlib.Core.List.{List, [], _∷_, _++_}
 use lib.Dec.{eqb, leb}
 use lib.ListN.{getD}
-use Rattle.wire.specs.Choice.{pick}
+use Rattle.wire.specs.Choice.{pick, anyOf, firstRow}
 use Rattle.wire.specs.Number.{bytes, field}
 use Rattle.rates.specs.Rate.{mayAsk, nearestOf, isD, rateOf}
 use Rattle.tuning.specs.Bands.{inBands}
@@ -27,14 +27,24 @@ pub data Channels : Type 0 where
   -- "00, and on set also FF"
   zeroAndAll : Channels
 
--- One item. Parameters are the message's bytes from the fifth on; `echoed` of them, the channel byte or the id, come
--- first in the reply, and then the value.
+-- One line of the table, and its rule.
 pub record Item : Type 0 where
   pub code : ℕ
   pub set : Offer
   pub request : Offer
   pub range : Offer
   pub channels : Channels
+  pub echoed : ℕ
+  pub settable : List ℕ → Bool
+  pub askable : List ℕ → Bool
+  pub locked : Settings → List ℕ → Bool
+  pub stored : Settings → List ℕ → Settings
+  pub value : Settings → List ℕ → List ℕ
+
+-- What the table's last column and the paragraphs below it say of an item. Parameters are the message's bytes from the
+-- fifth on.
+pub record Rule : Type 0 where
+  -- how many parameters, the channel byte or the id, come first in the reply
   pub echoed : ℕ
   -- a set with these parameters has a value that is allowed; so has a request
   pub settable : List ℕ → Bool
@@ -46,7 +56,7 @@ pub record Item : Type 0 where
   -- the value's bytes in a reply
   pub value : Settings → List ℕ → List ℕ
 
--- the rules that most items share
+-- what most rules share
 abbrev always : List ℕ → Bool
 always p = true
 
@@ -56,59 +66,52 @@ never s p = false
 abbrev unset : Settings → List ℕ → Settings
 unset s p = s
 
--- a line of the table with a dash for set: an item that can be requested, in a message of this length, and that is shown
--- by these bytes
-abbrev shown : ℕ → ℕ → (Settings → List ℕ → List ℕ) → Item
-shown code length value =
-    record {
-      code = code;
-      set = dash;
-      request = total length;
-      range = dash;
-      channels = noChannel;
-      echoed = 0;
-      settable = always;
-      askable = always;
-      locked = never;
-      stored = unset;
-      value = value;
-    }
+-- an item that is never set, and is shown by these bytes
+abbrev shown : (Settings → List ℕ → List ℕ) → Rule
+shown value =
+    record { echoed = 0; settable = always; askable = always; locked = never; stored = unset; value = value }
 
--- 0001 name: "NetSDR" and a zero byte
-abbrev pub name : Item
-name = shown 0x0001 4 (λ s p. 0x4E ∷ 0x65 ∷ 0x74 ∷ 0x53 ∷ 0x44 ∷ 0x52 ∷ 0x00 ∷ [])
+-- ---- the rules
 
--- 0002 serial: eight characters and a zero byte
-abbrev pub serial : Item
-serial = shown 0x0002 4 (λ s p. s .serial ++ 0x00 ∷ [])
+-- name: "NetSDR" and a zero byte
+abbrev nameRule : Rule
+nameRule = shown (λ s p. 0x4E ∷ 0x65 ∷ 0x74 ∷ 0x53 ∷ 0x44 ∷ 0x52 ∷ 0x00 ∷ [])
 
--- 0003 interface: 105 in 16 bits
-abbrev pub interface : Item
-interface = shown 0x0003 4 (λ s p. bytes 2 105)
+-- serial: eight characters and a zero byte
+abbrev serialRule : Rule
+serialRule = shown (λ s p. s .serial ++ 0x00 ∷ [])
 
--- 0004 versions: id, then two bytes: 0: 64 00, 1: 6B 00, 2: 66 00, 3: 01 07 (house); other id 16
+-- interface: 105 in 16 bits
+abbrev pub interfaceNumber : ℕ
+interfaceNumber = 105
+
+abbrev interfaceRule : Rule
+interfaceRule = shown (λ s p. bytes 2 interfaceNumber)
+
+-- versions: id, then two bytes: 0: 64 00, 1: 6B 00, 2: 66 00, 3: 01 07 (house); other id 16
 abbrev pub versionTable : List (List ℕ)
 versionTable = (0x64 ∷ 0x00 ∷ []) ∷ (0x6B ∷ 0x00 ∷ []) ∷ (0x66 ∷ 0x00 ∷ []) ∷ (0x01 ∷ 0x07 ∷ []) ∷ []
 
-abbrev pub versions : Item
-versions =
+abbrev pub isVersion : ℕ → Bool
+isVersion id = leb id 3
+
+abbrev versionsRule : Rule
+versionsRule =
     record {
-      code = 0x0004;
-      set = dash;
-      request = total 5;
-      range = dash;
-      channels = noChannel;
       echoed = 1;
       settable = always;
-      askable = λ p. leb (getD p 0 0) 3;
+      askable = λ p. isVersion (getD p 0 0);
       locked = never;
       stored = unset;
       value = λ s p. getD versionTable (getD p 0 0) [];
     }
 
--- 0005 status: 0B idle, 0C running
-abbrev pub status : Item
-status = shown 0x0005 4 (λ s p. pick (s .running) 0x0C 0x0B ∷ [])
+-- status: 0B idle, 0C running
+abbrev pub statusByte : Bool → ℕ
+statusByte running = pick running 0x0C 0x0B
+
+abbrev statusRule : Rule
+statusRule = shown (λ s p. statusByte (s .running) ∷ [])
 
 -- State. "Four bytes: 80 for complex data, run byte, capture mode, 00."
 abbrev pub idle : ℕ
@@ -134,38 +137,34 @@ mayState p = eqb (runByte p) idle || (eqb (runByte p) run && eqb (getD p 0 0) 0x
 abbrev pub otherMode : Settings → List ℕ → Bool
 otherMode s p = eqb (runByte p) run && not (eqb (modeByte p) (s .mode))
 
--- idle: "the mode is kept"; run: "Starting from idle sets the packet count to 0."
-abbrev pub stateAfter : Settings → List ℕ → Settings
-stateAfter s p =
-    pick (eqb (runByte p) idle) (withRunning false s)
-    (pick (s .running) s (withCount 0 (withMode (modeByte p) (withRunning true s))))
+-- the settings after a set to a run byte and a mode: idle, "the mode is kept"; run, "Starting from idle sets the packet count
+-- to 0."
+abbrev pub stateTo : ℕ → ℕ → Settings → Settings
+stateTo byte mode s =
+    pick (eqb byte idle) (withRunning false s) (pick (s .running) s (withCount 0 (withMode mode (withRunning true s))))
 
--- 0018 state: "Replies hold 80, run byte, mode, 00 (house)."
-abbrev pub state : Item
-state =
+abbrev pub stateAfter : Settings → List ℕ → Settings
+stateAfter s p = stateTo (runByte p) (modeByte p) s
+
+-- "Replies hold 80, run byte, mode, 00 (house)."
+abbrev pub stateBytes : ℕ → ℕ → List ℕ
+stateBytes byte mode = 0x80 ∷ byte ∷ mode ∷ 0x00 ∷ []
+
+abbrev stateRule : Rule
+stateRule =
     record {
-      code = 0x0018;
-      set = total 8;
-      request = total 4;
-      range = dash;
-      channels = noChannel;
       echoed = 0;
       settable = mayState;
       askable = always;
       locked = otherMode;
       stored = stateAfter;
-      value = λ s p. 0x80 ∷ pick (s .running) run idle ∷ s .mode ∷ 0x00 ∷ [];
+      value = λ s p. stateBytes (pick (s .running) run idle) (s .mode);
     }
 
--- 0020 frequency: channel, 40-bit Hz; the only range request, length 5
-abbrev pub frequency : Item
-frequency =
+-- frequency: channel, 40-bit Hz
+abbrev frequencyRule : Rule
+frequencyRule =
     record {
-      code = 0x0020;
-      set = total 10;
-      request = total 5;
-      range = total 5;
-      channels = zeroAndAll;
       echoed = 1;
       settable = λ p. inBands (field 1 5 p);
       askable = always;
@@ -174,15 +173,10 @@ frequency =
       value = λ s p. bytes 5 (s .frequency);
     }
 
--- 0038 RF gain: channel, signed byte 0, -10, -20 or -30
-abbrev pub gain : Item
-gain =
+-- RF gain: channel, signed byte 0, -10, -20 or -30
+abbrev gainRule : Rule
+gainRule =
     record {
-      code = 0x0038;
-      set = total 6;
-      request = total 5;
-      range = dash;
-      channels = zeroAndAll;
       echoed = 1;
       settable = λ p. isGain (getD p 1 0);
       askable = always;
@@ -191,15 +185,10 @@ gain =
       value = λ s p. bytes 1 (s .gain);
     }
 
--- 00B0 clock: any channel byte, 32-bit Hz, 79,992,000 to 80,008,000 (house)
-abbrev pub clock : Item
-clock =
+-- clock: any channel byte, 32-bit Hz, 79,992,000 to 80,008,000 (house)
+abbrev clockRule : Rule
+clockRule =
     record {
-      code = 0x00B0;
-      set = total 9;
-      request = total 5;
-      range = dash;
-      channels = anyChannel;
       echoed = 1;
       settable = λ p. isClock (field 1 4 p);
       askable = always;
@@ -212,15 +201,10 @@ clock =
 abbrev pub achievedRate : ℕ → ℕ
 achievedRate d = pick (isD d) (rateOf d) 0
 
--- 00B8 rate: any channel byte, 32-bit Hz; "Items 00B8 and 00C4 cannot be set while running (17)."
-abbrev pub rate : Item
-rate =
+-- rate: any channel byte, 32-bit Hz; "Items 00B8 and 00C4 cannot be set while running (17)."
+abbrev rateRule : Rule
+rateRule =
     record {
-      code = 0x00B8;
-      set = total 9;
-      request = total 5;
-      range = dash;
-      channels = anyChannel;
       echoed = 1;
       settable = λ p. mayAsk (field 1 4 p);
       askable = always;
@@ -229,15 +213,10 @@ rate =
       value = λ s p. bytes 4 (achievedRate (s .divisor));
     }
 
--- 00C4 packet size: 0 large, 1 small
-abbrev pub packetSize : Item
-packetSize =
+-- packet size: 0 large, 1 small
+abbrev sizeRule : Rule
+sizeRule =
     record {
-      code = 0x00C4;
-      set = total 5;
-      request = total 4;
-      range = dash;
-      channels = noChannel;
       echoed = 0;
       settable = λ p. isSize (getD p 0 0);
       askable = always;
@@ -246,7 +225,58 @@ packetSize =
       value = λ s p. bytes 1 (s .size);
     }
 
--- The table.
+-- ---- the table: item, set, request, range, channel byte, rule
+
+abbrev line : ℕ → Offer → Offer → Offer → Channels → Rule → Item
+line code set request range channels rule =
+    record {
+      code = code;
+      set = set;
+      request = request;
+      range = range;
+      channels = channels;
+      echoed = rule .echoed;
+      settable = rule .settable;
+      askable = rule .askable;
+      locked = rule .locked;
+      stored = rule .stored;
+      value = rule .value;
+    }
+
+abbrev pub name : Item
+name = line 0x0001 dash (total 4) dash noChannel nameRule
+
+abbrev pub serial : Item
+serial = line 0x0002 dash (total 4) dash noChannel serialRule
+
+abbrev pub interface : Item
+interface = line 0x0003 dash (total 4) dash noChannel interfaceRule
+
+abbrev pub versions : Item
+versions = line 0x0004 dash (total 5) dash noChannel versionsRule
+
+abbrev pub status : Item
+status = line 0x0005 dash (total 4) dash noChannel statusRule
+
+abbrev pub state : Item
+state = line 0x0018 (total 8) (total 4) dash noChannel stateRule
+
+-- "the only range request, length 5"
+abbrev pub frequency : Item
+frequency = line 0x0020 (total 10) (total 5) (total 5) zeroAndAll frequencyRule
+
+abbrev pub gain : Item
+gain = line 0x0038 (total 6) (total 5) dash zeroAndAll gainRule
+
+abbrev pub clock : Item
+clock = line 0x00B0 (total 9) (total 5) dash anyChannel clockRule
+
+abbrev pub rate : Item
+rate = line 0x00B8 (total 9) (total 5) dash anyChannel rateRule
+
+abbrev pub packetSize : Item
+packetSize = line 0x00C4 (total 5) (total 4) dash noChannel sizeRule
+
 abbrev pub items : List Item
 items =
     name
@@ -264,33 +294,18 @@ items =
 
 -- an item code is in the list
 abbrev pub listedIn : List Item → ℕ → Bool
-listedIn [] code = false
-listedIn (i ∷ is) code = eqb code (i .code) || listedIn is code
+listedIn is code = anyOf (λ i. eqb code (i .code)) is
 
 unfoldable pub listed : ℕ → Bool
 listed code = listedIn items code
 
 -- no item: every kind is a dash
 abbrev pub noItem : Item
-noItem =
-    record {
-      code = 0;
-      set = dash;
-      request = dash;
-      range = dash;
-      channels = noChannel;
-      echoed = 0;
-      settable = always;
-      askable = always;
-      locked = never;
-      stored = unset;
-      value = λ s p. [];
-    }
+noItem = line 0 dash dash dash noChannel (shown (λ s p. []))
 
 -- the row of an item code
 abbrev pub rowIn : List Item → ℕ → Item
-rowIn [] code = noItem
-rowIn (i ∷ is) code = pick (eqb code (i .code)) i (rowIn is code)
+rowIn is code = firstRow (λ i. eqb code (i .code)) (λ i. i) noItem is
 
 unfoldable pub rowOf : ℕ → Item
 rowOf code = rowIn items code

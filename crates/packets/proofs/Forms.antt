@@ -9,12 +9,23 @@ use native.Mathlib.Omega.{arith}
 use lib.Dec.{eqb, leb, ltb}
 use lib.ListN.{length}
 use borrow.Author.Tests.{eqb-true, leb-true, ltb-true, eq-eqb, ne-eqb}
-use Rattle.wire.specs.Choice.{pick}
+use Rattle.wire.specs.Choice.{pick, anyOf, firstRow}
 use Rattle.wire.specs.Number.{bytes, field}
 use Rattle.wire.specs.Header.{headerOf, lengthIn, typeData}
 use Rattle.wire.proofs.Laws.{and-left, and-right}
 use Rattle.packets.specs.declared.Form.{Form}
-use Rattle.packets.specs.Forms.{Row, forms, formOf, sameForm, totalOf, noForm, listedIn, listed, formFor, formWithIn, formWithHeader, wholeIn, wholeOf, isPacket}
+use Rattle.packets.specs.Forms.{Row, forms, formOf, sameForm, totalOf, noForm, listed, formFor, formWithHeader, wholeOf, isPacket}
+
+-- the specs' lookups over any part of the table
+abbrev listedIn : List Row → Form → Bool
+listedIn rs f = anyOf (λ r. sameForm (formOf r) f) rs
+
+abbrev formWithIn : List Row → ℕ → Form
+formWithIn rs header = firstRow (λ r. eqb header (field 0 2 (r .header))) formOf noForm rs
+
+abbrev wholeIn : List Row → List ℕ → Form
+wholeIn rs packet =
+    firstRow (λ r. eqb (field 0 2 packet) (field 0 2 (r .header)) && eqb (length packet) (r .total)) formOf noForm rs
 
 -- ---- one computed test over the table
 

@@ -1,10 +1,10 @@
 -- The table of packet forms: mode, size, header, total, I/Q pairs.
 use Prim.Native.Nat.{ℕ, _+_, _*_, _/_}
-use mathlib.Core.Bool.{Bool, false, _&&_, _||_}
+use mathlib.Core.Bool.{Bool, _&&_}
 use mathlib.Core.List.{List, [], _∷_}
 use lib.Dec.{eqb}
 use lib.ListN.{length}
-use Rattle.wire.specs.Choice.{pick}
+use Rattle.wire.specs.Choice.{anyOf, firstRow}
 use Rattle.wire.specs.Number.{field}
 use Rattle.packets.specs.declared.Form.{Form}
 
@@ -41,37 +41,21 @@ abbrev pub noForm : Form
 noForm = record { bits = 0; pairs = 0 }
 
 -- the form is listed
-abbrev pub listedIn : List Row → Form → Bool
-listedIn [] f = false
-listedIn (r ∷ rs) f = sameForm (formOf r) f || listedIn rs f
-
 abbrev pub listed : Form → Bool
-listed f = listedIn forms f
+listed f = anyOf (λ r. sameForm (formOf r) f) forms
 
 -- the form for a mode byte and a size byte
-abbrev pub formForIn : List Row → ℕ → ℕ → Form
-formForIn [] mode size = noForm
-formForIn (r ∷ rs) mode size = pick (eqb (r .mode) mode && eqb (r .size) size) (formOf r) (formForIn rs mode size)
-
 abbrev pub formFor : ℕ → ℕ → Form
-formFor mode size = formForIn forms mode size
+formFor mode size = firstRow (λ r. eqb (r .mode) mode && eqb (r .size) size) formOf noForm forms
 
 -- the form whose two header bytes hold this number
-abbrev pub formWithIn : List Row → ℕ → Form
-formWithIn [] header = noForm
-formWithIn (r ∷ rs) header = pick (eqb header (field 0 2 (r .header))) (formOf r) (formWithIn rs header)
-
 abbrev pub formWithHeader : ℕ → Form
-formWithHeader header = formWithIn forms header
+formWithHeader header = firstRow (λ r. eqb header (field 0 2 (r .header))) formOf noForm forms
 
 -- "The slice must be one whole packet of a listed form": the form whose header stands first and whose total is the slice's length
-abbrev pub wholeIn : List Row → List ℕ → Form
-wholeIn [] packet = noForm
-wholeIn (r ∷ rs) packet =
-    pick (eqb (field 0 2 packet) (field 0 2 (r .header)) && eqb (length packet) (r .total)) (formOf r) (wholeIn rs packet)
-
 abbrev pub wholeOf : List ℕ → Form
-wholeOf packet = wholeIn forms packet
+wholeOf packet =
+    firstRow (λ r. eqb (field 0 2 packet) (field 0 2 (r .header)) && eqb (length packet) (r .total)) formOf noForm forms
 
 abbrev pub isPacket : List ℕ → Bool
 isPacket packet = listed (wholeOf packet)

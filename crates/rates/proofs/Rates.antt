@@ -10,6 +10,8 @@ use lib.Dec.{eqb, eqb→eq}
 use lib.ListN.{length, getD}
 use borrow.Author.Tests.{eq-eqb, ne-eqb}
 use Rattle.wire.specs.Choice.{pick}
+use Rattle.wire.specs.Halves.{NearestUp}
+use Rattle.wire.proofs.Halves.{half-up}
 use Rattle.wire.proofs.Laws.{true-not-false, test-true, within-low, within-high, is-within, pick-true}
 use Rattle.rates.specs.Rate.{isD, rateOf, mayAsk, nearestOf}
 use Rattle.rates.specs.Table.{ratesFrom, rates, dIn, dOf}
@@ -25,6 +27,11 @@ from-rule (suc n) d (suc k) h = from-rule n (d + 1) k (le-of-suc-le-suc h) ∙ a
 pub table-rule : (k : ℕ) → k < 616 → getD rates k 0 ≡ rateOf (k + 10)
 unfolding rates
 table-rule = from-rule 616 10
+
+-- "rounded to a whole Hz, halves up"
+pub rate-nearest : (d : ℕ) → isD d ≡ true → NearestUp 20_000_000 d (rateOf d)
+unfolding rateOf
+rate-nearest d is = half-up 20_000_000 d (omega (arith, within-low 10 625 d is))
 
 -- each entry is below those before it, so that all are distinct
 pub table-falls : (j k : ℕ) → j < k → k < 616 → getD rates k 0 < getD rates j 0

@@ -1,9 +1,10 @@
 -- Rate (house): "The rates are 20,000,000 / D for whole D from 10 to 625."
-use Prim.Native.Nat.{ℕ, zero, suc, _+_, _*_, _-_, _/_, _<_, _≤_}
+use Prim.Native.Nat.{ℕ, zero, suc, _+_, _*_, _<_, _≤_}
 use mathlib.Core.Path.{_≡_}
 use mathlib.Core.Bool.{Bool}
 use lib.Dec.{ltb}
 use Rattle.wire.specs.Choice.{pick, within}
+use Rattle.wire.specs.Halves.{halvesUp, apart}
 
 -- the whole D from 10 to 625
 abbrev pub isD : ℕ → Bool
@@ -11,15 +12,11 @@ isD d = within 10 625 d
 
 -- "The reply is 20,000,000 / D rounded to a whole Hz, halves up."
 unfoldable pub rateOf : ℕ → ℕ
-rateOf d = (2 * 20_000_000 + d) / (2 * d)
+rateOf d = halvesUp 20_000_000 d
 
 -- "A rate asked for must lie in 32,000 to 2,000,000."
 abbrev pub mayAsk : ℕ → Bool
 mayAsk rate = within 32_000 2_000_000 rate
-
--- the distance of two numbers
-abbrev pub apart : ℕ → ℕ → ℕ
-apart a b = (a - b) + (b - a)
 
 -- The rate asked for lies |rate - 20,000,000 / d| from the exact rate of d; this is d times as much, a whole number.
 abbrev pub miss : ℕ → ℕ → ℕ

@@ -1,14 +1,15 @@
 -- The tuning word is the nearest whole number to n x 2^32 / clock, halves up; and what is answered in each case.
-use Prim.Native.Nat.{ℕ, suc, _+_, _*_, _-_, _/_, _^_, _≤_, _<_}
-use mathlib.Core.Path.{_≡_, refl, sym, ap, _∙_}
+use Prim.Native.Nat.{ℕ, _+_, _*_, _-_, _^_, _≤_, _<_}
+use mathlib.Core.Path.{_≡_, refl}
 use mathlib.Core.Bool.{Bool, true, false, _&&_, not}
 use mathlib.Core.List.{[], _∷_}
-use native.Mathlib.Nat.{div-lt-iff-lt-mul, div-mul-le-self, lt-mul-div-succ, mul-comm, mul-assoc, mul-add, mul-suc, mul-le-mul-left}
+use native.Mathlib.Nat.{div-lt-iff-lt-mul}
 use native.Mathlib.Omega.{arith}
-use native.Mathlib.Decide.{decLt}
 use lib.Dec.{eqb}
 use lib.ListN.{getD}
 use Rattle.wire.specs.Choice.{pick, check, firstOf, within}
+use Rattle.wire.specs.Halves.{halvesUp, NearestUp}
+use Rattle.wire.proofs.Halves.{half-up}
 use Rattle.wire.proofs.Laws.{and-not-right, true-not-false, within-low}
 use Rattle.tuning.specs.Bands.{inBands}
 use Rattle.tuning.specs.Told.{Told, tells}
@@ -25,7 +26,7 @@ inSecond hz = within 140000000 150000000 hz
 
 -- n x 2^32 / clock, halves up
 abbrev pub quotient : ℕ → ℕ → ℕ
-quotient n clock = (2 * (n * 2 ^ 32) + clock) / (2 * clock)
+quotient n clock = halvesUp (n * 2 ^ 32) clock
 
 -- an offset of a band and a clock that may be set give a word of 32 bits
 pub word-fits : (n clock : ℕ) → n ≤ 34000000 → 79992000 ≤ clock → quotient n clock < 4294967296
@@ -82,57 +83,6 @@ pub word-one : (hz clock : ℕ) {v w : Word} → told v ≡ wordTold hz clock �
 word-one hz clock p q = two-results-coincide told told-one (wordTold hz clock) p q
 
 -- ---- the nearest whole number, halves up
-
--- the distance of two numbers
-abbrev pub apart : ℕ → ℕ → ℕ
-apart a b = (a - b) + (b - a)
-
--- w is the whole number nearest to x / clock, and of two that are equally near the greater: distances are taken clock-fold
-pub record NearestUp (x clock w : ℕ) : Type 0 where
-  pub nearest : (v : ℕ) → apart (clock * w) x ≤ apart (clock * v) x
-  pub up : (v : ℕ) → apart (clock * v) x ≡ apart (clock * w) x → v ≤ w
-
--- A multiple of the clock that lies at most half a clock above x, and less than half a clock below, is the nearest of them.
-half-nearest : (x clock w : ℕ) → 2 * (clock * w) ≤ 2 * x + clock → 2 * x < 2 * (clock * w) + clock → NearestUp x clock w
-half-nearest x clock w above below =
-    record {
-      nearest =
-          λ v. elim (decLt v w) [
-            | yes less ↦ omega (arith, lower v less)
-            | no less ↦ elim (decLt w v) [ yes more ↦ omega (arith, higher v more) | no more ↦ omega (arith, same v (omega arith)) ]
-          ];
-      up = λ v e. elim (decLt w v) [ yes more ↦ omega (arith, higher v more) | no more ↦ omega arith ];
-    }
-  where
-    lower : (v : ℕ) → v < w → clock * v + clock ≤ clock * w
-    lower v less =
-        let next : clock * suc v ≡ clock * v + clock = mul-suc clock v in
-        omega (arith, next, mul-le-mul-left clock less)
-
-    higher : (v : ℕ) → w < v → clock * w + clock ≤ clock * v
-    higher v more =
-        let next : clock * suc w ≡ clock * w + clock = mul-suc clock w in
-        omega (arith, next, mul-le-mul-left clock more)
-
-    same : (v : ℕ) → w ≡ v → clock * w ≡ clock * v
-    same v e = ap (λ (n : ℕ). clock * n) e
-
--- (2 x + clock) / (2 clock) is x / clock to the nearest whole number, halves up
-pub half-up : (x clock : ℕ) → 0 < clock → NearestUp x clock ((2 * x + clock) / (2 * clock))
-half-up x clock some =
-    let w : ℕ = (2 * x + clock) / (2 * clock) in
-    let twice : 0 < 2 * clock = omega arith in
-    let whole : w * (2 * clock) ≡ 2 * (clock * w) = mul-comm w (2 * clock) ∙ mul-assoc 2 clock w in
-    let next : 2 * clock * (w + 1) ≡ 2 * (clock * w) + 2 * clock = mul-add (2 * clock) w 1 ∙ omega (arith, mul-assoc 2 clock w) in
-    half-nearest x clock w
-    (omega (arith, whole, div-mul-le-self (2 * x + clock) (2 * clock)))
-    (omega (arith, next, lt-mul-div-succ (2 * x + clock) twice))
-
--- no two numbers are that
-pub nearest-up-one : (x clock v w : ℕ) → NearestUp x clock v → NearestUp x clock w → v ≡ w
-nearest-up-one x clock v w p q =
-    let even : apart (clock * w) x ≡ apart (clock * v) x = omega (arith, p .nearest w, q .nearest v) in
-    omega (arith, p .up w even, q .up v (sym even))
 
 -- the word of 01
 pub word-nearest : (hz clock : ℕ) → isClock clock ≡ true → NearestUp (offsetOf hz * 2 ^ 32) clock (wordOf hz clock)

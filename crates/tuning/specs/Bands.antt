@@ -1,8 +1,8 @@
 -- Bands: "100,000 to 34,000,000 Hz, oscillator 0; 140,000,000 to 150,000,000 Hz, oscillator 160,000,000."
 use Prim.Native.Nat.{ℕ}
-use mathlib.Core.Bool.{Bool, false, _||_}
+use mathlib.Core.Bool.{Bool}
 use mathlib.Core.List.{List, [], _∷_, _++_}
-use Rattle.wire.specs.Choice.{within}
+use Rattle.wire.specs.Choice.{anyOf, within}
 use Rattle.wire.specs.Number.{bytes}
 
 pub record Band : Type 0 where
@@ -16,13 +16,12 @@ bands =
     ∷ record { minimum = 140_000_000; maximum = 150_000_000; oscillator = 160_000_000 }
     ∷ []
 
--- the frequency lies in one of the bands
-abbrev pub inSome : List Band → ℕ → Bool
-inSome [] hz = false
-inSome (b ∷ bs) hz = within (b .minimum) (b .maximum) hz || inSome bs hz
+abbrev pub covers : Band → ℕ → Bool
+covers b hz = within (b .minimum) (b .maximum) hz
 
+-- the frequency lies in one of the bands
 abbrev pub inBands : ℕ → Bool
-inBands hz = inSome bands hz
+inBands hz = anyOf (λ b. covers b hz) bands
 
 -- "then minimum, maximum, oscillator of each in five bytes"
 abbrev pub rangeBytes : List Band → List ℕ

@@ -1,12 +1,13 @@
 -- Tuning word (house): "The offset n is the frequency, or 160,000,000 less the frequency in the second band. The word is
 -- n x 2^32 / clock to the nearest whole number, halves up; it is worked out when asked."
-use Prim.Native.Nat.{ℕ, _+_, _*_, _-_, _/_, _^_}
+use Prim.Native.Nat.{ℕ, _*_, _-_, _^_}
 use mathlib.Core.Bool.{Bool, not}
 use mathlib.Core.List.{List, [], _∷_}
 use lib.Dec.{eqb}
-use Rattle.wire.specs.Choice.{pick, check, firstOf, within}
+use Rattle.wire.specs.Choice.{pick, check, firstOf, firstRow, within}
 use Rattle.wire.specs.Codes as Code
-use Rattle.tuning.specs.Bands.{Band, bands, inBands}
+use Rattle.wire.specs.Halves.{halvesUp}
+use Rattle.tuning.specs.Bands.{Band, bands, covers, inBands}
 use Rattle.tuning.specs.Told.{Told, tells}
 use Rattle.tuning.specs.declared.word.Word.{Word}
 use Rattle.tuning.specs.declared.word.Word.the-variants.{Is, NotAllowed}
@@ -16,16 +17,12 @@ abbrev pub offsetIn : Band → ℕ → ℕ
 offsetIn b hz = pick (eqb (b .oscillator) 0) hz (b .oscillator - hz)
 
 -- the offset in the first band that has the frequency, 0 where none has it
-abbrev pub offsetAmong : List Band → ℕ → ℕ
-offsetAmong [] hz = 0
-offsetAmong (b ∷ bs) hz = pick (within (b .minimum) (b .maximum) hz) (offsetIn b hz) (offsetAmong bs hz)
-
 abbrev pub offsetOf : ℕ → ℕ
-offsetOf hz = offsetAmong bands hz
+offsetOf hz = firstRow (λ b. covers b hz) (λ b. offsetIn b hz) 0 bands
 
 -- n x 2^32 / clock, halves up
 unfoldable pub wordOf : ℕ → ℕ → ℕ
-wordOf hz clock = (2 * (offsetOf hz * 2 ^ 32) + clock) / (2 * clock)
+wordOf hz clock = halvesUp (offsetOf hz * 2 ^ 32) clock
 
 -- clock: "79,992,000 to 80,008,000 (house)"
 abbrev pub isClock : ℕ → Bool

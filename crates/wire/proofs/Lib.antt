@@ -4,3 +4,5 @@ pub mod Numbers
 pub mod Headers
 pub mod Signed
 pub mod Checks
+pub mod Halves
+pub mod Writes

@@ -22,6 +22,16 @@ abbrev pub firstOf : List Check → ℕ → ℕ
 firstOf [] otherwise = otherwise
 firstOf (c ∷ cs) otherwise = pick (c .holds) (c .code) (firstOf cs otherwise)
 
+-- what is given for the first row of a table for which the test holds, or `otherwise` where there is none
+abbrev pub firstRow {ℓ} : {A : Type 0} {X : Type ℓ} → (A → Bool) → (A → X) → X → List A → X
+firstRow test give otherwise [] = otherwise
+firstRow test give otherwise (r ∷ rs) = pick (test r) (give r) (firstRow test give otherwise rs)
+
+-- the test holds for some row of a table
+abbrev pub anyOf : {A : Type 0} → (A → Bool) → List A → Bool
+anyOf test [] = false
+anyOf test (r ∷ rs) = test r || anyOf test rs
+
 -- n is one of the list
 abbrev pub oneOf : ℕ → List ℕ → Bool
 oneOf n [] = false

@@ -1,9 +1,8 @@
 -- What comes back: the table of codes, in its order, each by its name.
 use Prim.Native.Nat.{ℕ}
-use mathlib.Core.Path.{_≡_}
 use mathlib.Core.List.{List, [], _∷_}
 use lib.Dec.{eqb}
-use Rattle.wire.specs.Choice.{pick}
+use Rattle.wire.specs.Choice.{firstRow}
 use Rattle.wire.specs.Header.{nak}
 
 -- waiting, all bytes consumed
@@ -109,22 +108,23 @@ otherVersion = 41
 -- The table's third column, "Written".
 pub data Written : Type 0 where
   nothing : Written
-  -- "exactly its length"
-  itsLength : Written
-  -- "NAK", which only the box writes: of code 16 "outside the box nothing"
+  -- "exactly its length": the reply, packet or value
+  whole : Written
   aNak : Written
 
+-- a line: the code, what the box writes with it, and what is written "outside the box"
 pub record Row : Type 0 where
   pub code : ℕ
-  pub written : Written
+  pub inBox : Written
+  pub outside : Written
 
 abbrev row : ℕ → Written → Row
-row code written = record { code = code; written = written }
+row code written = record { code = code; inBox = written; outside = written }
 
 abbrev pub table : List Row
 table =
     row waiting nothing
-    ∷ row done itsLength
+    ∷ row done whole
     ∷ row noReplyDue nothing
     ∷ row badHeader aNak
     ∷ row tooLong aNak
@@ -132,7 +132,7 @@ table =
     ∷ row notOffered aNak
     ∷ row wrongLength aNak
     ∷ row channelNotAllowed aNak
-    ∷ row valueNotAllowed aNak
+    ∷ record { code = valueNotAllowed; inBox = aNak; outside = nothing }
     ∷ row notWhileRunning aNak
     ∷ row noRoom nothing
     ∷ row broken nothing
@@ -150,16 +150,22 @@ table =
     ∷ row otherVersion nothing
     ∷ []
 
--- what is written with a code, `due` being the reply, packet or value; a code that is not in the table writes nothing
-abbrev pub columnOf : List Row → ℕ → Written
-columnOf [] code = nothing
-columnOf (r ∷ rs) code = pick (eqb code (r .code)) (r .written) (columnOf rs code)
+-- what an entry of the column stands for, where a reply, packet or value is `due`
+abbrev pub bytesFor : Written → List ℕ → List ℕ
+bytesFor nothing due = []
+bytesFor whole due = due
+bytesFor aNak due = nak
 
--- The bytes that the box writes with a code are those of the table's column.
-abbrev pub Fits : Written → List ℕ → Type 0
-Fits nothing bytes = bytes ≡ []
-Fits itsLength bytes = Unit {0}
-Fits aNak bytes = bytes ≡ nak
+-- what the box writes with a code
+abbrev pub boxWrites : ℕ → List ℕ → List ℕ
+boxWrites code due = firstRow (λ r. eqb code (r .code)) (λ r. bytesFor (r .inBox) due) [] table
 
-abbrev pub AsTheTableSays : ℕ → List ℕ → Type 0
-AsTheTableSays code bytes = Fits (columnOf table code) bytes
+-- Outside the box there is no NAK, and what is written may be bytes or numbers.
+abbrev pub valuesFor : {A : Type 0} → Written → List A → List A
+valuesFor nothing due = []
+valuesFor whole due = due
+valuesFor aNak due = []
+
+-- what is written with a code outside the box
+abbrev pub othersWrite : {A : Type 0} → ℕ → List A → List A
+othersWrite code due = firstRow (λ r. eqb code (r .code)) (λ r. valuesFor (r .outside) due) [] table
