@@ -7,7 +7,8 @@ use lib.ListN.{getD}
 use Rattle.wire.specs.Header.{typeSet}
 use Rattle.items.specs.declared.Settings.{Settings}
 use Rattle.items.specs.Items.{Item}
-use Rattle.items.specs.Answer.{setBy, channelAllowed}
+use Rattle.items.specs.Answer.{channelAllowed}
+use Rattle.judging.specs.Inside.{setBy}
 
 module _ (i : Item) (s : Settings) (p : List ℕ) where
   -- the channel byte is allowed

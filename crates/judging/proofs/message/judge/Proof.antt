@@ -9,8 +9,10 @@ use Rattle.wire.proofs.Stores.{rest-part}
 use Rattle.items.specs.Header.{headerChecks}
 use Rattle.items.specs.Table.{tableChecks}
 use Rattle.items.specs.Items.{rowOf}
-use Rattle.items.specs.Answer.{Message, itemIn, parameters, setBy, askedBy}
-use Rattle.items.proofs.Judging.{by-header, by-table, by-item, refused, set-judged, asked-judged}
+use Rattle.items.specs.Answer.{Message, itemIn, parameters}
+use Rattle.items.proofs.Judging.{by-header, by-table, by-item, refused}
+use Rattle.judging.specs.Inside.{setBy, askedBy}
+use Rattle.judging.proofs.Parts.{set-judged, asked-judged}
 use borrow.Author.Needs.{needs}
 use Rattle.judging.proofs.message.judge.Statement.{statement}
 use Rattle.judging.proofs.message.judge.Tie as tie

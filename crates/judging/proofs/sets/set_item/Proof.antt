@@ -1,7 +1,7 @@
 -- Each reader has its item's row; an item that is not one of theirs stores nothing.
 use denote.Ref.{now}
 use Rattle.items.specs.Items.{rowOf}
-use Rattle.items.proofs.Judging.{set-else}
+use Rattle.judging.proofs.Parts.{set-else}
 use borrow.Author.Needs.{needs}
 use Rattle.judging.proofs.sets.set_item.Statement.{statement}
 use Rattle.judging.proofs.sets.set_item.Tie as tie
