@@ -7,7 +7,7 @@ use lib.Dec.{eqb}
 use Rattle.wire.specs.Choice.{pick, check, firstOf, within}
 use Rattle.wire.specs.Codes as Code
 use Rattle.tuning.specs.Bands.{Band, bands, inBands}
-use Rattle.tuning.specs.Told.{Told, tells}
+use Rattle.wire.specs.Told.{Told, tells}
 use Rattle.tuning.specs.declared.word.Word.{Word}
 use Rattle.tuning.specs.declared.word.Word.the-variants.{Is, NotAllowed}
 

@@ -4,3 +4,4 @@ pub mod Numbers
 pub mod Headers
 pub mod Signed
 pub mod Checks
+pub mod Firm

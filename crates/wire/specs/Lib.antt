@@ -3,3 +3,4 @@ pub mod Number
 pub mod Signed
 pub mod Header
 pub mod Codes
+pub mod Told
