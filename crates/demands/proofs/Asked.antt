@@ -3,14 +3,15 @@
 use Prim.Native.Nat.{ℕ, _+_, _-_, _≤_}
 use native.Mathlib.Nat.{le-trans}
 use native.Mathlib.Omega.{arith}
-use borrow.Author.Tests.{lt-leb}
-use mathlib.Core.Path.{_≡_, sym, ap, _∙_}
-use mathlib.Core.Bool.{false}
+use borrow.Author.Tests.{lt-leb, not-false}
+use mathlib.Core.Path.{_≡_, refl, sym, ap, _∙_}
+use mathlib.Core.Bool.{true, false}
 use mathlib.Core.List.{List, [], _++_, append-nil}
 use lib.Dec.{leb, lit≤}
 use lib.ListN.{length, replicate}
 use Rattle.wire.specs.Number.{bytes, field}
 use Rattle.wire.specs.Header.{headerOf, typeIn, lengthIn, typeData}
+use Rattle.wire.proofs.Checks.{absent}
 use Rattle.wire.proofs.Headers.{length-header, type-header, header-below}
 use Rattle.framing.specs.Framing.{Taking}
 use Rattle.framing.specs.Framing.{taken, finished, between, announced, headerIn, totalOf}
@@ -19,18 +20,21 @@ use Rattle.framing.proofs.Leaving.{between-left}
 use Rattle.layouts.specs.declared.Layout.{Layout}
 use Rattle.layouts.specs.Layouts.{sizeOf, laid}
 use Rattle.layouts.proofs.Sizes.{least, length-laid}
+use Rattle.items.specs.declared.Settings.{Settings}
+use Rattle.items.specs.Settings.{inRange}
 use Rattle.items.specs.Answer.{Message, codeOf, settingsAfter, replyOf}
 use Rattle.station.specs.Feeding.{Feeding, feedingOf, messageIn, answered}
 use Rattle.station.proofs.Short.{reply-short}
 use Rattle.station.proofs.Valid.{valid-both, feeding-answered}
 use Rattle.wishes.specs.declared.Wish.{Wish}
-use Rattle.wishes.specs.Wishes.{asking, layoutOf, messageOf, asMessage}
+use Rattle.wishes.specs.Wishes.{asking, layoutOf, messageOf, asMessage, allowed}
+use Rattle.wishes.specs.Writing.{writeChecks, writeCode, bytesWritten}
 use Rattle.wishes.proofs.Rows.{of-row, short-message}
 use Rattle.wishes.proofs.Understood.{code-of-wish, settings-of-wish}
 use Rattle.replies.specs.Reading.{toldOf}
 use Rattle.replies.proofs.Exactly.{box-reply-is-read}
 use Rattle.demands.specs.Shown.{resting}
-use Rattle.demands.specs.Asked.{WhatIsAskedIsUnderstood}
+use Rattle.demands.specs.Asked.{Understands, WhatIsAskedIsUnderstood}
 use Rattle.demands.proofs.OneMessage.{holding, tookAll, one-message}
 
 -- ---- a message has its true length in its header
@@ -81,8 +85,9 @@ wish-held w =
 
 -- ---- the demand
 
-pub what-is-asked-is-understood : WhatIsAskedIsUnderstood
-what-is-asked-is-understood w s room e v eight enough =
+understands : (w : Wish) (s : Settings) (room : ℕ) → allowed w ≡ true → inRange s ≡ true → length (s .serial) ≡ 8 → 64 ≤ room
+    → Understands w (messageOf w) s room
+understands w s room e v eight enough =
     record {
       code = ap (λ (f : Feeding). f .fed .code) fed ∙ code-of-wish w s e;
       does = ap (λ (f : Feeding). f .fed .station) fed ∙ ap resting (settings-of-wish w s e);
@@ -97,3 +102,16 @@ what-is-asked-is-understood w s room e v eight enough =
         (le-trans (reply-short s (messageIn (taken between (messageOf w) .store)) eight) enough)
         ∙ ap (answered s) t
         ∙ ap (λ (m : Message). record { fed = record { code = codeOf s m; consumed = length (messageOf w); wrote = length (replyOf s m); station = resting (settingsAfter s m) }; bytes = replyOf s m }) (wish-held w)
+
+-- the writer accepts exactly what is allowed, and writes its message
+accepted : (w : Wish) (buffer : ℕ) → writeCode w buffer ≡ 1 → allowed w ≡ true
+unfolding writeCode
+accepted w buffer e = not-false (allowed w) (absent (writeChecks w buffer) 1 refl e .0)
+
+message-written : (w : Wish) (buffer : ℕ) → writeCode w buffer ≡ 1 → bytesWritten w buffer ≡ messageOf w
+unfolding bytesWritten
+message-written w buffer e = rw e refl
+
+pub what-is-asked-is-understood : WhatIsAskedIsUnderstood
+what-is-asked-is-understood w buffer e s v eight room enough =
+    rw (message-written w buffer e) (understands w s room (accepted w buffer e) v eight enough)

@@ -8,23 +8,24 @@ use mathlib.Core.Bool.{Bool, true, false, not}
 use mathlib.Core.List.{List}
 use lib.Dec.{eqb, leb, ltb}
 use lib.IntN.{ℤ}
-use lib.ListN.{length}
+use lib.ListN.{length, replicate}
 use Rattle.wire.specs.Choice.{pick}
 use Rattle.packets.specs.Numbers.{most}
 use Rattle.framing.specs.Framing.{taken, finished, between}
 use Rattle.items.specs.declared.Settings.{Settings}
-use Rattle.items.specs.Settings.{inRange, freshOf, allSerial, withCount}
+use Rattle.items.specs.Settings.{inRange, freshOf, allSerial, isSerial, withCount}
 use Rattle.items.specs.Answer.{replyOf, settingsAfter}
 use Rattle.station.specs.declared.Station.{Station}
-use Rattle.station.specs.Station.{valid, freshStation}
+use Rattle.station.specs.Station.{valid, freshStation, freshBox}
 use Rattle.station.specs.Feeding.{feedingOf, messageIn, refused, waiting, answered}
 use Rattle.wire.proofs.Checks.{absent}
+use Rattle.wire.proofs.Laws.{and-right}
 use Rattle.station.proofs.Kept.{ranges, in-range, message-keeps}
 use Rattle.framing.proofs.Cutting.{told, taken-left}
 use Rattle.framing.proofs.Leaving.{between-left}
 use Rattle.station.proofs.Valid.{valid-settings, valid-store, valid-both}
 use Rattle.cutting.specs.Cutting.{cuttingOf, cutCode, cutChecks, cutFrom}
-use Rattle.demands.specs.Reached.{Reached, fresh, fed, cut}
+use Rattle.demands.specs.Reached.{fresh, fed, cut, NeverOutOfRange}
 
 -- a fresh box is valid
 pub fresh-valid : (serial : List ℕ) → allSerial serial ≡ true → valid (freshStation serial) ≡ true
@@ -33,6 +34,14 @@ fresh-valid serial h =
     (in-range (freshOf serial)
     (record { frequency = refl; count = refl; clock = refl; divisor = refl; mode = refl; gain = refl; size = refl; serial = h }))
     between-left
+
+-- from whichever serial: one that is refused gives the serial 00000000
+fresh-box-valid : (serial : List ℕ) → valid (freshBox serial .station) ≡ true
+fresh-box-valid serial = go (isSerial serial) refl
+  where
+    go : (b : Bool) → isSerial serial ≡ b → valid (freshBox serial .station) ≡ true
+    go true q = rw q (fresh-valid serial (and-right (eqb (length serial) 8) (allSerial serial) q))
+    go false q = rw q (fresh-valid (replicate 8 0x30) refl)
 
 -- feeding a valid box leaves a valid box, whatever it is fed
 pub feeding-keeps : (s : Station) (host : List ℕ) (room : ℕ) → valid s ≡ true → valid (feedingOf s host room .fed .station) ≡ true
@@ -85,7 +94,7 @@ cutting-keeps s samples room v = go (eqb (cutCode s samples room) 1) refl
     go false q = v
 
 -- "No setting of a box started fresh ever leaves its range."
-pub never-out-of-range : (s : Station) → Reached s → valid s ≡ true
-never-out-of-range s (fresh serial eight letters) = fresh-valid serial letters
+pub never-out-of-range : NeverOutOfRange
+never-out-of-range s (fresh serial) = fresh-box-valid serial
 never-out-of-range s (fed t host room r) = feeding-keeps t host room (never-out-of-range t r)
 never-out-of-range s (cut t samples room r) = cutting-keeps t samples room (never-out-of-range t r)

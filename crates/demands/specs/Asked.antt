@@ -2,6 +2,7 @@
 use Prim.Native.Nat.{ℕ, _≤_}
 use mathlib.Core.Path.{_≡_}
 use mathlib.Core.Bool.{true}
+use mathlib.Core.List.{List}
 use lib.ListN.{length}
 use Rattle.wire.specs.Choice.{pick}
 use Rattle.wire.specs.Codes as Code
@@ -9,19 +10,24 @@ use Rattle.items.specs.declared.Settings.{Settings}
 use Rattle.items.specs.Settings.{inRange}
 use Rattle.station.specs.Feeding.{feedingOf}
 use Rattle.wishes.specs.declared.Wish.{Wish}
-use Rattle.wishes.specs.Wishes.{messageOf, allowed, granted, notNow}
+use Rattle.wishes.specs.Wishes.{granted, notNow}
+use Rattle.wishes.specs.Writing.{writeCode, bytesWritten}
 use Rattle.replies.specs.Reading.{told, toldOf}
 use Rattle.replies.specs.Saying.{saidBy}
 use Rattle.demands.specs.Shown.{resting}
 
--- A wish that the writer accepts, its message fed to a valid box between messages: the box does what the wish means
--- (`granted`), unless it is running and the wish has to wait (17, NAK); and what it writes is read back as what it then
--- says, NAK as NAK (`saidBy`).
-pub record Understands (w : Wish) (s : Settings) (room : ℕ) : Type 0 where
-  pub code : feedingOf (resting s) (messageOf w) room .fed .code ≡ pick (notNow w s) Code.notWhileRunning Code.done
-  pub does : feedingOf (resting s) (messageOf w) room .fed .station ≡ resting (pick (notNow w s) s (granted w s))
-  pub says : toldOf w (feedingOf (resting s) (messageOf w) room .bytes) ≡ told (saidBy w s)
+-- A wish and the bytes of its message, fed to a valid box between messages: the box does what the wish means (`granted`),
+-- unless it is running and the wish has to wait (17, NAK); and what it writes is read back as what it then says, NAK as NAK
+-- (`saidBy`).
+pub record Understands (w : Wish) (message : List ℕ) (s : Settings) (room : ℕ) : Type 0 where
+  pub code : feedingOf (resting s) message room .fed .code ≡ pick (notNow w s) Code.notWhileRunning Code.done
+  pub does : feedingOf (resting s) message room .fed .station ≡ resting (pick (notNow w s) s (granted w s))
+  pub says : toldOf w (feedingOf (resting s) message room .bytes) ≡ told (saidBy w s)
 
+-- every wish that the writer accepts, and what it writes, whatever the buffer
 abbrev pub WhatIsAskedIsUnderstood : Type 0
 WhatIsAskedIsUnderstood =
-    (w : Wish) (s : Settings) (room : ℕ) → allowed w ≡ true → inRange s ≡ true → length (s .serial) ≡ 8 → 64 ≤ room → Understands w s room
+    (w : Wish) (buffer : ℕ) → writeCode w buffer ≡ Code.done
+    → (s : Settings) → inRange s ≡ true → length (s .serial) ≡ 8
+    → (room : ℕ) → 64 ≤ room
+    → Understands w (bytesWritten w buffer) s room

@@ -4,15 +4,18 @@ use mathlib.Core.Path.{_≡_}
 use mathlib.Core.Bool.{true}
 use mathlib.Core.List.{List}
 use lib.IntN.{ℤ}
-use lib.ListN.{length}
-use Rattle.items.specs.Settings.{allSerial}
 use Rattle.station.specs.declared.Station.{Station}
-use Rattle.station.specs.Station.{freshStation}
+use Rattle.station.specs.Station.{valid, freshBox}
 use Rattle.station.specs.Feeding.{feedingOf}
 use Rattle.cutting.specs.Cutting.{cuttingOf}
 
--- each call may be refused or not: what counts is the box that it returns
+-- A fresh box from any serial, also one that is refused with 26; then calls that may be refused or not: what counts is the
+-- box that each returns.
 pub data Reached : Station → Type 0 where
-  fresh : (serial : List ℕ) → length serial ≡ 8 → allSerial serial ≡ true → Reached (freshStation serial)
+  fresh : (serial : List ℕ) → Reached (freshBox serial .station)
   fed : (s : Station) (host : List ℕ) (room : ℕ) → Reached s → Reached (feedingOf s host room .fed .station)
   cut : (s : Station) (samples : List ℤ) (room : ℕ) → Reached s → Reached (cuttingOf s samples room .cut .station)
+
+-- "No setting of a box started fresh ever leaves its range."
+abbrev pub NeverOutOfRange : Type 0
+NeverOutOfRange = (s : Station) → Reached s → valid s ≡ true

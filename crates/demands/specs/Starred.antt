@@ -1,7 +1,7 @@
 -- The judged examples of document 01 that are marked to be proved, as one table in the page's order. What a message does
 -- is asked of a fresh box, fed in one call with 64 bytes of room.
 use Prim.Native.Nat.{ℕ}
-use mathlib.Core.Bool.{Bool, true, false, _&&_, not}
+use mathlib.Core.Bool.{Bool, true, false, _&&_}
 use mathlib.Core.List.{List, [], _∷_}
 use lib.Dec.{eqb}
 use lib.IntN.{ℤ, pos, negsuc}
@@ -57,8 +57,6 @@ pub data Example : Type 0 where
   gains : List ℕ → ℤ → Example
   -- a rate asked for gives a D and an achieved rate
   givesRate : ℕ → ℕ → ℕ → Example
-  -- a rate that may not be asked for
-  refusesRate : ℕ → Example
   -- the packet at a position has a number
   hasNumber : ℕ → ℕ → Example
   -- a number after another is a step
@@ -75,7 +73,6 @@ holds (unanswered message) = eqb (does message .fed .code) 2 && sameBytes (does 
 holds (getsCode message code) = eqb (does message .fed .code) code && sameBytes (does message .bytes) nak
 holds (gains message db) = sameBytes (does message .bytes) message && sameInteger (signed 8 (settingsBy message .gain)) db
 holds (givesRate hz d achieved) = mayAsk hz && eqb (nearestOf hz) d && eqb (rateOf d) achieved
-holds (refusesRate hz) = not (mayAsk hz)
 holds (hasNumber position number) = eqb (numberAt position) number
 holds (steps s t step) = eqb (stepOf s t) step
 holds (packs bits z packed) = sameBytes (sampleBytes bits z) packed
@@ -96,8 +93,8 @@ starred =
     ∷ gives (0x09 ∷ 0x00 ∷ 0xB8 ∷ 0x00 ∷ 0x00 ∷ 0x04 ∷ 0xD9 ∷ 0x00 ∷ 0x00 ∷ []) (0x09 ∷ 0x00 ∷ 0xB8 ∷ 0x00 ∷ 0x00 ∷ 0x04 ∷ 0xD9 ∷ 0x00 ∷ 0x00 ∷ [])
     ∷ givesRate 1_907_000 11 1_818_182
     ∷ givesRate 32_000 625 32_000
-    ∷ refusesRate 31_999
-    ∷ refusesRate 2_000_001
+    ∷ getsCode (0x09 ∷ 0x00 ∷ 0xB8 ∷ 0x00 ∷ 0x00 ∷ 0xFF ∷ 0x7C ∷ 0x00 ∷ 0x00 ∷ []) 16
+    ∷ getsCode (0x09 ∷ 0x00 ∷ 0xB8 ∷ 0x00 ∷ 0x00 ∷ 0x81 ∷ 0x84 ∷ 0x1E ∷ 0x00 ∷ []) 16
     ∷ getsCode (0x04 ∷ 0x20 ∷ 0x09 ∷ 0x00 ∷ []) 12
     ∷ unanswered (0x03 ∷ 0x60 ∷ 0x00 ∷ [])
     ∷ getsCode (0x03 ∷ 0x60 ∷ 0x04 ∷ []) 11

@@ -61,7 +61,7 @@ fn told_by(w: Written) -> Told
             code: codes::VALUE_NOT_ALLOWED,
             wrote: 0,
         },
-        Written::Short => Told {
+        Written::NoRoom => Told {
             code: codes::NO_ROOM,
             wrote: 0,
         },

@@ -4,7 +4,7 @@ use mathlib.Core.Path.{_≡_, refl}
 use mathlib.Core.List.{List, [], _∷_}
 use lib.Dec.{eqb}
 use Rattle.wire.specs.Choice.{pick}
-use Rattle.tuning.proofs.Firm.{one-by, two-results-coincide}
+use Rattle.wire.proofs.Firm.{one-by, two-results-coincide}
 use Rattle.heads.specs.declared.Head.{Head}
 use Rattle.heads.specs.declared.Written.{Written}
 use Rattle.heads.specs.declared.Written.the-variants.{Whole, NotAllowed, NoRoom}

@@ -1,30 +1,17 @@
 -- How the codes of a message's header, of the table and of the item make the message's code.
 use Prim.Native.Nat.{ℕ}
 use mathlib.Core.Path.{_≡_, refl, _∙_}
-use mathlib.Core.Bool.{and-true, and-false}
-use mathlib.Core.List.{List, [], _∷_, _++_}
-use lib.Dec.{eqb}
+use mathlib.Core.List.{List, _++_}
 use lib.ListN.{getD}
 use borrow.Author.Tests.{ne-eqb, not-false}
 use Rattle.wire.specs.Choice.{Check, firstOf}
-use Rattle.wire.specs.Header.{typeSet, typeRequest}
 use Rattle.wire.proofs.Checks.{Absent, absent, first-stops, first-goes-on}
 use Rattle.items.specs.declared.Settings.{Settings}
-use Rattle.items.specs.Items.{Channels, noChannel, anyChannel, zeroAndAll, Item, versions, name, serial, interface, status, state, clock, rate, packetSize, listed, rowOf}
+use Rattle.items.specs.Items.{listed}
 use Rattle.items.specs.Header.{headerChecks}
 use Rattle.items.specs.Table.{tableChecks}
-use Rattle.items.specs.Answer.{Message, channelAllowed, itemIn, row, parameters, itemChecks, itemCode, askedBy, setBy, checks, codeOf, settingsAfter, judgedOf}
-use Rattle.items.proofs.Rows.{row-has, row-code}
-
--- a request and a range request have the same channels
-channel-asked : (cs : Channels) (kind byte : ℕ) → (kind ≡ typeSet → ⊥) → channelAllowed cs kind byte ≡ channelAllowed cs typeRequest byte
-channel-asked noChannel kind byte h = refl
-channel-asked anyChannel kind byte h = refl
-channel-asked zeroAndAll kind byte h = rw (ne-eqb kind typeSet h)
-
--- the checks of a request or a range request
-asked-code : (i : Item) (kind : ℕ) (s : Settings) (p : List ℕ) → (kind ≡ typeSet → ⊥) → itemCode i kind s p ≡ askedBy i p
-asked-code i kind s p h = rw (ne-eqb kind typeSet h, channel-asked (i .channels) kind (getD p 0 0) h)
+use Rattle.items.specs.Answer.{Message, itemIn, row, parameters, itemChecks, itemCode, checks, codeOf, settingsAfter, judgedOf}
+use Rattle.items.proofs.Rows.{row-code}
 
 -- an accepted message passed every check
 pub passed : (s : Settings) (m : Message) → codeOf s m ≡ 1 → Absent (checks s m)
@@ -68,41 +55,3 @@ module _ (s : Settings) (m : Message) where
   pub refused : (code : ℕ) → (code ≡ 1 → ⊥) → codeOf s m ≡ code → record { code = code; settings = s } ≡ judgedOf s m
   unfolding settingsAfter
   refused code h e = rw (e, ne-eqb code 1 h) refl
-
-  -- a set is its item's
-  pub set-judged : m .type ≡ typeSet → codeOf s m ≡ itemCode (row m) (m .type) s (parameters m) → setBy (row m) s (parameters m) ≡ judgedOf s m
-  unfolding settingsAfter
-  set-judged t e = rw (e, t, and-true (eqb (itemCode (row m) typeSet s (parameters m)) 1)) refl
-
-  -- a request leaves every setting
-  pub asked-judged : (m .type ≡ typeSet → ⊥) → codeOf s m ≡ itemCode (row m) (m .type) s (parameters m)
-      → record { code = askedBy (row m) (parameters m); settings = s } ≡ judgedOf s m
-  unfolding settingsAfter
-  asked-judged t e =
-      rw (e, asked-code (row m) (m .type) s (parameters m) t, ne-eqb (m .type) typeSet t, and-false (eqb (askedBy (row m) (parameters m)) 1)) refl
-
--- an item that is no channel's and no id's: nothing is asked of its requests
-abbrev unasked : (i : Item) → Type 0
-unasked i = (p : List ℕ) → 1 ≡ askedBy i p
-
-pub asked-else : (item : ℕ) → (item ≡ 0x0004 → ⊥) → (item ≡ 0x0020 → ⊥) → (item ≡ 0x0038 → ⊥) → (p : List ℕ) → 1 ≡ askedBy (rowOf item) p
-unfolding rowOf
-asked-else item v f g =
-    rw (ne-eqb item 0x0004 v, ne-eqb item 0x0020 f, ne-eqb item 0x0038 g)
-    (row-has unasked (λ p. refl) (name ∷ serial ∷ interface ∷ status ∷ state ∷ clock ∷ rate ∷ packetSize ∷ []) item
-    ((λ p. refl), ((λ p. refl), ((λ p. refl), ((λ p. refl), ((λ p. refl), ((λ p. refl), ((λ p. refl), ((λ p. refl), tt)))))))))
-
--- an item that has no set: a set would store nothing
-abbrev unset : (i : Item) → Type 0
-unset i = (s : Settings) (p : List ℕ) → record { code = 1; settings = s } ≡ setBy i s p
-
-no-set : (s : Settings) (p : List ℕ) → record { code = 1; settings = s } ≡ setBy name s p
-no-set s p = rw (and-false (s .running)) refl
-
-pub set-else : (item : ℕ) → (item ≡ 0x0018 → ⊥) → (item ≡ 0x0020 → ⊥) → (item ≡ 0x0038 → ⊥) → (item ≡ 0x00B0 → ⊥) → (item ≡ 0x00B8 → ⊥)
-    → (item ≡ 0x00C4 → ⊥) → (s : Settings) (p : List ℕ) → record { code = 1; settings = s } ≡ setBy (rowOf item) s p
-unfolding rowOf
-set-else item a b c d e f =
-    rw (ne-eqb item 0x0018 a, ne-eqb item 0x0020 b, ne-eqb item 0x0038 c, ne-eqb item 0x00B0 d, ne-eqb item 0x00B8 e, ne-eqb item 0x00C4 f)
-    (row-has unset no-set (name ∷ serial ∷ interface ∷ versions ∷ status ∷ []) item
-    (no-set, (no-set, (no-set, (no-set, (no-set, tt))))))

@@ -1,11 +1,12 @@
 -- The lines of the table of items: what is no line's code or kind is refused, and the enum's cases stay apart.
 use Prim.Native.Nat.{ℕ}
-use mathlib.Core.Path.{_≡_, refl, ap, subst}
+use mathlib.Core.Path.{_≡_, refl}
 use mathlib.Core.Bool.{Bool, true, false, not}
-use lib.Dec.{eqb, T, T-not, eqb-refl}
+use lib.Dec.{eqb}
 use borrow.Author.Tests.{ne-eqb}
 use Rattle.wire.specs.Choice.{pick, firstOf}
 use Rattle.wire.proofs.Laws.{pick-same}
+use Rattle.wire.proofs.Firm.{one-by}
 use Rattle.items.specs.declared.Expected.{Expected}
 use Rattle.items.specs.declared.Expected.the-variants.{Total, Unlisted, NotOffered}
 use Rattle.items.specs.Items.{Offer, total, dash, listed, rowOf}
@@ -41,18 +42,16 @@ code-by item kind size = go (listed item) (offered (rowOf item) kind)
     go true (total n) = by (eqb size n)
     go true dash = refl
 
--- codes apart
-apart : {t u : Told} → t ≡ u → T (not (eqb (t .code) (u .code))) → ⊥
-apart {t} {u} h w = T-not (eqb (t .code) (u .code)) w (subst (λ (v : Told). T (eqb (t .code) (v .code))) h (eqb-refl (t .code)))
+-- the case that tells so
+back : Told → Expected
+back t = pick (eqb (t .code) 1) (Total (t .length)) (pick (eqb (t .code) 12) Unlisted NotOffered)
+
+back-tell : (e : Expected) → back (tell e) ≡ e
+unfolding back
+back-tell (Total n) = refl
+back-tell Unlisted = refl
+back-tell NotOffered = refl
 
 -- two cases of the enum that tell the same are the same
 pub tell-one : (e f : Expected) → tell e ≡ tell f → e ≡ f
-tell-one (Total n) (Total m) h = ap Total (ap (λ (t : Told). t .length) h)
-tell-one Unlisted Unlisted h = refl
-tell-one NotOffered NotOffered h = refl
-tell-one (Total n) Unlisted h = absurd (apart h tt)
-tell-one (Total n) NotOffered h = absurd (apart h tt)
-tell-one Unlisted (Total m) h = absurd (apart h tt)
-tell-one Unlisted NotOffered h = absurd (apart h tt)
-tell-one NotOffered (Total m) h = absurd (apart h tt)
-tell-one NotOffered Unlisted h = absurd (apart h tt)
+tell-one = one-by tell back back-tell

@@ -7,7 +7,7 @@ use lib.ListN.{length, getD, take, drop}
 use Rattle.wire.specs.Choice.{pick, Check, check, firstOf, oneOf}
 use Rattle.wire.specs.Codes as Code
 use Rattle.wire.specs.Number.{bytes, field}
-use Rattle.wire.specs.Header.{headerOf, nak, typeSet, typeRequest, typeRange, typeReply, typeRangeReply}
+use Rattle.wire.specs.Header.{headerOf, nak, typeSet, typeRange, typeReply, typeRangeReply}
 use Rattle.tuning.specs.Bands.{bands, rangeBytes}
 use Rattle.items.specs.declared.Settings.{Settings}
 use Rattle.items.specs.declared.Judged.{Judged}
@@ -57,17 +57,6 @@ itemChecks i kind s p =
 -- what the item makes of its parameters: 15, 16, 17, or 1
 abbrev pub itemCode : Item → ℕ → Settings → List ℕ → ℕ
 itemCode i kind s p = firstOf (itemChecks i kind s p) Code.done
-
--- a request or a range request, which is not refused while running
-abbrev pub askedBy : Item → List ℕ → ℕ
-askedBy i p =
-    firstOf
-    (check Code.channelNotAllowed (not (channelAllowed (i .channels) typeRequest (getD p 0 0))) ∷ check Code.valueNotAllowed (not (valueAllowed i typeRequest p)) ∷ [])
-    Code.done
-
--- a set with these parameters: its code, and the settings after it
-abbrev pub setBy : Item → Settings → List ℕ → Judged
-setBy i s p = record { code = itemCode i typeSet s p; settings = pick (eqb (itemCode i typeSet s p) Code.done) (i .stored s p) s }
 
 -- "Codes 10 to 17 stand in order of checking (11 first)".
 abbrev pub checks : Settings → Message → List Check

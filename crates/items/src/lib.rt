@@ -27,6 +27,12 @@ pub struct Settings {
     pub serial: [u8; 8],
 }
 
+// A fresh box: the code of starting it, and its settings.
+pub struct Begun {
+    pub code: u8,
+    pub settings: Settings,
+}
+
 // What becomes of one message: its code, and the settings after it.
 pub struct Judged {
     pub code: u8,

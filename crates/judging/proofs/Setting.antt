@@ -1,31 +1,30 @@
--- What a set of any item comes to, by its three checks: the channel (15), the value (16), the running box (17).
+-- A set of an item is decided by what its row asks.
 use Prim.Native.Nat.{ℕ}
-use mathlib.Core.Path.{_≡_, refl}
+use mathlib.Core.Path.{_≡_, refl, _∙_}
 use mathlib.Core.Bool.{Bool, true, false, _&&_}
 use mathlib.Core.List.{List}
 use lib.ListN.{getD}
 use Rattle.wire.specs.Header.{typeSet}
 use Rattle.items.specs.declared.Settings.{Settings}
+use Rattle.items.specs.declared.Judged.{Judged}
 use Rattle.items.specs.Items.{Item}
-use Rattle.items.specs.Answer.{setBy, channelAllowed}
+use Rattle.items.specs.Answer.{channelAllowed}
+use Rattle.judging.specs.Inside.{decided, setBy}
 
-module _ (i : Item) (s : Settings) (p : List ℕ) where
-  -- the channel byte is allowed
-  abbrev pub Channel : Bool → Type 0
-  Channel b = channelAllowed (i .channels) typeSet (getD p 0 0) ≡ b
+-- what a set would leave counts only where its value is allowed
+left : (s to other : Settings) (channel value locked : Bool) → (value ≡ true → to ≡ other)
+    → decided s to channel value locked ≡ decided s other channel value locked
+left s to other true true locked h = rw (h refl)
+left s to other true false locked h = refl
+left s to other false value locked h = refl
 
-  -- the box is running, and the item is not to be set then
-  abbrev pub Locked : Bool → Type 0
-  Locked b = s .running && i .locked s p ≡ b
-
-  pub wrong-channel : Channel false → record { code = 15; settings = s } ≡ setBy i s p
-  wrong-channel c = rw c refl
-
-  pub wrong-value : Channel true → i .settable p ≡ false → record { code = 16; settings = s } ≡ setBy i s p
-  wrong-value c v = rw (c, v) refl
-
-  pub not-now : Channel true → i .settable p ≡ true → Locked true → record { code = 17; settings = s } ≡ setBy i s p
-  not-now c v l = rw (c, v, l) refl
-
-  pub stores : Channel true → i .settable p ≡ true → Locked false → record { code = 1; settings = i .stored s p } ≡ setBy i s p
-  stores c v l = rw (c, v, l) refl
+pub set-by : (i : Item) (s : Settings) (p : List ℕ) {r : Judged} {to : Settings} {channel value locked : Bool}
+    → r ≡ decided s to channel value locked
+    → channel ≡ channelAllowed (i .channels) typeSet (getD p 0 0)
+    → value ≡ i .settable p
+    → locked ≡ (s .running && i .locked s p)
+    → (i .settable p ≡ true → to ≡ i .stored s p)
+    → r ≡ setBy i s p
+set-by i s p {to = to} e channel value locked stored =
+    e
+    ∙ rw (channel, value, locked) (left s to (i .stored s p) (channelAllowed (i .channels) typeSet (getD p 0 0)) (i .settable p) (s .running && i .locked s p) stored)

@@ -5,7 +5,8 @@ ghost use lib.ListN.{length};
 ghost use mathlib.Core.List.{[], _∷_};
 ghost use Rattle.wire.specs.Number.{field};
 ghost use Rattle.items.specs.Items.{frequency, rowOf};
-ghost use Rattle.items.specs.Answer.{askedBy, judgedOf};
+ghost use Rattle.items.specs.Answer.{judgedOf};
+ghost use Rattle.judging.specs.Inside.{askedBy};
 use crate::sets;
 use items::Judged;
 use items::Settings;
@@ -22,18 +23,12 @@ pub fn judge(s: Settings, kind: u8, size: u16, opening: &[u8; 10]) -> Judged
     let message = &opening[..];
     let early = header::header_code(kind, size, message[2]);
     if early != codes::DONE {
-        return Judged {
-            code: early,
-            settings: s,
-        };
+        return sets::refused(early, s);
     }
     let item = item_in(message);
     let listed = table::listed_code(item, kind, size);
     if listed != codes::DONE {
-        return Judged {
-            code: listed,
-            settings: s,
-        };
+        return sets::refused(listed, s);
     }
     if kind == types::SET {
         return sets::set_item(s, item, &message[4..]);

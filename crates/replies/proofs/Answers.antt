@@ -1,12 +1,13 @@
 -- What a call of the reader answers; and that its answer says all.
 use Prim.Native.Nat.{ℕ}
-use mathlib.Core.Path.{_≡_, refl, sym, ap, _∙_}
+use mathlib.Core.Path.{_≡_, refl, ap}
 use mathlib.Core.Bool.{Bool, true, false}
 use mathlib.Core.List.{List}
 use lib.Dec.{eqb}
 use lib.IntN.{ℤ, pos, negsuc}
 use lib.ListN.{length, getD}
 use Rattle.wire.specs.Choice.{pick}
+use Rattle.wire.proofs.Firm.{one-by}
 use Rattle.wishes.specs.declared.Wish.{Wish}
 use Rattle.wishes.specs.Wishes.{allowed}
 use Rattle.replies.specs.declared.Reply.{Reply}
@@ -83,4 +84,4 @@ back-told NotAllowed = refl
 back-told NotAReply = refl
 
 pub told-one : (a b : Reply) → told a ≡ told b → a ≡ b
-told-one a b e = sym (back-told a) ∙ ap back e ∙ back-told b
+told-one = one-by told back back-told

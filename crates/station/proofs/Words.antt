@@ -2,17 +2,16 @@
 -- Assumes nothing.
 use Prim.Native.Nat.{ℕ}
 use native.Mathlib.Omega.{arith}
-use mathlib.Core.Path.{_≡_, refl, sym, ap, _∙_}
+use mathlib.Core.Path.{_≡_, refl, ap, _∙_}
 use mathlib.Core.Bool.{true}
-use mathlib.Core.List.{List}
 use lib.Dec.{eqb}
 use lib.ListN.{getD}
 use Rattle.wire.specs.Choice.{pick}
-use Rattle.tuning.specs.Told.{Told}
+use Rattle.wire.specs.Told.{Told}
 use Rattle.tuning.specs.Word.{wordOf, wordTold}
 use Rattle.tuning.specs.Word as tuning
 use Rattle.tuning.specs.declared.word.Word as Tuned
-use Rattle.tuning.proofs.Firm.{OneEach, one-by, two-results-coincide}
+use Rattle.wire.proofs.Firm.{OneEach, one-by, two-results-coincide}
 use Rattle.tuning.proofs.Words.{word-is}
 use Rattle.station.specs.declared.Station.{Station}
 use Rattle.station.specs.declared.Tuning.{Tuning}

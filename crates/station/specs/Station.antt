@@ -4,7 +4,7 @@ use mathlib.Core.Bool.{Bool, _&&_}
 use mathlib.Core.List.{List, [], _∷_}
 use Rattle.wire.specs.Choice.{pick}
 use Rattle.wire.specs.Codes as Code
-use Rattle.tuning.specs.Told.{Told, tells}
+use Rattle.wire.specs.Told.{Told, tells}
 use Rattle.tuning.specs.Word.{wordOf}
 use Rattle.framing.specs.Framing.{between, couldBeLeft}
 use Rattle.items.specs.Settings.{inRange, freshOf, freshAnswer}

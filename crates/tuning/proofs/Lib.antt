@@ -1,2 +1,1 @@
-pub mod Firm
 pub mod Words

@@ -12,11 +12,11 @@ use Rattle.wire.specs.Halves.{halvesUp, NearestUp}
 use Rattle.wire.proofs.Halves.{half-up}
 use Rattle.wire.proofs.Laws.{and-not-right, true-not-false, within-low}
 use Rattle.tuning.specs.Bands.{inBands}
-use Rattle.tuning.specs.Told.{Told, tells}
+use Rattle.wire.specs.Told.{Told, tells}
 use Rattle.tuning.specs.Word.{offsetOf, wordOf, isClock, told, wordTold}
 use Rattle.tuning.specs.declared.word.Word.{Word}
 use Rattle.tuning.specs.declared.word.Word.the-variants.{Is, NotAllowed}
-use Rattle.tuning.proofs.Firm.{one-by, two-results-coincide}
+use Rattle.wire.proofs.Firm.{one-by, two-results-coincide}
 
 abbrev pub inFirst : ℕ → Bool
 inFirst hz = within 100000 34000000 hz

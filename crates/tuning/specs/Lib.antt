@@ -1,3 +1,2 @@
 pub mod Bands
-pub mod Told
 pub mod Word

@@ -7,8 +7,8 @@ use lib.Dec.{eqb}
 use Rattle.wire.specs.Choice.{pick, check, firstOf, firstRow, within}
 use Rattle.wire.specs.Codes as Code
 use Rattle.wire.specs.Halves.{halvesUp}
+use Rattle.wire.specs.Told.{Told, tells}
 use Rattle.tuning.specs.Bands.{Band, bands, covers, inBands}
-use Rattle.tuning.specs.Told.{Told, tells}
 use Rattle.tuning.specs.declared.word.Word.{Word}
 use Rattle.tuning.specs.declared.word.Word.the-variants.{Is, NotAllowed}
 

@@ -6,3 +6,4 @@ pub mod Signed
 pub mod Checks
 pub mod Halves
 pub mod Writes
+pub mod Firm

@@ -4,3 +4,4 @@ pub mod Signed
 pub mod Header
 pub mod Codes
 pub mod Halves
+pub mod Told

@@ -1,13 +1,14 @@
 -- What a call of the writer answers, by the first check that holds; and that its answer says all.
 use Prim.Native.Nat.{ℕ, _≤_, _<_}
-use mathlib.Core.Path.{_≡_, refl, sym, ap, _∙_}
+use mathlib.Core.Path.{_≡_, refl}
 use mathlib.Core.Bool.{true, false}
 use lib.Dec.{eqb}
 use borrow.Author.Tests.{lt-ltb, le-ltb}
 use Rattle.wire.specs.Choice.{pick}
+use Rattle.wire.proofs.Firm.{one-by}
 use Rattle.wishes.specs.declared.Wish.{Wish}
 use Rattle.wishes.specs.declared.Written.{Written}
-use Rattle.wishes.specs.declared.Written.the-variants.{Message, NotAllowed, Short}
+use Rattle.wishes.specs.declared.Written.the-variants.{Message, NotAllowed, NoRoom}
 use Rattle.wishes.specs.Wishes.{allowed}
 use Rattle.wishes.specs.Writing.{Told, told, writeCode}
 
@@ -16,9 +17,9 @@ module _ (w : Wish) (room : ℕ) where
   unfolding writeCode
   code-not-allowed e = rw e
 
-  pub code-short : allowed w ≡ true → room < 16 → writeCode w room ≡ 20
+  pub code-no-room : allowed w ≡ true → room < 16 → writeCode w room ≡ 20
   unfolding writeCode
-  code-short e h = rw (e, lt-ltb room 16 h)
+  code-no-room e h = rw (e, lt-ltb room 16 h)
 
   pub code-written : allowed w ≡ true → 16 ≤ room → writeCode w room ≡ 1
   unfolding writeCode
@@ -26,14 +27,14 @@ module _ (w : Wish) (room : ℕ) where
 
 -- the case that tells so
 back : Told → Written
-back t = pick (eqb (t .code) 16) NotAllowed (pick (eqb (t .code) 20) Short (Message (t .wrote)))
+back t = pick (eqb (t .code) 16) NotAllowed (pick (eqb (t .code) 20) NoRoom (Message (t .wrote)))
 
 back-told : (a : Written) → back (told a) ≡ a
 unfolding back
 back-told (Message n) = refl
 back-told NotAllowed = refl
-back-told Short = refl
+back-told NoRoom = refl
 
 -- two answers that tell the same are the same
 pub told-one : (a b : Written) → told a ≡ told b → a ≡ b
-told-one a b e = sym (back-told a) ∙ ap back e ∙ back-told b
+told-one = one-by told back back-told

@@ -1,2 +1,3 @@
 pub mod Wishes
 pub mod Writing
+pub mod Inside

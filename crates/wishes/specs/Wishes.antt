@@ -61,9 +61,6 @@ stateBytes f =
     pick (eqb (f .run) idle) (0x00 ∷ 0x01 ∷ 0x00 ∷ 0x00 ∷ [])
     (0x80 ∷ f .run ∷ f .mode ∷ 0x00 ∷ [])
 
-abbrev pub stateNumber : StateFields → ℕ
-stateNumber f = number (stateBytes f)
-
 -- The table of wishes, over the table of items.
 abbrev pub asking : Wish → Asking
 asking AskName = request name

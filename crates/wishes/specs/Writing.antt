@@ -8,7 +8,7 @@ use Rattle.wire.specs.Choice.{pick, Check, check, firstOf}
 use Rattle.wire.specs.Codes as Code
 use Rattle.wishes.specs.declared.Wish.{Wish}
 use Rattle.wishes.specs.declared.Written.{Written}
-use Rattle.wishes.specs.declared.Written.the-variants.{Message, NotAllowed, Short}
+use Rattle.wishes.specs.declared.Written.the-variants.{Message, NotAllowed, NoRoom}
 use Rattle.wishes.specs.Wishes.{allowed, messageOf}
 
 -- "16 values the box would refuse so, with 20 a buffer under 16 bytes (16 checked first)"
@@ -31,7 +31,7 @@ pub record Told : Type 0 where
 abbrev pub told : Written → Told
 told (Message n) = record { code = Code.done; wrote = n }
 told NotAllowed = record { code = Code.valueNotAllowed; wrote = 0 }
-told Short = record { code = Code.noRoom; wrote = 0 }
+told NoRoom = record { code = Code.noRoom; wrote = 0 }
 
 -- what writing a wish into a buffer of so many bytes answers
 abbrev pub toldOf : Wish → ℕ → Told

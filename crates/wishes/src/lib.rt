@@ -4,8 +4,9 @@ ghost use lib.ListN.{length};
 ghost use lib.Seq.{sets};
 ghost use Rattle.wire.specs.Signed.{coded};
 ghost use Rattle.wire.specs.Header.{typeSet, typeRequest};
-ghost use Rattle.wishes.specs.Wishes.{layoutOf, stateNumber, allowed, mayWishState};
+ghost use Rattle.wishes.specs.Wishes.{layoutOf, allowed, mayWishState};
 ghost use Rattle.wishes.specs.Writing.{told, toldOf, bytesWritten};
+ghost use Rattle.wishes.specs.Inside.{stateNumber};
 use items::table;
 use layouts::Layout;
 use wire::types;
@@ -43,7 +44,7 @@ pub enum Wish {
 pub enum Written {
     Message(usize),
     NotAllowed,
-    Short,
+    NoRoom,
 }
 
 // The bits of a gain's signed byte.
@@ -162,7 +163,7 @@ pub fn write(w: Wish, buffer: &mut [u8]) -> Written
         return Written::NotAllowed;
     }
     if buffer.len() < 16 {
-        return Written::Short;
+        return Written::NoRoom;
     }
     Written::Message(layouts::put_message(buffer, layout_of(w)))
 }

@@ -10,7 +10,7 @@ use Rattle.wishes.specs.Wishes.{allowed, layoutOf, messageOf}
 use Rattle.wishes.specs.Writing.{bytesWritten}
 use Rattle.layouts.proofs.Writing.{written-whole}
 use Rattle.wishes.proofs.Rows.{short-message}
-use Rattle.wishes.proofs.Answers.{code-not-allowed, code-short, code-written}
+use Rattle.wishes.proofs.Answers.{code-not-allowed, code-no-room, code-written}
 use Rattle.wishes.proofs.write.Statement.{statement}
 use Rattle.wishes.proofs.write.Tie as tie
 
@@ -34,7 +34,7 @@ returns-2 : tie.Need-returns-2
 unfolding bytesWritten
 returns-2 c =
     let a = c .before .before .before .before .args in
-    let e = code-short (a .w) (length (a .buffer .now)) (taken (c .before)) (c .if2 .taken) in
+    let e = code-no-room (a .w) (length (a .buffer .now)) (taken (c .before)) (c .if2 .taken) in
     (rw e, rw e)
 
 layout-of-requires : tie.Need-layout-of-requires

@@ -4,7 +4,7 @@ use lib.ListN.{getD}
 use denote.Ref.{now}
 use borrow.Author.Tests.{le-leb, lt-leb}
 use Rattle.items.specs.Items.{rowOf}
-use Rattle.items.proofs.Judging.{asked-else}
+use Rattle.judging.proofs.Parts.{asked-else}
 use borrow.Author.Needs.{needs}
 use Rattle.judging.proofs.message.asked_code.Statement.{statement}
 use Rattle.judging.proofs.message.asked_code.Tie as tie

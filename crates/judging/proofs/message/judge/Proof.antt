@@ -9,8 +9,10 @@ use Rattle.wire.proofs.Stores.{rest-part}
 use Rattle.items.specs.Header.{headerChecks}
 use Rattle.items.specs.Table.{tableChecks}
 use Rattle.items.specs.Items.{rowOf}
-use Rattle.items.specs.Answer.{Message, itemIn, parameters, setBy, askedBy}
-use Rattle.items.proofs.Judging.{by-header, by-table, by-item, refused, set-judged, asked-judged}
+use Rattle.items.specs.Answer.{Message, itemIn, parameters}
+use Rattle.items.proofs.Judging.{by-header, by-table, by-item, refused}
+use Rattle.judging.specs.Inside.{setBy, askedBy}
+use Rattle.judging.proofs.Parts.{set-judged, asked-judged}
 use borrow.Author.Needs.{needs}
 use Rattle.judging.proofs.message.judge.Statement.{statement}
 use Rattle.judging.proofs.message.judge.Tie as tie
@@ -25,12 +27,17 @@ header-code-requires c κs = search needs
 abbrev message : tie.Start → Message
 message c = record { type = c .args .kind; size = c .args .size; held = now (c .args .opening) }
 
+refused-requires : tie.Need-refused-requires
+refused-requires c κs = search needs
+
 returns : tie.Need-returns
 returns c =
-    let h = c .before in
+    let d = c .before in
+    let h = d .before in
     let a = h .before .before .before in
-    refused (a .args .s) (message a) (h .header-code .result) (c .if1 .taken)
-    (by-header (a .args .s) (message a) (λ e. c .if1 .taken (h .header-code .ensures ∙ e)) ∙ sym (h .header-code .ensures))
+    c .refused .ensures
+    ∙ refused (a .args .s) (message a) (h .header-code .result) (d .if1 .taken)
+    (by-header (a .args .s) (message a) (λ e. d .if1 .taken (h .header-code .ensures ∙ e)) ∙ sym (h .header-code .ensures))
 
 item-in-requires : tie.Need-item-in-requires
 item-in-requires c κs = search needs
@@ -47,12 +54,17 @@ table-says c = rw (c .before .item-in .ensures) at (c .listed-code .ensures)
 table-passed : (c : tie.Else2) → firstOf (tableChecks (itemIn (message (c .before .before .before .before .before .before .before))) (c .before .before .before .before .before .before .before .args .kind) (c .before .before .before .before .before .before .before .args .size)) 1 ≡ 1
 table-passed c = sym (table-says (c .before)) ∙ c .if2 .left
 
+refused-requires-2 : tie.Need-refused-requires-2
+refused-requires-2 c κs = search needs
+
 returns-2 : tie.Need-returns-2
 returns-2 c =
-    let t = c .before in
+    let d = c .before in
+    let t = d .before in
     let a = t .before .before .before .before .before .before in
-    refused (a .args .s) (message a) (t .listed-code .result) (c .if2 .taken)
-    (by-table (a .args .s) (message a) (header-passed (t .before .before)) (λ e. c .if2 .taken (table-says t ∙ e)) ∙ sym (table-says t))
+    c .refused2 .ensures
+    ∙ refused (a .args .s) (message a) (t .listed-code .result) (d .if2 .taken)
+    (by-table (a .args .s) (message a) (header-passed (t .before .before)) (λ e. d .if2 .taken (table-says t ∙ e)) ∙ sym (table-says t))
 
 sub-set-item : tie.Need-sub-set-item
 sub-set-item c = search needs
@@ -105,9 +117,11 @@ judge-spec =
     (tie.spec
     shared-slice-read-header-code
     header-code-requires
+    refused-requires
     returns
     item-in-requires
     listed-code-requires
+    refused-requires-2
     returns-2
     sub-set-item
     part-set-item-start

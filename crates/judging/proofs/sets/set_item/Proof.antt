@@ -1,7 +1,8 @@
 -- Each reader has its item's row; an item that is not one of theirs stores nothing.
+use mathlib.Core.Path.{_∙_}
 use denote.Ref.{now}
 use Rattle.items.specs.Items.{rowOf}
-use Rattle.items.proofs.Judging.{set-else}
+use Rattle.judging.proofs.Parts.{set-else}
 use borrow.Author.Needs.{needs}
 use Rattle.judging.proofs.sets.set_item.Statement.{statement}
 use Rattle.judging.proofs.sets.set_item.Tie as tie
@@ -23,6 +24,9 @@ set-rate-requires c κs = search needs
 
 set-size-requires : tie.Need-set-size-requires
 set-size-requires c κs = search needs
+
+accepted-requires : tie.Need-accepted-requires
+accepted-requires c κs = search needs
 
 returns : tie.Need-returns
 unfolding rowOf
@@ -50,9 +54,10 @@ returns-6 c = rw (c .before .match .keys6) (c .set-size .ensures)
 
 returns-7 : tie.Need-returns-7
 returns-7 c =
-    let r = c .match .rest in
-    let a = c .before .before .args in
-    set-else (a .item) (r .0 .0 .0 .0 .0 .1) (r .0 .0 .0 .0 .1) (r .0 .0 .0 .1) (r .0 .0 .1) (r .0 .1) (r .1) (a .s) (now (a .p))
+    let r = c .before .match .rest in
+    let a = c .before .before .before .args in
+    c .accepted .ensures
+    ∙ set-else (a .item) (r .0 .0 .0 .0 .0 .1) (r .0 .0 .0 .0 .1) (r .0 .0 .0 .1) (r .0 .0 .1) (r .0 .1) (r .1) (a .s) (now (a .p))
 
 pub set-item-spec : {M : Type 1} → statement M
 set-item-spec =
@@ -64,6 +69,7 @@ set-item-spec =
     set-clock-requires
     set-rate-requires
     set-size-requires
+    accepted-requires
     returns
     returns-2
     returns-3

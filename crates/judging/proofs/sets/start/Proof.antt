@@ -1,44 +1,29 @@
--- The tests stand in the definition's order: first byte and mode (16), then the running mode (17).
+-- First byte and mode are what the row asks of run byte 2, and another mode locks the set while running.
+use mathlib.Core.Path.{refl, ap}
+use mathlib.Core.Bool.{Bool, _&&_}
+use mathlib.Core.List.{[], _∷_}
+use lib.Dec.{eqb}
+use Rattle.items.specs.Items.{state, run}
+use Rattle.judging.proofs.Setting.{set-by}
 use borrow.Author.Needs.{needs}
-use mathlib.Core.Path.{_≡_, sym, _∙_}
-use mathlib.Core.Bool.{true, false}
-use borrow.Author.Tests.{ne-eqb, eq-eqb, not-true, not-false}
-use Rattle.items.specs.Settings.{isMode}
 use Rattle.judging.proofs.sets.start.Statement.{statement}
 use Rattle.judging.proofs.sets.start.Tie as tie
-
-returns : tie.Need-returns
-returns c = simp (ne-eqb (c .before .args .first) 0x80 (c .if1 .taken))
 
 is-mode-requires : tie.Need-is-mode-requires
 is-mode-requires c κs = search needs
 
-returns-2 : tie.Need-returns-2
-returns-2 c =
-    let s = c .before .before .before .args in
-    let other : isMode (s .mode) ≡ false = sym (c .before .is-mode .ensures) ∙ not-true (c .before .is-mode .result) (c .if2 .taken) in
-    rw (c .before .before .if1 .left) (simp other)
+started-requires : tie.Need-started-requires
+started-requires c κs = search needs
 
--- a mode that is one
-mode-is : (c : tie.Else2) → isMode (c .before .before .before .args .mode) ≡ true
-mode-is c = sym (c .before .is-mode .ensures) ∙ not-false (c .before .is-mode .result) (c .if2 .left)
+decide-requires : tie.Need-decide-requires
+decide-requires c κs = search needs
 
-returns-3 : tie.Need-returns-3
-returns-3 c =
-    let d = c .before .before .before in
-    let s = d .before .before .before .args in
-    rw (d .before .before .if1 .left) (simp (mode-is d, c .before .before .if3 .taken, ne-eqb (s .mode) (s .s .mode) (c .if4 .taken)))
-
-returns-4 : tie.Need-returns-4
-returns-4 c =
-    let d = c .before .before .before in
-    let s = d .before .before .before .args in
-    rw (d .before .before .if1 .left) (simp (mode-is d, c .before .before .if3 .taken, eq-eqb (s .mode) (s .s .mode) (c .if4 .left)))
-
-returns-5 : tie.Need-returns-5
-returns-5 c =
-    let d = c .before in
-    rw (d .before .before .if1 .left) (simp (mode-is d, c .if3 .left))
+returns : tie.Need-returns
+returns c =
+    let a = c .before .before .before .before .before .args in
+    set-by state (a .s) (a .first ∷ run ∷ a .mode ∷ []) (c .decide .ensures) refl
+    (ap (λ (b : Bool). eqb (a .first) 0x80 && b) (c .before .before .before .before .is-mode .ensures)) refl
+    (λ e. c .before .before .started .ensures)
 
 pub start-spec : {M : Type 1} → statement M
-start-spec = tie.close (tie.spec returns is-mode-requires returns-2 returns-3 returns-4 returns-5)
+start-spec = tie.close (tie.spec is-mode-requires started-requires decide-requires returns)

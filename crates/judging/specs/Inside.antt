@@ -1,0 +1,38 @@
+-- What the functions inside promise each other, of a set and of a request apart. Nothing of document 01 rests on these
+-- definitions; Parts in proofs/ ties them to items/specs/Answer.
+use Prim.Native.Nat.{ℕ}
+use mathlib.Core.Bool.{Bool, not, _&&_}
+use mathlib.Core.List.{List, [], _∷_}
+use lib.Dec.{eqb}
+use lib.ListN.{getD}
+use Rattle.wire.specs.Choice.{pick, check, firstOf}
+use Rattle.wire.specs.Codes as Code
+use Rattle.wire.specs.Header.{typeSet, typeRequest}
+use Rattle.items.specs.declared.Settings.{Settings}
+use Rattle.items.specs.declared.Judged.{Judged}
+use Rattle.items.specs.Items.{Item}
+use Rattle.items.specs.Answer.{channelAllowed, valueAllowed}
+
+-- a request or a range request, which is not refused while running
+abbrev pub askedBy : Item → List ℕ → ℕ
+askedBy i p =
+    firstOf
+    (check Code.channelNotAllowed (not (channelAllowed (i .channels) typeRequest (getD p 0 0))) ∷ check Code.valueNotAllowed (not (valueAllowed i typeRequest p)) ∷ [])
+    Code.done
+
+-- a set that would leave the settings `to`, where the channel byte or the value may not be allowed, or the item locked
+abbrev pub setCode : Bool → Bool → Bool → ℕ
+setCode channel value locked =
+    firstOf
+    (check Code.channelNotAllowed (not channel) ∷ check Code.valueNotAllowed (not value) ∷ check Code.notWhileRunning locked ∷ [])
+    Code.done
+
+abbrev pub decided : Settings → Settings → Bool → Bool → Bool → Judged
+decided s to channel value locked =
+    record { code = setCode channel value locked; settings = pick (eqb (setCode channel value locked) Code.done) to s }
+
+-- a set of an item, with these parameters
+abbrev pub setBy : Item → Settings → List ℕ → Judged
+setBy i s p =
+    decided s (i .stored s p) (channelAllowed (i .channels) typeSet (getD p 0 0)) (i .settable p)
+    (s .running && i .locked s p)
