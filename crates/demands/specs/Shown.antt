@@ -14,7 +14,7 @@ use Rattle.wire.specs.Header.{lengthIn, typeIn, nak, typeSet, typeRequest, type
 use Rattle.framing.specs.Framing.{allBytes, between, taken, headerIn, announced}
 use Rattle.rates.specs.Rate.{nearestOf, rateOf}
 use Rattle.items.specs.declared.Settings.{Settings}
-use Rattle.items.specs.Items.{status, state, idle, run, runByte, modeByte}
+use Rattle.items.specs.Items.{status, state, idle, run, runByte, modeByte, stateBytes}
 use Rattle.items.specs.Answer.{Message, itemIn, row, parameters, codeOf, settingsAfter, framed}
 use Rattle.station.specs.declared.Station.{Station}
 use Rattle.station.specs.Station.{valid}
@@ -41,7 +41,7 @@ achieved s p = bytes 4 (rateOf (nearestOf (field 1 4 p)))
 -- "Replies hold 80, run byte, mode, 00": of a set to idle "the mode is kept", of a run it is the one that was sent
 abbrev stateShown : Settings → List ℕ → List ℕ
 stateShown s p =
-    pick (eqb (runByte p) idle) (0x80 ∷ idle ∷ s .mode ∷ 0x00 ∷ []) (0x80 ∷ run ∷ modeByte p ∷ 0x00 ∷ [])
+    pick (eqb (runByte p) idle) (stateBytes idle (s .mode)) (stateBytes run (modeByte p))
 
 abbrev pub lines : List Line
 lines =

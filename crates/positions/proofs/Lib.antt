@@ -6,3 +6,4 @@ pub mod Readings
 pub mod Demand
 pub mod Exist
 pub mod Wrong
+pub mod Sharp

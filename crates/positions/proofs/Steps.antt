@@ -1,6 +1,6 @@
 -- Steps, over plain positions: from a position to a later one at most 65,535 further on, the numbers give the position.
 use Prim.Native.Nat.{ℕ, _+_, _<_, _≤_}
-use mathlib.Core.Path.{_≡_, refl}
+use mathlib.Core.Path.{_≡_}
 use native.Mathlib.Omega.{arith}
 use Rattle.packets.specs.Numbers.{numberAt, stepOf}
 use Rattle.packets.proofs.Numbers.{step-not-above, step-between}
@@ -11,7 +11,3 @@ position-is-exact p q h l = omega (arith, step-between p q h (omega arith))
 -- "A repeated number reads as a full turn; hence the premise "once each"."
 pub repeated-is-a-turn : (n : ℕ) → stepOf n n ≡ 65_535
 repeated-is-a-turn n = omega (arith, step-not-above n n (omega arith))
-
--- The bound is sharp: with 65,535 lost between two, position 65,536 after 0 reads as position 1.
-pub bound-is-sharp : numberAt 65_536 ≡ numberAt 1
-bound-is-sharp = refl

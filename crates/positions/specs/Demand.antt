@@ -3,16 +3,16 @@
 -- leave the same list of numbers."
 use Prim.Native.Nat.{ℕ}
 use mathlib.Core.Bool.{true}
-use mathlib.Core.List.{List, map}
+use mathlib.Core.List.{List, [], _∷_, _++_, map}
 use mathlib.Core.Path.{_≡_}
-use lib.ListN.{length}
+use lib.ListN.{length, replicate}
 use Rattle.packets.specs.Numbers.{numberIn}
 use Rattle.station.specs.declared.Station.{Station}
 use Rattle.cutting.specs.Cutting.{formNow}
 use Rattle.reader.specs.declared.Reader.{Reader}
 use Rattle.reader.specs.Reading.{sound, readingOf, heardAt}
 use Rattle.positions.specs.Captures.{Capture}
-use Rattle.positions.specs.Losses.{Fate, left, allowed, positionsFrom, Reading, answersBy}
+use Rattle.positions.specs.Losses.{Fate, arrives, lost, left, allowed, positionsFrom, Reading, answersBy}
 
 -- "the harvester gives every packet its exact sample position", of a way to read, whichever it is: from any reader that is
 -- not broken each packet that arrives is taken (code 1), at the position at which it was cut, and its first sample at that
@@ -36,3 +36,17 @@ NoTwoAlike =
     → allowed fates → allowed others
     → map numberIn (left fates packets) ≡ map numberIn (left others packets)
     → fates ≡ others
+
+-- One packet more, and it fails: the first two arrive and the n after them are lost, or n are lost between the first and the
+-- one that arrives after them.
+unfoldable pub nextArrives : ℕ → List Fate
+nextArrives n = arrives ∷ arrives ∷ replicate n lost
+
+unfoldable pub laterArrives : ℕ → List Fate
+laterArrives n = arrives ∷ replicate n lost ++ arrives ∷ []
+
+-- with 65,535 lost between two, different choices leave the same list of numbers
+abbrev pub BoundIsSharp : Type 0
+BoundIsSharp =
+    (s : Station) (packets : List (List ℕ)) → Capture s packets → length packets ≡ 65_537
+    → map numberIn (left (nextArrives 65_535) packets) ≡ map numberIn (left (laterArrives 65_535) packets)

@@ -1,7 +1,7 @@
 -- The replies that some valid box could give to a wish. "Replies have the item's set layout with the current value; the
 -- channel byte or id is echoed."
 use Prim.Native.Nat.{ℕ, _^_}
-use mathlib.Core.Bool.{Bool, _&&_}
+use mathlib.Core.Bool.{Bool, true, false, _&&_}
 use mathlib.Core.List.{List, [], _∷_, _++_}
 use lib.Dec.{eqb, ltb}
 use lib.ListN.{getD}
@@ -16,7 +16,7 @@ use Rattle.tuning.specs.Word.{isClock}
 use Rattle.layouts.specs.declared.Layout.{Layout}
 use Rattle.layouts.specs.Layouts.{laid}
 use Rattle.items.specs.Settings.{isGain, isSize, allSerial, freshOf}
-use Rattle.items.specs.Items.{name, versionTable, idle, run}
+use Rattle.items.specs.Items.{name, interfaceNumber, versionTable, statusByte, idle, run, stateBytes}
 use Rattle.wishes.specs.declared.StateFields.{StateFields}
 use Rattle.wishes.specs.declared.Wish.{Wish}
 use Rattle.wishes.specs.declared.Wish.the-variants.{AskName, AskSerial, AskInterface, AskVersion, AskStatus, SetState, AskState, SetFrequency, AskFrequency, AskFrequencyRange, SetGain, AskGain, SetClock, AskClock, SetRate, AskRate, SetPacketSize, AskPacketSize}
@@ -43,11 +43,11 @@ isSerial n = allSerial (bytes 8 n) && ltb n (256 ^ 8)
 
 -- 0005 status: 0B idle, 0C running
 abbrev pub isStatus : ℕ → Bool
-isStatus n = oneOf n (0x0B ∷ 0x0C ∷ [])
+isStatus n = oneOf n (statusByte false ∷ statusByte true ∷ [])
 
 -- 0018 state: "Replies hold 80, run byte, mode, 00."
 abbrev pub stateShown : ℕ → ℕ → ℕ
-stateShown run mode = number (0x80 ∷ run ∷ mode ∷ 0x00 ∷ [])
+stateShown run mode = number (stateBytes run mode)
 
 abbrev pub saysState : ℕ → Reply
 saysState n = State (record { run = getD (bytes 4 n) 1 0; mode = getD (bytes 4 n) 2 0 })
@@ -79,9 +79,9 @@ isRate hz = ltb 0 (dOf hz)
 abbrev pub awaited : Wish → Awaited
 awaited AskName = value 7 (λ n. eqb n (number nameBytes)) (λ n. Name)
 awaited AskSerial = value 9 isSerial Serial
-awaited AskInterface = value 2 (λ n. eqb n 105) Interface
+awaited AskInterface = value 2 (λ n. eqb n interfaceNumber) Interface
 awaited (AskVersion id) = value 2 (λ n. eqb n (versionNumber id)) (Version id)
-awaited AskStatus = value 1 isStatus (λ n. Status (eqb n 0x0C))
+awaited AskStatus = value 1 isStatus (λ n. Status (eqb n (statusByte true)))
 awaited (SetState f) = value 4 (stateCould f) saysState
 awaited AskState = value 4 isState saysState
 awaited (SetFrequency hz) = value 5 (λ n. eqb n hz) Frequency

@@ -8,7 +8,7 @@ use Rattle.wire.specs.Choice.{pick, Check, check, firstOf}
 use Rattle.wire.specs.Codes as Code
 use Rattle.wire.specs.Header.{nak}
 use Rattle.tuning.specs.Bands.{Band, bands}
-use Rattle.items.specs.Items.{name, serial, interface, versions, status, state, frequency, gain, clock, rate, packetSize}
+use Rattle.items.specs.Items.{name, serial, interface, versions, statusByte, status, state, frequency, gain, clock, rate, packetSize}
 use Rattle.wishes.specs.declared.Wish.{Wish}
 use Rattle.wishes.specs.Wishes.{allowed}
 use Rattle.replies.specs.declared.Reply.{Reply}
@@ -66,7 +66,7 @@ told Name = said (name .code) (map pos nameBytes)
 told (Serial n) = said (serial .code) (pos n ∷ [])
 told (Interface n) = said (interface .code) (pos n ∷ [])
 told (Version id n) = said (versions .code) (pos id ∷ pos n ∷ [])
-told (Status running) = said (status .code) (pos (pick running 0x0C 0x0B) ∷ [])
+told (Status running) = said (status .code) (pos (statusByte running) ∷ [])
 told (State f) = said (state .code) (pos (f .run) ∷ pos (f .mode) ∷ [])
 told (Frequency hz) = said (frequency .code) (pos hz ∷ [])
 told FrequencyRange = said (frequency .code) (rangeValues bands)

@@ -6,7 +6,7 @@ use Rattle.wire.specs.Number.{number}
 use Rattle.wire.specs.Signed.{signed}
 use Rattle.rates.specs.Rate.{rateOf}
 use Rattle.items.specs.declared.Settings.{Settings}
-use Rattle.items.specs.Items.{versionTable, idle, run}
+use Rattle.items.specs.Items.{interfaceNumber, versionTable, idle, run}
 use Rattle.wishes.specs.declared.Wish.{Wish}
 use Rattle.wishes.specs.declared.Wish.the-variants.{AskName, AskSerial, AskInterface, AskVersion, AskStatus, SetState, AskState, SetFrequency, AskFrequency, AskFrequencyRange, SetGain, AskGain, SetClock, AskClock, SetRate, AskRate, SetPacketSize, AskPacketSize}
 use Rattle.wishes.specs.Wishes.{granted, notNow}
@@ -16,7 +16,7 @@ use Rattle.replies.specs.declared.Reply.the-variants.{Nak, Name, Serial,
 abbrev pub saysOf : Wish → Settings → Reply
 saysOf AskName s = Name
 saysOf AskSerial s = Serial (number (s .serial))
-saysOf AskInterface s = Interface 105
+saysOf AskInterface s = Interface interfaceNumber
 saysOf (AskVersion id) s = Version id (number (getD versionTable id []))
 saysOf AskStatus s = Status (s .running)
 saysOf (SetState f) s = State (record { run = pick (s .running) run idle; mode = s .mode })

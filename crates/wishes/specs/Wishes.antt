@@ -2,7 +2,7 @@
 use Prim.Native.Nat.{ℕ, _+_, _-_, _^_, _<_}
 use mathlib.Core.Bool.{Bool, true, false, _&&_, _||_}
 use mathlib.Core.List.{List, [], _∷_, _++_}
-use lib.Dec.{eqb, leb}
+use lib.Dec.{eqb}
 use lib.ListN.{length, getD, replicate}
 use Rattle.wire.specs.Choice.{pick}
 use Rattle.wire.specs.Number.{number}
@@ -14,8 +14,8 @@ use Rattle.tuning.specs.Word.{isClock}
 use Rattle.layouts.specs.declared.Layout.{Layout}
 use Rattle.layouts.specs.Layouts.{parametersOf, laid}
 use Rattle.items.specs.declared.Settings.{Settings}
-use Rattle.items.specs.Settings.{isGain, isMode, isSize, withFrequency, withCount, withClock, withDivisor, withRunning, withMode, withGain, withSize}
-use Rattle.items.specs.Items.{Offer, total, dash, Item, name, serial, interface, versions, status, state, frequency, gain, clock, rate, packetSize, idle, run}
+use Rattle.items.specs.Settings.{isGain, isMode, isSize, withFrequency, withClock, withDivisor, withGain, withSize}
+use Rattle.items.specs.Items.{Offer, total, dash, Item, name, serial, interface, versions, status, state, frequency, gain, clock, rate, packetSize, idle, run, isVersion, stateTo}
 use Rattle.items.specs.Table.{offered}
 use Rattle.items.specs.Answer.{Message, refusedRunning}
 use Rattle.wishes.specs.declared.StateFields.{StateFields}
@@ -117,7 +117,7 @@ abbrev pub allowed : Wish → Bool
 allowed AskName = true
 allowed AskSerial = true
 allowed AskInterface = true
-allowed (AskVersion id) = leb id 3
+allowed (AskVersion id) = isVersion id
 allowed AskStatus = true
 allowed (SetState f) = mayWishState f
 allowed AskState = true
@@ -140,9 +140,7 @@ granted AskSerial s = s
 granted AskInterface s = s
 granted (AskVersion id) s = s
 granted AskStatus s = s
-granted (SetState f) s =
-    pick (eqb (f .run) idle) (withRunning false s)
-    (pick (s .running) s (withCount 0 (withMode (f .mode) (withRunning true s))))
+granted (SetState f) s = stateTo (f .run) (f .mode) s
 granted AskState s = s
 granted (SetFrequency hz) s = withFrequency hz s
 granted AskFrequency s = s
