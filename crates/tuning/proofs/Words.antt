@@ -9,13 +9,13 @@ use native.Mathlib.Decide.{decLt}
 use lib.Dec.{eqb}
 use lib.ListN.{getD}
 use Rattle.wire.specs.Choice.{pick, check, firstOf, within}
+use Rattle.wire.specs.Told.{Told, tells}
+use Rattle.wire.proofs.Firm.{one-by, two-results-coincide}
 use Rattle.wire.proofs.Laws.{and-not-right, true-not-false, within-low}
 use Rattle.tuning.specs.Bands.{inBands}
-use Rattle.wire.specs.Told.{Told, tells}
-use Rattle.tuning.specs.Word.{offsetOf, wordOf, isClock, told, wordTold}
+use Rattle.tuning.specs.Word.{offsetOf, wordOf, apart, NearestUp, isClock, told, wordTold}
 use Rattle.tuning.specs.declared.word.Word.{Word}
 use Rattle.tuning.specs.declared.word.Word.the-variants.{Is, NotAllowed}
-use Rattle.wire.proofs.Firm.{one-by, two-results-coincide}
 
 abbrev pub inFirst : ℕ → Bool
 inFirst hz = within 100000 34000000 hz
@@ -82,15 +82,6 @@ pub word-one : (hz clock : ℕ) {v w : Word} → told v ≡ wordTold hz clock �
 word-one hz clock p q = two-results-coincide told told-one (wordTold hz clock) p q
 
 -- ---- the nearest whole number, halves up
-
--- the distance of two numbers
-abbrev pub apart : ℕ → ℕ → ℕ
-apart a b = (a - b) + (b - a)
-
--- w is the whole number nearest to x / clock, and of two that are equally near the greater: distances are taken clock-fold
-pub record NearestUp (x clock w : ℕ) : Type 0 where
-  pub nearest : (v : ℕ) → apart (clock * w) x ≤ apart (clock * v) x
-  pub up : (v : ℕ) → apart (clock * v) x ≡ apart (clock * w) x → v ≤ w
 
 -- A multiple of the clock that lies at most half a clock above x, and less than half a clock below, is the nearest of them.
 half-nearest : (x clock w : ℕ) → 2 * (clock * w) ≤ 2 * x + clock → 2 * x < 2 * (clock * w) + clock → NearestUp x clock w

@@ -1,13 +1,14 @@
 -- Tuning word (house): "The offset n is the frequency, or 160,000,000 less the frequency in the second band. The word is
 -- n x 2^32 / clock to the nearest whole number, halves up; it is worked out when asked."
-use Prim.Native.Nat.{ℕ, _+_, _*_, _-_, _/_, _^_}
+use Prim.Native.Nat.{ℕ, _+_, _*_, _-_, _/_, _^_, _≤_}
+use mathlib.Core.Path.{_≡_}
 use mathlib.Core.Bool.{Bool, not}
 use mathlib.Core.List.{List, [], _∷_}
 use lib.Dec.{eqb}
 use Rattle.wire.specs.Choice.{pick, check, firstOf, within}
 use Rattle.wire.specs.Codes as Code
-use Rattle.tuning.specs.Bands.{Band, bands, inBands}
 use Rattle.wire.specs.Told.{Told, tells}
+use Rattle.tuning.specs.Bands.{Band, bands, inBands}
 use Rattle.tuning.specs.declared.word.Word.{Word}
 use Rattle.tuning.specs.declared.word.Word.the-variants.{Is, NotAllowed}
 
@@ -26,6 +27,16 @@ offsetOf hz = offsetAmong bands hz
 -- n x 2^32 / clock, halves up
 unfoldable pub wordOf : ℕ → ℕ → ℕ
 wordOf hz clock = (2 * (offsetOf hz * 2 ^ 32) + clock) / (2 * clock)
+
+-- the distance of two numbers
+abbrev pub apart : ℕ → ℕ → ℕ
+apart a b = (a - b) + (b - a)
+
+-- "to the nearest whole number, halves up": w is the whole number nearest to x / clock, and of two that are equally near the
+-- greater; distances are taken clock-fold. The word is that (Words in proofs/).
+pub record NearestUp (x clock w : ℕ) : Type 0 where
+  pub nearest : (v : ℕ) → apart (clock * w) x ≤ apart (clock * v) x
+  pub up : (v : ℕ) → apart (clock * v) x ≡ apart (clock * w) x → v ≤ w
 
 -- clock: "79,992,000 to 80,008,000 (house)"
 abbrev pub isClock : ℕ → Bool
