@@ -18,10 +18,13 @@ pub struct Answered {
     pub settings: Settings,
 }
 
-// Answers a finished message of a type and a length, of which `opening` is the first ten bytes, zero where it has fewer. A buffer that is shorter than
-// the reply is 20: nothing is written, and the settings are those given.
+// Answers a finished message of a type and a length, of which `opening` is the first ten bytes, zero where it has fewer. A
+// buffer that is shorter than the reply is 20: nothing is written, and the settings are those given.
 pub fn answer(s: Settings, kind: u8, size: u16, opening: &[u8; 10], reply: &mut [u8]) -> Answered
-    ensures { λ r. ⌜ (r ≡ answerOf s (record { type = kind; size = size; held = now (opening .entry) }) (length (now (reply .entry))) .answered) × (now (reply .exit) ≡ sets (now (reply .entry)) 0 (answerOf s (record { type = kind; size = size; held = now (opening .entry) }) (length (now (reply .entry))) .bytes)) ⌝ }
+    ensures { λ r.
+        ⌜ (r ≡ answerOf s (record { type = kind; size = size; held = now (opening .entry) }) (length (now (reply .entry))) .answered)
+        × (now (reply .exit)
+        ≡ sets (now (reply .entry)) 0 (answerOf s (record { type = kind; size = size; held = now (opening .entry) }) (length (now (reply .entry))) .bytes)) ⌝ }
 {
     let judged = judging::judge(s, kind, size, opening);
     let code = judged.code;

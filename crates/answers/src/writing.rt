@@ -16,7 +16,9 @@ use wire::types;
 // Writes what is due for a code at the start of the buffer, and says how much; 0 where there is no room.
 pub(crate) fn write(code: u8, kind: u8, item: u16, echo: u8, s: Settings, reply: &mut [u8]) -> usize
     requires { ⌜ (code ≡ Code.done → rowOf item .code ≡ item) ⌝ }
-    ensures { λ r. ⌜ (r ≡ countIn (length (now (reply .entry))) (due code kind item echo s)) × (now (reply .exit) ≡ sets (now (reply .entry)) 0 (bytesIn (length (now (reply .entry))) (due code kind item echo s))) ⌝ }
+    ensures { λ r.
+        ⌜ (r ≡ countIn (length (now (reply .entry))) (due code kind item echo s))
+        × (now (reply .exit) ≡ sets (now (reply .entry)) 0 (bytesIn (length (now (reply .entry))) (due code kind item echo s))) ⌝ }
 {
     if code != codes::DONE {
         return put_nak(reply);
@@ -29,7 +31,9 @@ pub(crate) fn write(code: u8, kind: u8, item: u16, echo: u8, s: Settings, reply:
 
 // "NAK is the bytes 02 00."
 fn put_nak(reply: &mut [u8]) -> usize
-    ensures { λ r. ⌜ (r ≡ countIn (length (now (reply .entry))) nak) × (now (reply .exit) ≡ sets (now (reply .entry)) 0 (bytesIn (length (now (reply .entry))) nak)) ⌝ }
+    ensures { λ r.
+        ⌜ (r ≡ countIn (length (now (reply .entry))) nak)
+        × (now (reply .exit) ≡ sets (now (reply .entry)) 0 (bytesIn (length (now (reply .entry))) nak)) ⌝ }
 {
     if reply.len() < 2 {
         return 0;
@@ -42,7 +46,10 @@ fn put_nak(reply: &mut [u8]) -> usize
 // "The range reply gives channel, 02, then minimum, maximum, oscillator of each in five bytes."
 fn put_range(item: u16, channel: u8, reply: &mut [u8]) -> usize
     requires { ⌜ rowOf item .code ≡ item ⌝ }
-    ensures { λ r. ⌜ (r ≡ countIn (length (now (reply .entry))) (framed typeRangeReply (rangeBody (rowOf item) (channel ∷ [])))) × (now (reply .exit) ≡ sets (now (reply .entry)) 0 (bytesIn (length (now (reply .entry))) (framed typeRangeReply (rangeBody (rowOf item) (channel ∷ []))))) ⌝ }
+    ensures { λ r.
+        ⌜ (r ≡ countIn (length (now (reply .entry))) (framed typeRangeReply (rangeBody (rowOf item) (channel ∷ []))))
+        × (now (reply .exit)
+        ≡ sets (now (reply .entry)) 0 (bytesIn (length (now (reply .entry))) (framed typeRangeReply (rangeBody (rowOf item) (channel ∷ []))))) ⌝ }
 {
     if reply.len() < 36 {
         return 0;

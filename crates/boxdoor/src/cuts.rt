@@ -14,7 +14,11 @@ pub extern "C" fn skvornela_cut(
     packet: &mut [u8],
     wrote: &mut usize,
 ) -> u8
-    ensures { λ r. ⌜ (record { code = r; wrote = now (wrote .exit); state = now (state .exit) } ≡ cutOver (now (state .entry)) (now (samples .entry)) (length (now (packet .entry)))) × (now (packet .exit) ≡ sets (now (packet .entry)) 0 (packetOver (now (state .entry)) (now (samples .entry)) (length (now (packet .entry))))) ⌝ }
+    ensures { λ r.
+        ⌜ (record { code = r; wrote = now (wrote .exit); state = now (state .exit) }
+        ≡ cutOver (now (state .entry)) (now (samples .entry)) (length (now (packet .entry))))
+        × (now (packet .exit)
+        ≡ sets (now (packet .entry)) 0 (packetOver (now (state .entry)) (now (samples .entry)) (length (now (packet .entry))))) ⌝ }
 {
     if state.len() == 108 {
         let cut = cutting::cut_packet(crate::states::station_in(state), samples, packet);

@@ -31,7 +31,11 @@ pub extern "C" fn skvornela_feed(
     consumed: &mut usize,
     wrote: &mut usize,
 ) -> u8
-    ensures { λ r. ⌜ (record { code = r; consumed = now (consumed .exit); wrote = now (wrote .exit); state = now (state .exit) } ≡ feedOver (now (state .entry)) (now (host .entry)) (length (now (reply .entry)))) × (now (reply .exit) ≡ sets (now (reply .entry)) 0 (repliedOver (now (state .entry)) (now (host .entry)) (length (now (reply .entry))))) ⌝ }
+    ensures { λ r.
+        ⌜ (record { code = r; consumed = now (consumed .exit); wrote = now (wrote .exit); state = now (state .exit) }
+        ≡ feedOver (now (state .entry)) (now (host .entry)) (length (now (reply .entry))))
+        × (now (reply .exit)
+        ≡ sets (now (reply .entry)) 0 (repliedOver (now (state .entry)) (now (host .entry)) (length (now (reply .entry))))) ⌝ }
 {
     if state.len() == 108 {
         let f = station::feed(crate::states::station_in(state), host, reply);

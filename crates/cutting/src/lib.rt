@@ -83,7 +83,9 @@ fn too_short(s: Station, samples: &[i32]) -> Cut
 // The box with one packet more.
 fn counted(s: Station, wrote: usize) -> Cut
     requires { ⌜ s .settings .count < most ⌝ }
-    ensures { λ r. ⌜ r ≡ record { code = 1; wrote = wrote; station = record { settings = withCount (s .settings .count + 1) (s .settings); store = s .store } } ⌝ }
+    ensures { λ r.
+        ⌜ r
+        ≡ record { code = 1; wrote = wrote; station = record { settings = withCount (s .settings .count + 1) (s .settings); store = s .store } } ⌝ }
 {
     let mut settings = s.settings;
     settings.count = settings.count + 1;

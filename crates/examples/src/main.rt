@@ -33,7 +33,9 @@ fn digit_of(value: u8) -> u8 {
 }
 
 // Puts the bytes of a line, two digits each and a space between, at the start of out, and answers how many there are.
-fn read_bytes(line: &[u8], out: &mut [u8]) -> usize {
+fn read_bytes(line: &[u8], out: &mut [u8]) -> usize
+    ensures { λ r. ⌜ r ≤ length (now (out .entry)) ⌝ }
+{
     let mut n = 0;
     let mut at = 0;
     while at < line.len() && n < out.len() {
@@ -70,14 +72,12 @@ fn tell(code: u8, reply: &[u8]) {
     io::write_all(STDOUT_FILENO, b"\n");
 }
 
-// Feeds a message in one call. No reply is longer than the 64 bytes lent here, so the test is never false.
+// Feeds a message in one call.
 fn feed_and_tell(s: Station, message: &[u8]) -> Station {
     let mut reply = [0u8; 64];
     let fed = station::feed(s, message, &mut reply);
     let wrote = fed.wrote;
-    if wrote <= 64 {
-        tell(fed.code, &reply[..wrote]);
-    }
+    tell(fed.code, &reply[..wrote]);
     fed.station
 }
 
@@ -85,10 +85,7 @@ fn feed_and_tell(s: Station, message: &[u8]) -> Station {
 fn run_message(s: Station, line: &[u8]) -> Station {
     let mut message = [0u8; 64];
     let n = read_bytes(line, &mut message);
-    if n <= 64 {
-        return feed_and_tell(s, &message[..n]);
-    }
-    s
+    feed_and_tell(s, &message[..n])
 }
 
 // The box that a line "box SERIAL" begins.

@@ -63,7 +63,9 @@ pub fn could_be_left(s: Store) -> bool
 // taken before. Of a message that is finished already nothing is taken. One that comes whole is read where it lies: nothing
 // of it is kept.
 pub fn take_in(held: &mut [u8; 64], had: usize, host: &[u8]) -> Took
-    ensures { λ r. ⌜ (r ≡ tookOf (taken (record { held = now (held .entry); taken = had }) (now (host .entry)))) × (now (held .exit) ≡ heldAfter (record { held = now (held .entry); taken = had }) (now (host .entry))) ⌝ }
+    ensures { λ r.
+        ⌜ (r ≡ tookOf (taken (record { held = now (held .entry); taken = had }) (now (host .entry))))
+        × (now (held .exit) ≡ heldAfter (record { held = now (held .entry); taken = had }) (now (host .entry))) ⌝ }
 {
     let total = total_ahead(held, had, host);
     if had == 0 {

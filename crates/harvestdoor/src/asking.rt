@@ -80,7 +80,10 @@ pub extern "C" fn skvornela_wish(
     buffer: &mut [u8],
     wrote: &mut usize,
 ) -> u8
-    ensures { λ r. ⌜ (record { code = r; wrote = now (wrote .exit) } ≡ toldOf (wishOf which byte mode gain word hertz) (length (now (buffer .entry)))) × (now (buffer .exit) ≡ sets (now (buffer .entry)) 0 (bytesWritten (wishOf which byte mode gain word hertz) (length (now (buffer .entry))))) ⌝ }
+    ensures { λ r.
+        ⌜ (record { code = r; wrote = now (wrote .exit) } ≡ toldOf (wishOf which byte mode gain word hertz) (length (now (buffer .entry))))
+        × (now (buffer .exit)
+        ≡ sets (now (buffer .entry)) 0 (bytesWritten (wishOf which byte mode gain word hertz) (length (now (buffer .entry))))) ⌝ }
 {
     let told = told_by(wishes::write(wish_of(which, byte, mode, gain, word, hertz), buffer));
     *wrote = told.wrote;
@@ -99,7 +102,9 @@ struct Shown {
 
 // A reply of up to two values.
 fn saying(item: u16, count: usize, first: u64, second: u64) -> Shown
-    ensures { λ r. ⌜ record { code = r .code; item = r .item; count = r .count; first = r .first; second = r .second; gain = r .gain } ≡ saidOf item count first second ⌝ }
+    ensures { λ r.
+        ⌜ record { code = r .code; item = r .item; count = r .count; first = r .first; second = r .second; gain = r .gain }
+        ≡ saidOf item count first second ⌝ }
 {
     Shown {
         code: codes::DONE,
@@ -112,7 +117,8 @@ fn saying(item: u16, count: usize, first: u64, second: u64) -> Shown
 }
 
 fn refusing(code: u8) -> Shown
-    ensures { λ r. ⌜ record { code = r .code; item = r .item; count = r .count; first = r .first; second = r .second; gain = r .gain } ≡ refusedBy code ⌝ }
+    ensures { λ r.
+        ⌜ record { code = r .code; item = r .item; count = r .count; first = r .first; second = r .second; gain = r .gain } ≡ refusedBy code ⌝ }
 {
     Shown {
         code: code,
@@ -131,7 +137,9 @@ fn status_byte(running: bool) -> u64
 }
 
 fn shown_by(reply: Reply) -> Shown
-    ensures { λ r. ⌜ record { code = r .code; item = r .item; count = r .count; first = r .first; second = r .second; gain = r .gain } ≡ shownOf (toldBy reply) ⌝ }
+    ensures { λ r.
+        ⌜ record { code = r .code; item = r .item; count = r .count; first = r .first; second = r .second; gain = r .gain }
+        ≡ shownOf (toldBy reply) ⌝ }
 {
     match reply {
         Reply::Nak => saying(0, 0, 0, 0),
@@ -177,7 +185,9 @@ pub extern "C" fn skvornela_reply(
     second: &mut u64,
     level: &mut i8,
 ) -> u8
-    ensures { λ r. ⌜ record { code = r; item = now (item .exit); count = now (count .exit); first = now (first .exit); second = now (second .exit); gain = now (level .exit) } ≡ shownOf (readAs (wishOf which byte mode gain word hertz) (now (bytes .entry))) ⌝ }
+    ensures { λ r.
+        ⌜ record { code = r; item = now (item .exit); count = now (count .exit); first = now (first .exit); second = now (second .exit); gain = now (level .exit) }
+        ≡ shownOf (readAs (wishOf which byte mode gain word hertz) (now (bytes .entry))) ⌝ }
 {
     let s = shown_by(replies::read(wish_of(which, byte, mode, gain, word, hertz), bytes));
     *item = s.item;

@@ -34,7 +34,10 @@ pub extern "C" fn skvornela_head_write(
     size: u8,
     out: &mut [u8],
 ) -> u8
-    ensures { λ r. ⌜ (r ≡ writeCode (record { divisor = divisor; frequency = frequency; mode = mode; size = size }) (length (now (out .entry)))) × (now (out .exit) ≡ sets (now (out .entry)) 0 (writtenBytes (record { divisor = divisor; frequency = frequency; mode = mode; size = size }) (length (now (out .entry))))) ⌝ }
+    ensures { λ r.
+        ⌜ (r ≡ writeCode (record { divisor = divisor; frequency = frequency; mode = mode; size = size }) (length (now (out .entry))))
+        × (now (out .exit)
+        ≡ sets (now (out .entry)) 0 (writtenBytes (record { divisor = divisor; frequency = frequency; mode = mode; size = size }) (length (now (out .entry))))) ⌝ }
 {
     let h = Head {
         divisor: divisor,
@@ -82,7 +85,9 @@ pub extern "C" fn skvornela_head_read(
     mode: &mut u8,
     size: &mut u8,
 ) -> u8
-    ensures { λ r. ⌜ record { code = r; head = record { divisor = now (divisor .exit); frequency = now (frequency .exit); mode = now (mode .exit); size = now (size .exit) } } ≡ foundIn (now (bytes .entry)) ⌝ }
+    ensures { λ r.
+        ⌜ record { code = r; head = record { divisor = now (divisor .exit); frequency = now (frequency .exit); mode = now (mode .exit); size = now (size .exit) } }
+        ≡ foundIn (now (bytes .entry)) ⌝ }
 {
     let f = found_by(heads::read_head(bytes));
     let head = f.head;

@@ -15,7 +15,9 @@ pub extern "C" fn skvornela_read(
     position: &mut u64,
     sample: &mut u64,
 ) -> u8
-    ensures { λ r. ⌜ record { code = r; position = now (position .exit); sample = now (sample .exit); state = now (state .exit) } ≡ readOver (now (state .entry)) (now (packet .entry)) ⌝ }
+    ensures { λ r.
+        ⌜ record { code = r; position = now (position .exit); sample = now (sample .exit); state = now (state .exit) }
+        ≡ readOver (now (state .entry)) (now (packet .entry)) ⌝ }
 {
     if state.len() == 25 {
         let h = reader::read(crate::states::reader_in(state), packet);
@@ -49,7 +51,9 @@ pub extern "C" fn skvornela_sample_byte(packet: &[u8], place: usize, byte: &mut 
 // Unpacks a packet into lent numbers. Answers the code, and leaves how many numbers were written.
 #[no_mangle]
 pub extern "C" fn skvornela_unpack(packet: &[u8], out: &mut [i32], count: &mut usize) -> u8
-    ensures { λ r. ⌜ (record { code = r; count = now (count .exit) } ≡ unpackingOf (now (packet .entry)) (length (now (out .entry)))) × (now (out .exit) ≡ sets (now (out .entry)) 0 (unpackedOf (now (packet .entry)) (length (now (out .entry))))) ⌝ }
+    ensures { λ r.
+        ⌜ (record { code = r; count = now (count .exit) } ≡ unpackingOf (now (packet .entry)) (length (now (out .entry))))
+        × (now (out .exit) ≡ sets (now (out .entry)) 0 (unpackedOf (now (packet .entry)) (length (now (out .entry))))) ⌝ }
 {
     let u = reader::unpack(packet, out);
     *count = u.count;

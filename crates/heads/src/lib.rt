@@ -73,7 +73,9 @@ fn put_head(h: Head, out: &mut [u8])
 
 // Writes a head at the start of a slice. It refuses a value that is not allowed, and then a slice under 14 bytes.
 pub fn write_head(h: Head, out: &mut [u8]) -> Written
-    ensures { λ r. ⌜ (writtenCode r ≡ writeCode h (length (now (out .entry)))) × (now (out .exit) ≡ sets (now (out .entry)) 0 (writtenBytes h (length (now (out .entry))))) ⌝ }
+    ensures { λ r.
+        ⌜ (writtenCode r ≡ writeCode h (length (now (out .entry))))
+        × (now (out .exit) ≡ sets (now (out .entry)) 0 (writtenBytes h (length (now (out .entry))))) ⌝ }
 {
     if !is_allowed(h) {
         return Written::NotAllowed;

@@ -33,7 +33,9 @@ pub fn size_of(a: Layout) -> usize
 
 // Writes the message at the start of the slice, and says how long it is; or nothing and 0, where it does not fit.
 pub fn put_message(dst: &mut [u8], a: Layout) -> usize
-    ensures { λ r. ⌜ (r ≡ pick (ltb (length (now (dst .entry))) (sizeOf a)) 0 (sizeOf a)) × (now (dst .exit) ≡ sets (now (dst .entry)) 0 (pick (ltb (length (now (dst .entry))) (sizeOf a)) [] (laid a))) ⌝ }
+    ensures { λ r.
+        ⌜ (r ≡ pick (ltb (length (now (dst .entry))) (sizeOf a)) 0 (sizeOf a))
+        × (now (dst .exit) ≡ sets (now (dst .entry)) 0 (pick (ltb (length (now (dst .entry))) (sizeOf a)) [] (laid a))) ⌝ }
 {
     let size = size_of(a);
     if dst.len() < size {

@@ -89,7 +89,9 @@ fn is_sized(d: Due) -> bool
 // Writes the lines that are due at the start of a slice: 219 bytes are room enough. It refuses with 16 a position, pairs
 // or a D that no capture has, and then with 20 a slice that has no room for all lines; nothing is written then.
 pub fn tell(d: Due, out: &mut [u8]) -> Told
-    ensures { λ r. ⌜ (r ≡ tellingOf d (length (now (out .entry))) .told) × (now (out .exit) ≡ sets (now (out .entry)) 0 (tellingOf d (length (now (out .entry))) .bytes)) ⌝ }
+    ensures { λ r.
+        ⌜ (r ≡ tellingOf d (length (now (out .entry))) .told)
+        × (now (out .exit) ≡ sets (now (out .entry)) 0 (tellingOf d (length (now (out .entry))) .bytes)) ⌝ }
 {
     if !is_sized(d) {
         return Told {

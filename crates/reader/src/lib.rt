@@ -144,7 +144,9 @@ pub fn sample_bytes(packet: &[u8]) -> &[u8]
 
 // "Unpacking takes a packet and writes its I and Q in turn as signed numbers of the width sent; it refuses with 30, then 20."
 pub fn unpack(packet: &[u8], out: &mut [i32]) -> Unpacked
-    ensures { λ r. ⌜ (r ≡ unpackingOf (now (packet .entry)) (length (now (out .entry)))) × (now (out .exit) ≡ sets (now (out .entry)) 0 (unpackedOf (now (packet .entry)) (length (now (out .entry))))) ⌝ }
+    ensures { λ r.
+        ⌜ (r ≡ unpackingOf (now (packet .entry)) (length (now (out .entry))))
+        × (now (out .exit) ≡ sets (now (out .entry)) 0 (unpackedOf (now (packet .entry)) (length (now (out .entry))))) ⌝ }
 {
     let form = packets::whole(packet);
     if form.pairs == 0 {

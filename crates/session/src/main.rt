@@ -4,43 +4,51 @@ use libc::STDIN_FILENO;
 use libc::STDOUT_FILENO;
 use station::Fed;
 use station::Station;
+ghost use mathlib.Core.Path.{_≡_};
+ghost use Rattle.station.specs.Feeding.{feedingOf};
+ghost use Rattle.session.specs.Session.{Sound, HandedOver};
 
-// One call of feeding on what is left of a piece, and its reply in one write. No reply is longer than the 64 bytes lent
-// here, so the test is never false.
-fn feed_once(s: Station, host: &[u8]) -> Fed {
+// Writes the reply of a box to some bytes of the host, in one write. Box and bytes are there for the contract alone, which
+// says whose reply it is.
+fn write_reply(s: Station, host: &[u8], reply: &[u8])
+    requires { ⌜ now reply ≡ feedingOf s (now host) 64 .bytes ⌝ }
+{
+    io::write_all(STDOUT_FILENO, reply);
+}
+
+// One call of feeding on what is left of a piece, and its reply.
+fn feed_once(s: Station, host: &[u8]) -> Fed
+    requires { ⌜ Sound s ⌝ }
+    ensures { λ r. ⌜ r ≡ feedingOf s (now (host .entry)) 64 .fed ⌝ }
+{
     let mut reply = [0u8; 64];
     let fed = station::feed(s, host, &mut reply);
     let wrote = fed.wrote;
-    if wrote <= 64 {
-        io::write_all(STDOUT_FILENO, &reply[..wrote]);
-    }
+    write_reply(s, host, &reply[..wrote]);
     fed
 }
 
-// Hands a piece over by calling again until its bytes are used up. A valid box consumes at least one byte, and none that
-// is not there, so neither of the two returns in the loop is taken.
-fn feed_piece(s: Station, piece: &[u8]) -> Station {
+// Hands a piece over by calling again until its bytes are used up.
+fn feed_piece(s: Station, piece: &[u8]) -> Station
+    requires { ⌜ Sound s ⌝ }
+    ensures { λ r. ⌜ HandedOver s (now (piece .entry)) r ⌝ }
+{
     let mut now = s;
     let mut at = 0;
     while at < piece.len() {
         let fed = feed_once(now, &piece[at..]);
         let next = fed.station;
         now = next;
-        let consumed = fed.consumed;
-        if consumed == 0 {
-            return now;
-        }
-        if piece.len() - at < consumed {
-            return now;
-        }
-        at += consumed;
+        at += fed.consumed;
     }
     now
 }
 
 // Reads pieces as they come, until the input ends. A proved loop has to end, and nothing says that the input does. So
 // the loop counts its turns down, from a number that no run uses up.
-fn serve(s: Station, buf: &mut [u8]) {
+fn serve(s: Station, buf: &mut [u8])
+    requires { ⌜ Sound s ⌝ }
+{
     let mut now = s;
     let mut turns = u64::MAX;
     while turns > 0 {

@@ -214,7 +214,9 @@ fn read_span(code: u8, s: Span) -> Span
 // The head's part of a piece.
 fn open(s: Span, piece: &[u8], out: &mut [u8]) -> Eaten
     requires { ⌜ s .taken < headLength ⌝ }
-    ensures { λ r. ⌜ (r ≡ opening s (now (piece .entry)) (length (now (out .entry))) .eaten) × (now (out .exit) ≡ sets (now (out .entry)) 0 (opening s (now (piece .entry)) (length (now (out .entry))) .bytes)) ⌝ }
+    ensures { λ r.
+        ⌜ (r ≡ opening s (now (piece .entry)) (length (now (out .entry))) .eaten)
+        × (now (out .exit) ≡ sets (now (out .entry)) 0 (opening s (now (piece .entry)) (length (now (out .entry))) .bytes)) ⌝ }
 {
     let after = take_head(s, piece);
     let k = after.taken - s.taken;
@@ -256,7 +258,9 @@ fn with_tally(stopped: bool, s: Span, t: Tally) -> Span
 // The packets' part of a piece.
 fn listen(s: Span, piece: &[u8], out: &mut [u8]) -> Eaten
     requires { ⌜ (allowed (headOf s) ≡ true) × (inRange (s .tally) ≡ true) ⌝ }
-    ensures { λ r. ⌜ (r ≡ listening s (now (piece .entry)) (length (now (out .entry))) .eaten) × (now (out .exit) ≡ sets (now (out .entry)) 0 (listening s (now (piece .entry)) (length (now (out .entry))) .bytes)) ⌝ }
+    ensures { λ r.
+        ⌜ (r ≡ listening s (now (piece .entry)) (length (now (out .entry))) .eaten)
+        × (now (out .exit) ≡ sets (now (out .entry)) 0 (listening s (now (piece .entry)) (length (now (out .entry))) .bytes)) ⌝ }
 {
     let held = s.held;
     let h = heads::head_in(&held);
@@ -287,7 +291,9 @@ fn listen(s: Span, piece: &[u8], out: &mut [u8]) -> Eaten
 // piece is to be handed over again; 2: the span stopped before, and needs no more bytes. Nothing happens with 21, where the
 // span is broken, and then with 20, where out has no room for the lines.
 pub fn eat(s: Span, piece: &[u8], out: &mut [u8]) -> Eaten
-    ensures { λ r. ⌜ (r ≡ eatingOf s (now (piece .entry)) (length (now (out .entry))) .eaten) × (now (out .exit) ≡ sets (now (out .entry)) 0 (eatingOf s (now (piece .entry)) (length (now (out .entry))) .bytes)) ⌝ }
+    ensures { λ r.
+        ⌜ (r ≡ eatingOf s (now (piece .entry)) (length (now (out .entry))) .eaten)
+        × (now (out .exit) ≡ sets (now (out .entry)) 0 (eatingOf s (now (piece .entry)) (length (now (out .entry))) .bytes)) ⌝ }
 {
     if !is_valid(s) {
         return refuse(codes::BROKEN, s);
@@ -309,7 +315,9 @@ pub fn eat(s: Span, piece: &[u8], out: &mut [u8]) -> Eaten
 // Writes the lines that the end of the input brings. Code 1: lines were written; 2: the span stopped before, and none are
 // due. Nothing happens with 21, where the span is broken, and then with 20, where out has no room for the lines.
 pub fn finish(s: Span, out: &mut [u8]) -> Told
-    ensures { λ r. ⌜ (r ≡ finishingOf s (length (now (out .entry))) .told) × (now (out .exit) ≡ sets (now (out .entry)) 0 (finishingOf s (length (now (out .entry))) .bytes)) ⌝ }
+    ensures { λ r.
+        ⌜ (r ≡ finishingOf s (length (now (out .entry))) .told)
+        × (now (out .exit) ≡ sets (now (out .entry)) 0 (finishingOf s (length (now (out .entry))) .bytes)) ⌝ }
 {
     if !is_valid(s) {
         return Told {

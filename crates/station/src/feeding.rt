@@ -46,7 +46,9 @@ fn refused(code: u8, s: Station) -> Fed
 
 // 0: "waiting, all bytes consumed".
 fn waiting(s: Station, held: [u8; 64], t: Took) -> Fed
-    ensures { λ r. ⌜ r ≡ waitingWith (s .settings) (record { store = record { held = held; taken = t .taken }; count = t .count; finished = t .finished }) .fed ⌝ }
+    ensures { λ r.
+        ⌜ r
+        ≡ waitingWith (s .settings) (record { store = record { held = held; taken = t .taken }; count = t .count; finished = t .finished }) .fed ⌝ }
 {
     let settings = s.settings;
     let store = Store {
@@ -92,7 +94,8 @@ fn answer(s: Station, t: Took, reply: &mut [u8]) -> Fed
 
 // A message that is done with: its code, and a box between messages.
 fn done(code: u8, consumed: usize, wrote: usize, after: Settings) -> Fed
-    ensures { λ r. ⌜ r ≡ record { code = code; consumed = consumed; wrote = wrote; station = record { settings = after; store = between } } ⌝ }
+    ensures { λ r.
+        ⌜ r ≡ record { code = code; consumed = consumed; wrote = wrote; station = record { settings = after; store = between } } ⌝ }
 {
     let station = Station {
         settings: after,

@@ -9,7 +9,9 @@ ghost use Rattle.talks.specs.Serving.{serveRun};
 // has room. Answers how many bytes of reply it wrote.
 #[no_mangle]
 pub extern "C" fn skvornela_serve(host: &[u8], replies: &mut [u8]) -> usize
-    ensures { λ r. ⌜ (r ≡ length (serveRun (now (host .entry)) (length (now (replies .entry))))) × (now (replies .exit) ≡ sets (now (replies .entry)) 0 (serveRun (now (host .entry)) (length (now (replies .entry))))) ⌝ }
+    ensures { λ r.
+        ⌜ (r ≡ length (serveRun (now (host .entry)) (length (now (replies .entry)))))
+        × (now (replies .exit) ≡ sets (now (replies .entry)) 0 (serveRun (now (host .entry)) (length (now (replies .entry))))) ⌝ }
 {
     let began = station::fresh(b"MT123456");
     let mut s = began.station;

@@ -155,7 +155,9 @@ pub fn allows(w: Wish) -> bool
 
 // Writes the message of a wish at the start of the buffer.
 pub fn write(w: Wish, buffer: &mut [u8]) -> Written
-    ensures { λ r. ⌜ (told r ≡ toldOf w (length (now (buffer .entry)))) × (now (buffer .exit) ≡ sets (now (buffer .entry)) 0 (bytesWritten w (length (now (buffer .entry))))) ⌝ }
+    ensures { λ r.
+        ⌜ (told r ≡ toldOf w (length (now (buffer .entry))))
+        × (now (buffer .exit) ≡ sets (now (buffer .entry)) 0 (bytesWritten w (length (now (buffer .entry))))) ⌝ }
 {
     if !allows(w) {
         return Written::NotAllowed;

@@ -1,15 +1,23 @@
 -- The reply lies within its array, whose length feeding keeps.
 use Prim.Native.Nat.{_≤_}
-use mathlib.Core.Path.{sym}
+use mathlib.Core.Path.{sym, ap}
 use native.Mathlib.Omega.{arith}
 use lib.ListN.{length}
 use lib.Seq.{length-take-le}
 use borrow.Author.Needs.{needs}
+use Rattle.station.specs.declared.Fed.{Fed}
+use Rattle.examples.proofs.Fits.{wrote-fits}
 use Rattle.examples.proofs.feed_and_tell.Statement.{statement}
 use Rattle.examples.proofs.feed_and_tell.Tie as tie
 
-wrote : (c : tie.Then1) → c .before .before .feed .result .wrote ≤ length (c .before .before .feed .last .1 .1 .0)
-wrote c = omega (arith, c .before .before .feed .kept .1 .1 .0)
+wrote : (c : tie.After-feed) → c .feed .result .wrote ≤ length (c .feed .last .1 .1 .0)
+wrote c =
+    omega (
+      arith,
+      c .feed .kept .1 .1 .0,
+      ap (λ (r : Fed). r .wrote) (c .feed .ensures .0),
+      wrote-fits (c .before .before .before .args .s) (c .before .before .before .args .message .now) 64,
+    )
 
 slice-aggregate-feed : tie.Need-slice-aggregate-feed
 slice-aggregate-feed c = search needs
@@ -18,10 +26,10 @@ feed-requires : tie.Need-feed-requires
 feed-requires c κs = search needs
 
 array-share-prefix-reply : tie.Need-array-share-prefix-reply
-array-share-prefix-reply c = search needs
+array-share-prefix-reply c = wrote (c .before)
 
 slice-aggregate-tell : tie.Need-slice-aggregate-tell
-slice-aggregate-tell c = sym (length-take-le _ _ (wrote (c .before)))
+slice-aggregate-tell c = sym (length-take-le _ _ (wrote (c .before .before)))
 
 tell-requires : tie.Need-tell-requires
 tell-requires c κs = search needs

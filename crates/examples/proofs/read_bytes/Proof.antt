@@ -2,12 +2,14 @@
 use Prim.Native.Nat.{_≤_, _-_}
 use lib.ListN.{length}
 use mathlib.Core.Path.{_≡_}
+use native.Mathlib.Omega.{arith}
 use borrow.Author.Needs.{needs}
+use borrow.Author.Tests.{ltb-true}
 use Rattle.examples.proofs.read_bytes.Statement.{statement}
 use Rattle.examples.proofs.read_bytes.Tie as tie
 
 abbrev Inv-loop : tie.InvT-loop
-Inv-loop line out₀ n₀ at₀ out n at = (n ≤ at) × (at ≤ length line) × (length out ≡ length out₀)
+Inv-loop line out₀ n₀ at₀ out n at = (n ≤ at) × (n ≤ length out₀) × (at ≤ length line) × (length out ≡ length out₀)
 
 abbrev μ-loop : tie.MeasureT-loop
 μ-loop line out₀ n₀ at₀ out n at = length line - at
@@ -52,7 +54,7 @@ same-length-2 : tie.Need-same-length-2 Inv-loop μ-loop
 same-length-2 c = search needs
 
 returns-2 : tie.Need-returns-2 Inv-loop μ-loop
-returns-2 c = search needs
+returns-2 c = omega (arith, ltb-true)
 
 add-at : tie.Need-add-at Inv-loop μ-loop
 add-at c = search needs
@@ -61,7 +63,7 @@ loop-less : tie.Need-loop-less Inv-loop μ-loop
 loop-less c = search needs
 
 loop-again : tie.Need-loop-again Inv-loop μ-loop
-loop-again c = search needs
+loop-again c = (omega arith, omega (arith, ltb-true), omega arith, search needs)
 
 same-length-3 : tie.Need-same-length-3 Inv-loop μ-loop
 same-length-3 c = search needs

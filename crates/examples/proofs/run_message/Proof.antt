@@ -8,8 +8,8 @@ use borrow.Author.Needs.{needs}
 use Rattle.examples.proofs.run_message.Statement.{statement}
 use Rattle.examples.proofs.run_message.Tie as tie
 
-within : (c : tie.Then1) → c .before .before .read-bytes .result ≤ length (c .before .before .read-bytes .last .1 .0)
-within c = omega (arith, c .before .before .read-bytes .kept .1 .0)
+within : (c : tie.After-read-bytes) → c .read-bytes .result ≤ length (c .read-bytes .last .1 .0)
+within c = omega (arith, c .read-bytes .kept .1 .0)
 
 slice-aggregate-read-bytes : tie.Need-slice-aggregate-read-bytes
 slice-aggregate-read-bytes c = search needs
@@ -21,16 +21,13 @@ array-share-prefix-message : tie.Need-array-share-prefix-message
 array-share-prefix-message c = search needs
 
 slice-aggregate-feed-and-tell : tie.Need-slice-aggregate-feed-and-tell
-slice-aggregate-feed-and-tell c = sym (length-take-le _ _ (within (c .before)))
+slice-aggregate-feed-and-tell c = sym (length-take-le _ _ (within (c .before .before)))
 
 feed-and-tell-requires : tie.Need-feed-and-tell-requires
 feed-and-tell-requires c κs = search needs
 
 returns : tie.Need-returns
 returns c = search needs
-
-returns-2 : tie.Need-returns-2
-returns-2 c = search needs
 
 pub run-message-spec : {M : Type 1} → statement M
 run-message-spec =
@@ -41,5 +38,4 @@ run-message-spec =
     array-share-prefix-message
     slice-aggregate-feed-and-tell
     feed-and-tell-requires
-    returns
-    returns-2)
+    returns)

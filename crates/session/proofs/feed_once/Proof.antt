@@ -1,15 +1,14 @@
--- The reply lies within its array, whose length feeding keeps.
-use Prim.Native.Nat.{_≤_}
-use mathlib.Core.Path.{sym}
-use native.Mathlib.Omega.{arith}
-use lib.ListN.{length}
+-- The reply lies within its array, and the part that was written is the box's reply.
+use mathlib.Core.Path.{refl, sym}
 use lib.Seq.{length-take-le}
 use borrow.Author.Needs.{needs}
+use Rattle.session.proofs.Calls.{Reply, reply-is}
 use Rattle.session.proofs.feed_once.Statement.{statement}
 use Rattle.session.proofs.feed_once.Tie as tie
 
-wrote : (c : tie.Then1) → c .before .before .feed .result .wrote ≤ length (c .before .before .feed .last .1 .1 .0)
-wrote c = omega (arith, c .before .before .feed .kept .1 .1 .0)
+-- what feeding left in the array
+reply : (c : tie.After-feed) → Reply (c .before .before .before .args .s) (c .before .before .before .args .host .now) (c .feed .result) (c .feed .last .1 .1 .0)
+reply c = reply-is _ _ _ _ _ refl (c .before .before .before .pre) (c .feed .ensures .0) (c .feed .ensures .1)
 
 slice-aggregate-feed : tie.Need-slice-aggregate-feed
 slice-aggregate-feed c = search needs
@@ -18,19 +17,16 @@ feed-requires : tie.Need-feed-requires
 feed-requires c κs = search needs
 
 array-share-prefix-reply : tie.Need-array-share-prefix-reply
-array-share-prefix-reply c = search needs
+array-share-prefix-reply c = reply (c .before) .inside
 
-slice-aggregate-write-all : tie.Need-slice-aggregate-write-all
-slice-aggregate-write-all c = sym (length-take-le _ _ (wrote (c .before)))
+slice-aggregate-write-reply : tie.Need-slice-aggregate-write-reply
+slice-aggregate-write-reply c = sym (length-take-le _ _ (reply (c .before .before) .inside))
 
-write-all-requires : tie.Need-write-all-requires
-write-all-requires c κs = search needs
+write-reply-requires : tie.Need-write-reply-requires
+write-reply-requires c κs = reply (c .before .before) .bytes
 
 returns : tie.Need-returns
 returns c = search needs
-
-returns-2 : tie.Need-returns-2
-returns-2 c = search needs
 
 pub feed-once-spec : {M : Type 1} → statement M
 feed-once-spec =
@@ -39,7 +35,6 @@ feed-once-spec =
     slice-aggregate-feed
     feed-requires
     array-share-prefix-reply
-    slice-aggregate-write-all
-    write-all-requires
-    returns
-    returns-2)
+    slice-aggregate-write-reply
+    write-reply-requires
+    returns)

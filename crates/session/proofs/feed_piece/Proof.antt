@@ -1,19 +1,20 @@
--- The position stays within the piece, since what was consumed is tested against what is left, and each turn leaves fewer
--- bytes.
-use Prim.Native.Nat.{_≤_, _-_}
+-- Each turn is one call, which leaves fewer bytes; what is left leads where the whole piece leads.
+use Prim.Native.Nat.{_-_}
+use native.Mathlib.Omega.{arith}
 use lib.ListN.{length}
 use borrow.Author.Needs.{needs}
+use Rattle.session.proofs.Pieces.{Going, begins, ends, Turn, turns}
 use Rattle.session.proofs.feed_piece.Statement.{statement}
 use Rattle.session.proofs.feed_piece.Tie as tie
 
 abbrev Inv-loop : tie.InvT-loop
-Inv-loop piece now₀ at₀ now at = at ≤ length piece
+Inv-loop piece now₀ at₀ now at = Going now₀ piece now at
 
 abbrev μ-loop : tie.MeasureT-loop
 μ-loop piece now₀ at₀ now at = length piece - at
 
 loop-holds : tie.Need-loop-holds Inv-loop μ-loop
-loop-holds c = search needs
+loop-holds c = begins _ _ (c .before .pre)
 
 sub-feed-once : tie.Need-sub-feed-once Inv-loop μ-loop
 sub-feed-once c = search needs
@@ -25,28 +26,24 @@ part-feed-once-end : tie.Need-part-feed-once-end Inv-loop μ-loop
 part-feed-once-end c = search needs
 
 feed-once-requires : tie.Need-feed-once-requires Inv-loop μ-loop
-feed-once-requires c κs = search needs
+feed-once-requires c κs = c .before .before .loop .inv .sound
 
-returns : tie.Need-returns Inv-loop μ-loop
-returns c = search needs
-
-sub-if2 : tie.Need-sub-if2 Inv-loop μ-loop
-sub-if2 c = search needs
-
-returns-2 : tie.Need-returns-2 Inv-loop μ-loop
-returns-2 c = search needs
+-- what the call did
+turn : (c : tie.After-feed-once Inv-loop μ-loop)
+    → Turn (c .before .before .before .before .before .args .s) (c .before .before .before .before .before .args .piece .now) (c .before .before .before .loop .at) (c .feed-once .result)
+turn c = turns _ _ _ _ (c .before .before .before .loop .inv) (c .before .before .loop-test .taken) _ (c .feed-once .ensures)
 
 add-at : tie.Need-add-at Inv-loop μ-loop
-add-at c = search needs
+add-at c = omega (arith, turn (c .before .before) .going .inside)
 
 loop-less : tie.Need-loop-less Inv-loop μ-loop
-loop-less c = search needs
+loop-less c = omega (arith, turn (c .before .before) .some)
 
 loop-again : tie.Need-loop-again Inv-loop μ-loop
-loop-again c = search needs
+loop-again c = turn (c .before .before) .going
 
-returns-3 : tie.Need-returns-3 Inv-loop μ-loop
-returns-3 c = search needs
+returns : tie.Need-returns Inv-loop μ-loop
+returns c = ends _ _ _ _ (c .before .loop .inv) (c .loop-test .left)
 
 pub feed-piece-spec : {M : Type 1} → statement M
 feed-piece-spec =
@@ -59,10 +56,7 @@ feed-piece-spec =
     part-feed-once-start
     part-feed-once-end
     feed-once-requires
-    returns
-    sub-if2
-    returns-2
     add-at
     loop-less
     loop-again
-    returns-3)
+    returns)

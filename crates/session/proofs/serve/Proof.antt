@@ -1,12 +1,13 @@
--- The measure is the number of turns that are left. Reading keeps the buffer's length.
+-- The measure is the number of turns that are left. Reading keeps the buffer's length, and a piece keeps the box sound.
 use mathlib.Core.Path.{_≡_}
 use lib.ListN.{length}
+use Rattle.session.specs.Session.{Sound}
 use borrow.Author.Needs.{needs}
 use Rattle.session.proofs.serve.Statement.{statement}
 use Rattle.session.proofs.serve.Tie as tie
 
 abbrev Inv-loop : tie.InvT-loop
-Inv-loop buf₀ now₀ turns₀ buf now turns = length buf ≡ length buf₀
+Inv-loop buf₀ now₀ turns₀ buf now turns = (length buf ≡ length buf₀) × Sound now
 
 abbrev μ-loop : tie.MeasureT-loop
 μ-loop buf₀ now₀ turns₀ buf now turns = turns
