@@ -7,10 +7,10 @@ use lib.Dec.{ltb}
 use lib.ListN.{length}
 use lib.Seq.{sets}
 use Rattle.wire.specs.Choice.{pick}
+use Rattle.wire.specs.Told.{Told}
 use Rattle.station.specs.declared.Began.{Began}
 use Rattle.station.specs.declared.Fed.{Fed}
 use Rattle.station.specs.declared.Station.{Station}
-use Rattle.wire.specs.Told.{Told}
 use Rattle.station.specs.Station.{freshBox, tuningTold}
 use Rattle.station.specs.Feeding.{feedingOf}
 use Rattle.boxdoor.specs.States.{stationIn, stationBytes}

@@ -5,8 +5,8 @@ use lib.Dec.{eqb, ltb}
 use lib.ListN.{length}
 use Rattle.wire.specs.Choice.{pick}
 use Rattle.wire.specs.Codes as Code
-use Rattle.station.specs.declared.Fed.{Fed}
 use Rattle.wire.specs.Told.{Told}
+use Rattle.station.specs.declared.Fed.{Fed}
 use Rattle.station.specs.Station.{freshBox, tuningTold}
 use Rattle.station.specs.Feeding.{feedingOf}
 use Rattle.boxdoor.specs.States.{stationSize, stationIn, stationBytes}

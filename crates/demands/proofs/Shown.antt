@@ -19,34 +19,16 @@ use Rattle.rates.proofs.Rates.{nearest-d}
 use Rattle.framing.specs.Framing.{allBytes}
 use Rattle.items.specs.declared.Settings.{Settings}
 use Rattle.items.specs.Settings.{withRunning, withCount, withMode, isMode}
-use Rattle.items.specs.Items.{Offer, total, dash, Item, items, noItem, rowIn, rowOf, runByte, modeByte, idle, run, frequency, gain, clock, rate, packetSize, state, status, listed}
+use Rattle.items.specs.Items.{Offer, total, dash, Item, items, noItem, rowOf, runByte, modeByte, idle, run, frequency, gain, clock, rate, packetSize, state, status, listed}
 use Rattle.items.specs.Table.{offerFor, offered, isDash, isTotal}
 use Rattle.items.specs.Answer.{Message, itemIn, row, parameters, valueAllowed, refusedRunning, itemCode, codeOf, settingsAfter, replyOf}
 use Rattle.items.proofs.Classes.{fitting, unnamed}
 use Rattle.items.proofs.Judging.{by-item}
 use Rattle.station.specs.Feeding.{answered}
-use Rattle.items.proofs.Rows.{row-code}
+use Rattle.items.proofs.Rows.{Each, _⨾_, found-at, row-code}
 use Rattle.items.proofs.Judging.{passed}
 use Rattle.station.proofs.Kept.{left-alone}
 use Rattle.demands.specs.Shown.{shownBy, valueSet, Held, showing, touches, changes, afterAll, noneChanges}
-
--- ---- what holds of each line of the table with its code, and of no item, holds of a code and its line
-
-abbrev pub eachHas : (ℕ → Item → Type 0) → List Item → Type 0
-eachHas P [] = Unit {0}
-eachHas P (i ∷ is) = P (i .code) i × eachHas P is
-
-row-at : (P : ℕ → Item → Type 0) → ((code : ℕ) → P code noItem) → (is : List Item) (code : ℕ) → eachHas P is → P code (rowIn is code)
-row-at P none [] code h = none code
-row-at P none (i ∷ is) code h = go (eqb code (i .code)) refl (row-at P none is code (h .1))
-  where
-    go : (b : Bool) → eqb code (i .code) ≡ b → P code (rowIn is code) → P code (pick b i (rowIn is code))
-    go true q rest = rw (eqb-true code (i .code) q) (h .0)
-    go false q rest = rest
-
-pub found-at : (P : ℕ → Item → Type 0) → ((code : ℕ) → P code noItem) → eachHas P items → (code : ℕ) → P code (rowOf code)
-unfolding rowOf
-found-at P none h code = row-at P none items code h
 
 -- ---- every other item is as it was
 
@@ -64,7 +46,7 @@ Leaves i a = (j : ℕ) → touches i j ≡ false → (s : Settings) (p : List �
 
 -- so it does if it leaves each line of the table that it does not touch
 leaves-each : (i : ℕ) (a : Item)
-    → eachHas (λ j b. touches i j ≡ false → (s : Settings) (p : List ℕ) → Same b s (a .stored s p)) items → Leaves i a
+    → Each (λ j b. touches i j ≡ false → (s : Settings) (p : List ℕ) → Same b s (a .stored s p)) items → Leaves i a
 leaves-each i a = found-at (λ j b. touches i j ≡ false → (s : Settings) (p : List ℕ) → Same b s (a .stored s p)) (λ j t s p q. refl)
 
 -- The state: an item that shows the same once the box is idle and once it runs, whatever the mode and the count.
@@ -87,38 +69,20 @@ state-leaves j t s p = go (eqb (runByte p) idle) (s .running) (steady j t)
 
 -- The table of pairs: what an item that is not touched shows of the settings stored computes to what it shows of those
 -- before. The first five items are never set.
-leave : eachHas Leaves items
-leave = (
-  λ j t s p q. refl,
-  (
-    λ j t s p q. refl,
-    (
-      λ j t s p q. refl,
-      (
-        λ j t s p q. refl,
-        (
-          λ j t s p q. refl,
-          (
-            state-leaves,
-            (
-              leaves-each 0x0020 frequency (search no-such depth 30),
-              (
-                leaves-each 0x0038 gain (search no-such depth 30),
-                (
-                  leaves-each 0x00B0 clock (search no-such depth 30),
-                  (
-                    leaves-each 0x00B8 rate (search no-such depth 30),
-                    (leaves-each 0x00C4 packetSize (search no-such depth 30), tt),
-                  ),
-                ),
-              ),
-            ),
-          ),
-        ),
-      ),
-    ),
-  ),
-)
+leave : Each Leaves items
+leave =
+    (λ j t s p q. refl)
+    ⨾ (λ j t s p q. refl)
+    ⨾ (λ j t s p q. refl)
+    ⨾ (λ j t s p q. refl)
+    ⨾ (λ j t s p q. refl)
+    ⨾ state-leaves
+    ⨾ (leaves-each 0x0020 frequency (search no-such depth 30))
+    ⨾ (leaves-each 0x0038 gain (search no-such depth 30))
+    ⨾ (leaves-each 0x00B0 clock (search no-such depth 30))
+    ⨾ (leaves-each 0x00B8 rate (search no-such depth 30))
+    ⨾ (leaves-each 0x00C4 packetSize (search no-such depth 30))
+    ⨾ tt
 
 -- Other items are unchanged: a set of one item, whatever its parameters, leaves the value of every other, but for the status
 -- where the state is set
@@ -176,39 +140,21 @@ state-shows size long s p room b may free q =
     go false true false same running mode may free = no-such _ _ (sym may)
     go false false r same running mode may free = refl
 
-show : eachHas Shows items
+show : Each Shows items
 unfolding shownBy
-show = (
-  λ size long. absurd (true-not-false (sym long)),
-  (
-    λ size long. absurd (true-not-false (sym long)),
-    (
-      λ size long. absurd (true-not-false (sym long)),
-      (
-        λ size long. absurd (true-not-false (sym long)),
-        (
-          λ size long. absurd (true-not-false (sym long)),
-          (
-            state-shows,
-            (
-              λ size long s p room b may free q. field-shown 1 5 p (omega (arith, eqb-true size 10 long)) b,
-              (
-                λ size long s p room b may free q. byte-shown 1 p (omega (arith, eqb-true size 6 long)) b,
-                (
-                  λ size long s p room b may free q. field-shown 1 4 p (omega (arith, eqb-true size 9 long)) b,
-                  (
-                    λ size long s p room b may free q. rw (nearest-d (field 1 4 p) may) refl,
-                    (λ size long s p room b may free q. byte-shown 0 p (omega (arith, eqb-true size 5 long)) b, tt),
-                  ),
-                ),
-              ),
-            ),
-          ),
-        ),
-      ),
-    ),
-  ),
-)
+show =
+    (λ size long. absurd (true-not-false (sym long)))
+    ⨾ (λ size long. absurd (true-not-false (sym long)))
+    ⨾ (λ size long. absurd (true-not-false (sym long)))
+    ⨾ (λ size long. absurd (true-not-false (sym long)))
+    ⨾ (λ size long. absurd (true-not-false (sym long)))
+    ⨾ state-shows
+    ⨾ (λ size long s p room b may free q. field-shown 1 5 p (omega (arith, eqb-true size 10 long)) b)
+    ⨾ (λ size long s p room b may free q. byte-shown 1 p (omega (arith, eqb-true size 6 long)) b)
+    ⨾ (λ size long s p room b may free q. field-shown 1 4 p (omega (arith, eqb-true size 9 long)) b)
+    ⨾ (λ size long s p room b may free q. rw (nearest-d (field 1 4 p) may) refl)
+    ⨾ (λ size long s p room b may free q. byte-shown 0 p (omega (arith, eqb-true size 5 long)) b)
+    ⨾ tt
 
 -- ---- what an accepted message passed
 
@@ -378,7 +324,7 @@ Offers code i =
     (fits (i .set) ≡ true) × (fits (i .request) ≡ true) × (fits (i .range) ≡ true)
     × ((kind size : ℕ) → isTotal (offered i kind) size ≡ true → listed code ≡ true)
 
-offers : eachHas Offers items
+offers : Each Offers items
 unfolding listed
 offers = search depth 30
 

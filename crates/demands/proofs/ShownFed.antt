@@ -17,6 +17,7 @@ use Rattle.wire.specs.Header.{lengthIn, typeIn, typeSet, typeRequest, typeData}
 use Rattle.framing.specs.Framing.{Taking}
 use Rattle.framing.specs.Framing.{allBytes, totalOf, headerIn, between, finished, taking, taken, couldBeLeft}
 use Rattle.framing.proofs.Cutting.{told}
+use Rattle.items.proofs.Rows.{found-at}
 use Rattle.items.specs.declared.Settings.{Settings}
 use Rattle.items.specs.Settings.{inRange, freshOf, withCount}
 use Rattle.items.specs.Items.{rowOf, listed}
@@ -31,7 +32,7 @@ use Rattle.demands.proofs.Reached.{feeding-keeps, cutting-keeps}
 use Rattle.demands.proofs.OneMessage.{tookAll, one-message}
 use Rattle.station.proofs.Kept.{serial-kept}
 use Rattle.demands.specs.Shown.{shownBy, valueSet, Held, showing, OneMessage, messageOf, resting, repliesWith, ShowsSets, finishedBy, naksAll, echoesOnly, Undisturbed, still, fed, cut}
-use Rattle.demands.proofs.Shown.{Same, found-at, message-leaves, asked-alike, asked-shows, answered-alike, has-value-set, set-replies}
+use Rattle.demands.proofs.Shown.{Same, message-leaves, asked-alike, asked-shows, answered-alike, has-value-set, set-replies}
 
 -- ---- one whole message, fed in one call to a box between messages
 

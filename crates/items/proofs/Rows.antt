@@ -9,21 +9,37 @@ use Rattle.wire.specs.Choice.{pick}
 use Rattle.wire.proofs.Laws.{true-not-false}
 use Rattle.items.specs.Items.{Item, items, noItem, listedIn, listed, rowIn, rowOf}
 
+-- of each line, with its code
+abbrev pub Each : (ℕ → Item → Type 0) → List Item → Type 0
+Each P [] = Unit {0}
+Each P (i ∷ is) = P (i .code) i × Each P is
+
+-- a line, and those after it
+infixr 5 _⨾_
+abbrev pub _⨾_ : {A B : Type 0} → A → B → A × B
+_⨾_ line rest = (line, rest)
+
+row-at : (P : ℕ → Item → Type 0) → ((code : ℕ) → P code noItem) → (is : List Item) (code : ℕ) → Each P is → P code (rowIn is code)
+row-at P none [] code h = none code
+row-at P none (i ∷ is) code h = go (eqb code (i .code)) refl (row-at P none is code (h .1))
+  where
+    go : (b : Bool) → eqb code (i .code) ≡ b → P code (rowIn is code) → P code (pick b i (rowIn is code))
+    go true q rest = rw (eqb-true code (i .code) q) (h .0)
+    go false q rest = rest
+
+pub found-at : (P : ℕ → Item → Type 0) → ((code : ℕ) → P code noItem) → Each P items → (code : ℕ) → P code (rowOf code)
+unfolding rowOf
+found-at P none h code = row-at P none items code h
+
+-- of each line, whatever its code
 abbrev pub allHave : (Item → Type 0) → List Item → Type 0
-allHave P [] = Unit {0}
-allHave P (i ∷ is) = P i × allHave P is
+allHave P = Each (λ code. P)
 
 pub row-has : (P : Item → Type 0) → P noItem → (is : List Item) (code : ℕ) → allHave P is → P (rowIn is code)
-row-has P none [] code h = none
-row-has P none (i ∷ is) code h = go (eqb code (i .code)) (row-has P none is code (h .1))
-  where
-    go : (b : Bool) → P (rowIn is code) → P (pick b i (rowIn is code))
-    go true rest = h .0
-    go false rest = rest
+row-has P none = row-at (λ code. P) (λ code. none)
 
 pub found : (P : Item → Type 0) → P noItem → allHave P items → (code : ℕ) → P (rowOf code)
-unfolding rowOf
-found P none h code = row-has P none items code h
+found P none = found-at (λ code. P) (λ code. none)
 
 -- the row of a listed code has that code
 code-in : (is : List Item) (code : ℕ) → listedIn is code ≡ true → rowIn is code .code ≡ code

@@ -13,7 +13,7 @@ use Rattle.tuning.specs.Bands.{inBands}
 use Rattle.tuning.specs.Word.{isClock}
 use Rattle.packets.specs.Numbers.{most}
 use Rattle.items.specs.declared.Settings.{Settings}
-use Rattle.items.specs.declared.Begun.{Begun}
+use Rattle.items.specs.declared.Began.{Began}
 
 -- RF gain: "signed byte 0, -10, -20 or -30"
 abbrev pub gains : List ℤ
@@ -70,7 +70,7 @@ abbrev pub isSerial : List ℕ → Bool
 isSerial serial = eqb (length serial) 8 && allSerial serial
 
 -- "serial not eight of A-Z, 0-9": 26, and "the fresh box has serial 00000000"
-abbrev pub freshAnswer : List ℕ → Begun
+abbrev pub freshAnswer : List ℕ → Began
 freshAnswer serial =
     pick (isSerial serial) (record { code = Code.done; settings = freshOf serial }) (record { code = Code.notASerial; settings = freshOf (replicate 8 0x30) })
 

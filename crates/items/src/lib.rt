@@ -28,7 +28,7 @@ pub struct Settings {
 }
 
 // A fresh box: the code of starting it, and its settings.
-pub struct Begun {
+pub struct Began {
     pub code: u8,
     pub settings: Settings,
 }

@@ -1,7 +1,7 @@
 // The settings' ranges: "A box with a field outside these rules is broken (21)."
 ghost use mathlib.Core.Path.{_≡_};
 ghost use Rattle.items.specs.Settings.{inRange, freshOf, freshAnswer, isMode, isGain, isSize, isSerialByte, allSerial};
-use crate::Begun;
+use crate::Began;
 use crate::Settings;
 use wire::codes;
 
@@ -21,11 +21,11 @@ pub fn in_range(s: Settings) -> bool
 }
 
 // A fresh box with a serial: 1, or 26 and the serial 00000000 where these are not eight of A-Z, 0-9.
-pub fn fresh(serial: &[u8]) -> Begun
+pub fn fresh(serial: &[u8]) -> Began
     ensures { λ r. ⌜ r ≡ freshAnswer (now (serial .entry)) ⌝ }
 {
     if serial.len() != 8 {
-        return Begun {
+        return Began {
             code: codes::NOT_A_SERIAL,
             settings: started([b'0'; 8]),
         };
@@ -41,12 +41,12 @@ pub fn fresh(serial: &[u8]) -> Begun
         serial[7],
     ];
     if !all_serial(own) {
-        return Begun {
+        return Began {
             code: codes::NOT_A_SERIAL,
             settings: started([b'0'; 8]),
         };
     }
-    Begun {
+    Began {
         code: codes::DONE,
         settings: started(own),
     }

@@ -3,7 +3,7 @@
 use Prim.Native.Nat.{ℕ, _*_, _<_}
 use mathlib.Core.Path.{_≡_, refl, sym, _∙_}
 use mathlib.Core.Bool.{Bool, true, false, _&&_, not}
-use mathlib.Core.List.{List, [], _∷_}
+use mathlib.Core.List.{List}
 use borrow.Author.Tests.{eq-eqb, eqb-true, eqb-false, leb-false, not-false}
 use lib.Dec.{eqb, ltb}
 use lib.IntN.{ℤ}
@@ -16,8 +16,9 @@ use Rattle.packets.specs.Numbers.{most}
 use Rattle.packets.specs.Samples.{allSamples}
 use Rattle.framing.specs.Framing.{taken, finished}
 use Rattle.items.specs.declared.Settings.{Settings}
-use Rattle.items.specs.Items.{Item, items, noItem, rowIn, rowOf, state, stateAfter, runByte, idle}
+use Rattle.items.specs.Items.{Item, rowOf, state, stateAfter, runByte, idle}
 use Rattle.items.specs.Answer.{Message, replyOf, codeOf, checks, refusedRunning, settingsAfter, row, parameters, itemIn}
+use Rattle.items.proofs.Rows.{_⨾_, found}
 use Rattle.station.specs.declared.Station.{Station}
 use Rattle.station.specs.Station.{valid}
 use Rattle.station.specs.Feeding.{Feeding, feedingOf, fedBy, messageIn, waiting, answered, refused as refuses}
@@ -77,20 +78,6 @@ Leaves i =
 abbrev Starts : Item → Type 0
 Starts i = (s : Settings) (p : List ℕ) → s .running ≡ false → i .stored s p .running ≡ true → i .stored s p .count ≡ 0
 
--- what is true of each item of a table
-abbrev Each : (Item → Type 0) → List Item → Type 0
-Each P [] = Unit {0}
-Each P (i ∷ is) = P i × Each P is
-
--- is true of the row of any code
-each-row : (P : Item → Type 0) (is : List Item) → P noItem → Each P is → (code : ℕ) → P (rowIn is code)
-each-row P [] none all code = none
-each-row P (i ∷ is) none all code = go (eqb code (i .code)) (each-row P is none (all .1) code)
-  where
-    go : (b : Bool) → P (rowIn is code) → P (pick b i (rowIn is code))
-    go true later = all .0
-    go false later = later
-
 -- idle stops the box, and run while running changes nothing
 state-leaves : Leaves state
 state-leaves s p r l a = go (eqb (runByte p) idle) refl
@@ -109,81 +96,37 @@ state-starts s p r a = go (eqb (runByte p) idle) refl
 
 -- name, serial, interface, versions and status; state; frequency, gain and clock; rate and packet size, which are locked
 rows-leave : (code : ℕ) → Leaves (rowOf code)
-unfolding rowOf
 rows-leave =
-    each-row Leaves items (λ s p r l a. refl) (
-      λ s p r l a. refl,
-      (
-        λ s p r l a. refl,
-        (
-          λ s p r l a. refl,
-          (
-            λ s p r l a. refl,
-            (
-              λ s p r l a. refl,
-              (
-                state-leaves,
-                (
-                  λ s p r l a. refl,
-                  (
-                    λ s p r l a. refl,
-                    (
-                      λ s p r l a. refl,
-                      (
-                        λ s p r l a. never (sym l),
-                        (
-                          λ s p r l a. never (sym l),
-                          tt,
-                        ),
-                      ),
-                    ),
-                  ),
-                ),
-              ),
-            ),
-          ),
-        ),
-      ),
-    )
+    found Leaves (λ s p r l a. refl)
+    ((λ s p r l a. refl)
+    ⨾ (λ s p r l a. refl)
+    ⨾ (λ s p r l a. refl)
+    ⨾ (λ s p r l a. refl)
+    ⨾ (λ s p r l a. refl)
+    ⨾ state-leaves
+    ⨾ (λ s p r l a. refl)
+    ⨾ (λ s p r l a. refl)
+    ⨾ (λ s p r l a. refl)
+    ⨾ (λ s p r l a. never (sym l))
+    ⨾ (λ s p r l a. never (sym l))
+    ⨾ tt)
 
 -- all but the state keep an idle box idle
 rows-start : (code : ℕ) → Starts (rowOf code)
-unfolding rowOf
 rows-start =
-    each-row Starts items (λ s p r a. never (sym r ∙ a)) (
-      λ s p r a. never (sym r ∙ a),
-      (
-        λ s p r a. never (sym r ∙ a),
-        (
-          λ s p r a. never (sym r ∙ a),
-          (
-            λ s p r a. never (sym r ∙ a),
-            (
-              λ s p r a. never (sym r ∙ a),
-              (
-                state-starts,
-                (
-                  λ s p r a. never (sym r ∙ a),
-                  (
-                    λ s p r a. never (sym r ∙ a),
-                    (
-                      λ s p r a. never (sym r ∙ a),
-                      (
-                        λ s p r a. never (sym r ∙ a),
-                        (
-                          λ s p r a. never (sym r ∙ a),
-                          tt,
-                        ),
-                      ),
-                    ),
-                  ),
-                ),
-              ),
-            ),
-          ),
-        ),
-      ),
-    )
+    found Starts (λ s p r a. never (sym r ∙ a))
+    ((λ s p r a. never (sym r ∙ a))
+    ⨾ (λ s p r a. never (sym r ∙ a))
+    ⨾ (λ s p r a. never (sym r ∙ a))
+    ⨾ (λ s p r a. never (sym r ∙ a))
+    ⨾ (λ s p r a. never (sym r ∙ a))
+    ⨾ state-starts
+    ⨾ (λ s p r a. never (sym r ∙ a))
+    ⨾ (λ s p r a. never (sym r ∙ a))
+    ⨾ (λ s p r a. never (sym r ∙ a))
+    ⨾ (λ s p r a. never (sym r ∙ a))
+    ⨾ (λ s p r a. never (sym r ∙ a))
+    ⨾ tt)
 
 -- an accepted set was not locked
 unlocked : (s : Settings) (m : Message) → codeOf s m ≡ 1 → m .type ≡ typeSet → s .running ≡ true → row m .locked s (parameters m) ≡ false

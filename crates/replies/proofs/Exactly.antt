@@ -4,7 +4,7 @@ use Prim.Native.Nat.{ℕ, zero, suc, _+_, _/_, _%_, _^_, _<_}
 use mathlib.Core.Path.{_≡_, refl, sym, ap, subst, _∙_}
 use mathlib.Core.Bool.{Bool, true, false, _&&_, _||_, not}
 use mathlib.Core.List.{List, [], _∷_, _++_}
-use mathlib.Core.Logic.{_⊎_, _↔_, inl, inr}
+use mathlib.Core.Logic.{_⊎_, inl, inr}
 use native.Mathlib.Omega.{arith}
 use lib.Dec.{eqb, ltb}
 use lib.ListN.{length, getD, replicate}
@@ -38,6 +38,7 @@ use Rattle.replies.specs.declared.Reply.the-variants.{Nak, Status, State
 use Rattle.replies.specs.Awaited.{awaited, isSerial, idleShown, runShown, stateShown, saysState, nameBytes, replyType, replyLayout, replyBytes, numberIn}
 use Rattle.replies.specs.Reading.{isReply, isNak, readCode, told, toldOf}
 use Rattle.replies.specs.Saying.{saysOf, saidBy}
+use Rattle.replies.specs.Exactly.{ReadAsSaid, Given, Exactly}
 use Rattle.replies.proofs.Same.{same-eq, eq-same}
 use Rattle.replies.proofs.Answers.{read-nak}
 use Rattle.replies.proofs.Recognised.{version-has, reply-read, reply-is-reply, is-reply-bytes, code-accepted, accepted-code}
@@ -265,8 +266,8 @@ module _ (w : Wish) (s : Settings) (e : allowed w ≡ true) (valid : inRange s �
           (reply-is-reply w (numberOf w (granted w s)) e (could-shown w s e (ranges s valid) eight now)))
 
   -- and read as what it says
-  pub box-reply-is-read : toldOf w (replyOf s (asMessage w)) ≡ told (saidBy w s)
-  box-reply-is-read = go (notNow w s) refl
+  read-as-said : toldOf w (replyOf s (asMessage w)) ≡ told (saidBy w s)
+  read-as-said = go (notNow w s) refl
     where
       go : (t : Bool) → notNow w s ≡ t → toldOf w (replyOf s (asMessage w)) ≡ told (pick t Nak (saysOf w (granted w s)))
       go true later = rw (refused-nak later) (sym (read-nak w nak e refl))
@@ -274,6 +275,9 @@ module _ (w : Wish) (s : Settings) (e : allowed w ≡ true) (valid : inRange s �
           rw (reply-shown now)
           (sym (reply-read w (numberOf w (granted w s)) e (could-shown w s e (ranges s valid) eight now))
           ∙ ap told (says-shown w (granted w s) (ranges (granted w s) (granted-valid now))))
+
+pub box-reply-is-read : ReadAsSaid
+box-reply-is-read = read-as-said
 
 -- ---- what is read, a valid box says
 
@@ -361,13 +365,6 @@ box-shows AskRate n e h = d-of-found n (ltb-true 0 (dOf n) h) .1
 box-shows (SetPacketSize m) n e h = sym (eqb-true n m h)
 box-shows AskPacketSize n e h = refl
 
--- a valid box gives these bytes to the wish
-pub record Given (w : Wish) (bs : List ℕ) : Type 0 where
-  pub settings : Settings
-  pub valid : inRange settings ≡ true
-  pub eight : length (settings .serial) ≡ 8
-  pub gives : replyOf settings (asMessage w) ≡ bs
-
 pub read-has-box : (w : Wish) (bs : List ℕ) → allowed w ≡ true → isReply w bs ≡ true → Given w bs
 read-has-box w bs e h =
     let n = numberIn w bs in
@@ -381,8 +378,7 @@ read-has-box w bs e h =
       gives = reply-shown w s e valid (box-eight w n) (box-now w n) ∙ ap (replyBytes w) (box-shows w n e could) ∙ sym (is-reply-bytes w bs h .1);
     }
 
--- "it accepts NAK for any other, and exactly those further replies that some valid box could give to it"
-pub exactly : (w : Wish) (bs : List ℕ) → allowed w ≡ true → (readCode w bs ≡ 1) ↔ ((bs ≡ nak) ⊎ Given w bs)
+pub exactly : Exactly
 exactly w bs e = (into, from)
   where
     into : readCode w bs ≡ 1 → (bs ≡ nak) ⊎ Given w bs

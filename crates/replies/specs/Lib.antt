@@ -1,3 +1,4 @@
 pub mod Awaited
 pub mod Reading
 pub mod Saying
+pub mod Exactly

@@ -8,10 +8,10 @@ use lib.Dec.{eqb}
 use lib.ListN.{getD}
 use Rattle.wire.specs.Choice.{pick}
 use Rattle.wire.specs.Told.{Told}
+use Rattle.wire.proofs.Firm.{OneEach, one-by, two-results-coincide}
 use Rattle.tuning.specs.Word.{wordOf, wordTold}
 use Rattle.tuning.specs.Word as tuning
 use Rattle.tuning.specs.declared.word.Word as Tuned
-use Rattle.wire.proofs.Firm.{OneEach, one-by, two-results-coincide}
 use Rattle.tuning.proofs.Words.{word-is}
 use Rattle.station.specs.declared.Station.{Station}
 use Rattle.station.specs.declared.Tuning.{Tuning}
