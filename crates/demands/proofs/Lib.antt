@@ -5,5 +5,6 @@ pub mod Packed
 pub mod Reached
 pub mod Shown
 pub mod ShownFed
+pub mod ShownInPieces
 pub mod Refused
 pub mod Written
