@@ -1,6 +1,8 @@
 pub mod Starred
 pub mod OneMessage
+pub mod InPieces
 pub mod Asked
+pub mod AskedInPieces
 pub mod Packed
 pub mod Reached
 pub mod Shown

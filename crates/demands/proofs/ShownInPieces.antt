@@ -1,73 +1,27 @@
--- Demand 2 of a host whose bytes come in pieces: no cuts matter, so what holds of whole messages, each in a piece of its
--- own, holds of any pieces of the same bytes.
+-- Demand 2 of a host whose bytes come in pieces: the two calls of ShownFed.antt, for any pieces of their bytes.
 -- Assumes nothing.
-use Prim.Native.Nat.{ℕ, zero, suc, _≤_}
-use native.Mathlib.Nat.{le-refl, le-trans}
+use Prim.Native.Nat.{ℕ, _≤_}
+use native.Mathlib.Nat.{le-refl}
 use native.Mathlib.Omega.{arith}
-use mathlib.Core.Path.{_≡_, refl, sym, ap, _∙_}
+use mathlib.Core.Path.{_≡_, ap, _∙_}
 use mathlib.Core.Bool.{true}
-use mathlib.Core.List.{List, [], _∷_, _++_, append-nil}
-use lib.ListN.{length, drop, drop-of-length-le}
-use Rattle.framing.specs.Framing.{Taking, between, taken}
-use Rattle.framing.proofs.Cutting.{told}
+use mathlib.Core.List.{List, [], _∷_, append-nil}
+use lib.ListN.{length}
+use Rattle.framing.specs.Framing.{between, taken}
 use Rattle.items.specs.declared.Settings.{Settings}
 use Rattle.items.specs.Answer.{settingsAfter}
-use Rattle.station.specs.declared.Station.{Station}
 use Rattle.station.specs.Station.{valid}
-use Rattle.station.specs.Feeding.{messageIn, feedingOf}
-use Rattle.station.specs.Serving.{Served, unserved, noting, called, calling, Piece, serving, joined, roomy}
+use Rattle.station.specs.Feeding.{feedingOf}
+use Rattle.station.specs.Serving.{Served, unserved, noting, called, serving}
 use Rattle.station.proofs.Kept.{serial-kept}
-use Rattle.station.proofs.Serving.{cuts-do-not-matter}
-use Rattle.station.proofs.Short.{reply-short}
-use Rattle.station.proofs.Valid.{feeding-answered}
 use Rattle.demands.specs.Shown.{OneMessage, messageOf, resting, valueSet, showing}
 use Rattle.demands.specs.ShownInPieces.{SetShowsLaterInPieces}
 use Rattle.demands.proofs.OneMessage.{tookAll, one-message}
 use Rattle.demands.proofs.Reached.{feeding-keeps}
 use Rattle.demands.proofs.ShownFed.{message-fed, fed-set-shows}
+use Rattle.demands.proofs.InPieces.{whole, message-served, pieces-served}
 
--- a piece that has all of some bytes
-abbrev pub whole : List ℕ → Piece
-whole host = record { rooms = λ calls. 64; host = host }
-
--- ---- a whole message in a piece of its own: one call takes it
-
-calling-none : (rooms : ℕ → ℕ) (calls : ℕ) (r : Served) → calling rooms calls r [] ≡ r
-unfolding calling
-calling-none rooms zero r = refl
-calling-none rooms (suc calls) r = refl
-
--- after a call that has consumed all there is no other
-called-once : (r : Served) (host : List ℕ) → 1 ≤ length host → feedingOf (r .station) host 64 .fed .consumed ≡ length host
-    → calling (λ calls. 64) (length host) r host ≡ called 64 r host
-unfolding calling
-called-once r [] some all = absurd (omega arith)
-called-once r (b ∷ bs) some all =
-    ap (calling (λ calls. 64) (length bs) (called 64 r (b ∷ bs)))
-    (ap (λ (n : ℕ). drop n (b ∷ bs)) all ∙ drop-of-length-le (b ∷ bs) (le-refl (length (b ∷ bs))))
-    ∙ calling-none (λ calls. 64) (length bs) (called 64 r (b ∷ bs))
-
-module _ (s : Settings) (v : valid (resting s) ≡ true) (eight : length (s .serial) ≡ 8) where
-  message-consumed : (m : List ℕ) → taken between m ≡ tookAll m → feedingOf (resting s) m 64 .fed .consumed ≡ length m
-  message-consumed m took =
-      rw (feeding-answered s between m 64 v (told 0 between m ∙ ap (λ (t : Taking). t .finished) took)
-      (reply-short s (messageIn (taken between m .store)) eight))
-      (ap (λ (t : Taking). t .count) took)
-
-  pub message-served : (m : List ℕ) (replies : List (List ℕ)) (rest : List Piece) → taken between m ≡ tookAll m → 1 ≤ length m
-      → serving (record { station = resting s; replies = replies }) (whole m ∷ rest)
-      ≡ serving (called 64 (record { station = resting s; replies = replies }) m) rest
-  unfolding serving
-  message-served m replies rest took some =
-      ap (λ (r : Served). serving r rest)
-      (called-once (record { station = resting s; replies = replies }) m some (message-consumed m took))
-
-  -- any pieces are as good as whole messages
-  pub pieces-served : (pieces wholes : List Piece) → roomy pieces → roomy wholes → joined pieces ≡ joined wholes
-      → serving (unserved (resting s)) pieces ≡ serving (unserved (resting s)) wholes
-  pieces-served pieces wholes enough more same =
-      cuts-do-not-matter (resting s) pieces wholes v (record { serial = eight; held = refl }) enough more same
-
+-- a whole message is taken in one call
 module _ (m : List ℕ) (one : OneMessage m) where
   took : taken between m ≡ tookAll m
   took = one-message m (one .announces) (one .least) (one .most)
@@ -75,7 +29,7 @@ module _ (m : List ℕ) (one : OneMessage m) where
   some : 1 ≤ length m
   some = omega (arith, one .least)
 
--- a set and a request, each in one call
+-- two messages, each in one call
 two-served : (s : Settings) (m q : List ℕ) → valid (resting s) ≡ true → length (s .serial) ≡ 8 → OneMessage m → OneMessage q
     → serving (unserved (resting s)) (whole m ∷ whole q ∷ []) ≡ called 64 (called 64 (unserved (resting s)) m) q
 unfolding serving

@@ -1,5 +1,6 @@
 pub mod Starred
 pub mod Asked
+pub mod AskedInPieces
 pub mod Packed
 pub mod Reached
 pub mod Shown
