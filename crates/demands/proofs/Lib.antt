@@ -1,9 +1,12 @@
 pub mod Starred
 pub mod OneMessage
+pub mod InPieces
 pub mod Asked
+pub mod AskedInPieces
 pub mod Packed
 pub mod Reached
 pub mod Shown
 pub mod ShownFed
+pub mod ShownInPieces
 pub mod Refused
 pub mod Written

@@ -1,0 +1,102 @@
+-- Demand 2 of a host whose bytes come in pieces: what the harvester asks is what the box understands.
+-- Assumes nothing.
+use Prim.Native.Nat.{ℕ, _≤_}
+use native.Mathlib.Nat.{le-refl}
+use native.Mathlib.Omega.{arith}
+use mathlib.Core.Path.{_≡_, refl, sym, ap, _∙_}
+use mathlib.Core.Bool.{Bool, true, false}
+use mathlib.Core.List.{List, [], _∷_, map, append-nil}
+use lib.Dec.{eqb, lit≤}
+use lib.ListN.{length}
+use Rattle.wire.specs.Choice.{pick}
+use Rattle.wire.specs.Codes.{boxWrites}
+use Rattle.wire.specs.Header.{typeRange, typeReply, typeRangeReply}
+use Rattle.framing.specs.Framing.{announced, between, taken}
+use Rattle.framing.proofs.Leaving.{between-left}
+use Rattle.layouts.proofs.Sizes.{least, length-laid}
+use Rattle.items.specs.declared.Settings.{Settings}
+use Rattle.items.specs.Settings.{inRange}
+use Rattle.items.specs.Answer.{Message, row, parameters, settingsAfter, framed, replyBody, rangeBody}
+use Rattle.station.specs.Station.{valid}
+use Rattle.station.specs.Feeding.{messageIn, feedingOf}
+use Rattle.station.specs.Serving.{Served, unserved, noting, called, Piece, serving, joined, roomy}
+use Rattle.station.proofs.Valid.{valid-both}
+use Rattle.wishes.specs.declared.Wish.{Wish}
+use Rattle.wishes.specs.Wishes.{layoutOf, messageOf, notNow}
+use Rattle.wishes.specs.Writing.{writeCode, bytesWritten}
+use Rattle.wishes.proofs.Rows.{by-wish, short-message}
+use Rattle.replies.specs.Reading.{Told, toldOf}
+use Rattle.demands.specs.Shown.{resting}
+use Rattle.demands.specs.Written.{replyDue}
+use Rattle.demands.specs.Asked.{Understands}
+use Rattle.demands.specs.AskedInPieces.{UnderstandsInPieces, WhatIsAskedIsUnderstoodInPieces}
+use Rattle.demands.proofs.OneMessage.{tookAll, one-message}
+use Rattle.demands.proofs.Asked.{what-is-asked-is-understood}
+use Rattle.demands.proofs.Written.{feeds-by-the-table, wishes-by-the-table}
+use Rattle.demands.proofs.InPieces.{whole, message-served, pieces-served}
+
+-- ---- a wish's message is one whole message
+
+announces : (w : Wish) → announced (messageOf w) ≡ length (messageOf w)
+unfolding messageOf
+announces =
+    by-wish (λ w. announced (messageOf w) ≡ length (messageOf w)) refl refl refl (λ _. refl) refl (λ _. refl) refl (λ _. refl) refl refl
+    (λ _. refl) refl (λ _. refl) refl (λ _. refl) refl (λ _. refl) refl
+
+length-wish : (w : Wish) → (4 ≤ length (messageOf w)) × (length (messageOf w) ≤ 64)
+unfolding messageOf
+length-wish w = let long = length-laid (layoutOf w) in (omega (arith, least (layoutOf w)), omega (arith, short-message w))
+
+wish-taken : (w : Wish) → taken between (messageOf w) ≡ tookAll (messageOf w)
+wish-taken w = let l = length-wish w in one-message (messageOf w) (announces w) (omega arith) (l .1)
+
+wish-written : (w : Wish) (buffer : ℕ) → writeCode w buffer ≡ 1 → bytesWritten w buffer ≡ messageOf w
+wish-written w buffer e = rw e at (wishes-by-the-table w buffer)
+
+-- ---- and gets one reply
+
+-- done or not while running: neither is silent
+aloud : (wait : Bool) (s : Settings) (m : Message) → 1 ≤ length (boxWrites (pick wait 17 1) (replyDue s m))
+aloud true s m = lit≤ tt
+aloud false s m = go (eqb (m .type) typeRange)
+  where
+    go : (range : Bool)
+        → 1 ≤ length (pick range (framed typeRangeReply (rangeBody (row m) (parameters m))) (framed typeReply (replyBody (row m) (settingsAfter s m) (parameters m))))
+    go true = omega arith
+    go false = omega arith
+
+read-once : (w : Wish) (reply : List ℕ) → 1 ≤ length reply → map (toldOf w) (noting [] reply) ≡ toldOf w reply ∷ []
+read-once w [] some = absurd (omega arith)
+read-once w (b ∷ bs) some = refl
+
+understood-in-pieces : (w : Wish) (s : Settings) (pieces : List Piece) → inRange s ≡ true → length (s .serial) ≡ 8
+    → roomy pieces → joined pieces ≡ messageOf w → Understands w (messageOf w) s 64 → UnderstandsInPieces w pieces s
+unfolding serving
+understood-in-pieces w s pieces ranged eight enough same u =
+    record {
+      does = ap (λ (r : Served). r .station) served ∙ u .does;
+      says =
+          ap (λ (r : Served). map (toldOf w) (r .replies)) served
+          ∙ read-once w (feedingOf (resting s) (messageOf w) 64 .bytes) some
+          ∙ ap (λ (t : Told). t ∷ []) (u .says);
+    }
+  where
+    v : valid (resting s) ≡ true
+    v = valid-both s between ranged between-left
+
+    served : serving (unserved (resting s)) pieces ≡ called 64 (unserved (resting s)) (messageOf w)
+    served =
+        let l = length-wish w in
+        pieces-served s v eight pieces (whole (messageOf w) ∷ []) enough (λ n. le-refl 64, tt) (same ∙ sym (append-nil (messageOf w)))
+        ∙ message-served s v eight (messageOf w) [] [] (wish-taken w) (omega arith)
+
+    some : 1 ≤ length (feedingOf (resting s) (messageOf w) 64 .bytes)
+    some =
+        rw (feeds-by-the-table (resting s) (messageOf w) 64 .bytes, u .code)
+        (aloud (notNow w s) s (messageIn (taken between (messageOf w) .store)))
+
+pub what-is-asked-is-understood-in-pieces : WhatIsAskedIsUnderstoodInPieces
+what-is-asked-is-understood-in-pieces w buffer e s ranged eight pieces enough same =
+    let written = wish-written w buffer e in
+    understood-in-pieces w s pieces ranged eight enough (same ∙ written)
+    (rw written at (what-is-asked-is-understood w buffer e s ranged eight 64 (le-refl 64)))
