@@ -4,7 +4,7 @@
 use std::env;
 
 fn main() {
-    for name in ["DOOR_FOLDER", "PEER_OBJECT"] {
+    for name in ["DOOR_FOLDER", "PEER_FOLDER"] {
         println!("cargo:rerun-if-env-changed={name}");
         println!("cargo:rustc-check-cfg=cfg(proved)\ncargo:rustc-check-cfg=cfg(peer)");
     }
@@ -16,9 +16,11 @@ fn main() {
         }
         println!("cargo:rustc-cfg=proved");
     }
-    if let Ok(object) = env::var("PEER_OBJECT") {
-        println!("cargo:rerun-if-changed={object}");
-        println!("cargo:rustc-link-arg-bin=bench={object}");
+    if let Ok(folder) = env::var("PEER_FOLDER") {
+        for program in ["bench", "pieces"] {
+            println!("cargo:rerun-if-changed={folder}/{program}.o");
+            println!("cargo:rustc-link-arg-bin={program}={folder}/{program}.o");
+        }
         println!("cargo:rustc-cfg=peer");
     }
 }

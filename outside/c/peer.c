@@ -224,6 +224,7 @@ static int feed(struct station *s, const uint8_t *host, size_t n, uint8_t *reply
     return code;
 }
 
+#ifndef PIECES /* feeding has one caller in each object, as it has in the proved library's */
 size_t peer_serve(const uint8_t *host, size_t n, uint8_t *replies, size_t room)
 {
     struct station s;
@@ -237,6 +238,54 @@ size_t peer_serve(const uint8_t *host, size_t n, uint8_t *replies, size_t room)
     }
     return at;
 }
+
+#else
+/* A box of 108 bytes: frequency 8, count 8, clock 4, D 4, running 1, mode 1, gain 1, size 1, serial 8, held 64, taken 8. */
+enum { STATION_BYTES = 108 };
+
+static void station_in(struct station *s, const uint8_t *b)
+{
+    s->frequency = get(b, 8);
+    s->count = get(b + 8, 8);
+    s->clock = get(b + 16, 4);
+    s->divisor = get(b + 20, 4);
+    s->running = b[24];
+    s->mode = b[25];
+    s->gain = b[26];
+    s->size = b[27];
+    memcpy(s->serial, b + 28, 8);
+    memcpy(s->held, b + 36, HELD);
+    s->taken = get(b + 100, 8);
+}
+
+static void put_station(uint8_t *b, const struct station *s)
+{
+    put(b, s->frequency, 8);
+    put(b + 8, s->count, 8);
+    put(b + 16, s->clock, 4);
+    put(b + 20, s->divisor, 4);
+    b[24] = s->running;
+    b[25] = s->mode;
+    b[26] = s->gain;
+    b[27] = s->size;
+    memcpy(b + 28, s->serial, 8);
+    memcpy(b + 36, s->held, HELD);
+    put(b + 100, s->taken, 8);
+}
+
+/* One call of feeding on a box in bytes, which are written back only where it was not refused. */
+int peer_feed(uint8_t *state, size_t bytes, const uint8_t *host, size_t n, uint8_t *reply, size_t room,
+              size_t *consumed, size_t *wrote)
+{
+    struct station s;
+    *consumed = *wrote = 0;
+    if (bytes != STATION_BYTES) return 21;
+    station_in(&s, state);
+    int code = feed(&s, host, n, reply, room, consumed, wrote);
+    if (code < 20) put_station(state, &s);
+    return code;
+}
+#endif
 
 static uint16_t number_at(uint64_t position) { return position == 0 ? 0 : (position - 1) % 65535 + 1; }
 

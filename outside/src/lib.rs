@@ -18,6 +18,7 @@ pub mod reader;
 pub mod reply;
 pub mod span;
 pub mod station;
+pub mod timing;
 pub mod tuning;
 pub mod wish;
 

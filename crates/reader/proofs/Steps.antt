@@ -1,13 +1,15 @@
--- A step, in numbers: at most two turns, and 1 to the very next packet.
-use Prim.Native.Nat.{ℕ, _+_, _≤_}
+-- A step leads to the first position above that has the number: positions with one number lie 65,535 apart. Assumes nothing.
+use Prim.Native.Nat.{ℕ, zero, suc, _+_, _*_, _%_, _≤_, _<_}
 use mathlib.Core.Path.{_≡_}
 use native.Mathlib.Omega.{arith}
 use native.Mathlib.Decide.{decLt}
 use Rattle.packets.specs.Numbers.{numberAt, stepOf}
-use Rattle.packets.proofs.Numbers.{step-above, step-not-above, step-between}
+use Rattle.packets.proofs.Numbers.{step-above, step-not-above}
 
-pub step-small : (s t : ℕ) → t ≤ 65_535 → stepOf s t ≤ 131_070
-step-small s t h = elim (decLt s t) [ yes l ↦ omega (arith, step-above s t l) | no l ↦ omega (arith, step-not-above s t (omega arith)) ]
-
-pub step-one : (p t : ℕ) → numberAt (p + 1) ≡ t → p + 1 ≡ p + stepOf (numberAt p) t
-step-one p t e = rw (← e) (omega (arith, step-between p (p + 1) (omega arith) (omega arith)))
+pub step-to : (p q t n : ℕ) → q ≡ 65_535 * n + t → 0 < t → t ≤ 65_535 → p < q → q ≤ p + 65_535 → q ≡ p + stepOf (numberAt p) t
+step-to zero q t n has some few above near = omega (arith, step-above 0 t some)
+step-to (suc p) q t n has some few above near =
+    elim (decLt (p % 65_535 + 1) t) [
+      | yes l ↦ omega (arith, step-above (p % 65_535 + 1) t l)
+      | no l ↦ omega (arith, step-not-above (p % 65_535 + 1) t (omega arith))
+    ]

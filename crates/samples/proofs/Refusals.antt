@@ -1,19 +1,21 @@
 -- When packing and unpacking refuse, and that a listed form leaves room for what its loop writes. Assumes nothing.
-use Prim.Native.Nat.{ℕ, _+_, _*_, _/_, _≤_, _<_}
-use mathlib.Core.Path.{_≡_, sym, _∙_}
+use Prim.Native.Nat.{ℕ, _+_, _*_, _/_, _%_, _≤_, _<_}
+use mathlib.Core.Path.{_≡_, refl, sym, _∙_}
 use mathlib.Core.Logic.{⊎-elim}
-use mathlib.Core.Bool.{Bool, true, false}
+use mathlib.Core.Bool.{Bool, true, false, _||_}
 use mathlib.Core.List.{List, []}
 use native.Mathlib.Nat.{mul-comm}
+use native.Mathlib.Omega.{arith}
+use lib.Dec.{eqb}
 use lib.IntN.{ℤ}
 use lib.ListN.{length, drop}
 use lib.Seq.{sets}
-use borrow.Author.Tests.{eq-eqb, ne-eqb, le-leb, lt-leb}
+use borrow.Author.Tests.{eqb-true, eq-eqb, ne-eqb, le-leb, lt-leb}
 use Rattle.wire.specs.Choice.{pick}
 use Rattle.packets.specs.declared.Form.{Form}
 use Rattle.packets.specs.Forms.{listed, totalOf}
 use Rattle.packets.specs.Samples.{allSamples, samplesBytes, samplesFrom}
-use Rattle.packets.proofs.Forms.{is-listed-form}
+use Rattle.packets.proofs.Forms.{is-listed-form, of-listed}
 use Rattle.samples.specs.Packing.{mayPack, packedOf, mayUnpack, unpackedOf}
 
 -- a listed form that is not of 24 bits is of 16
@@ -24,6 +26,12 @@ other-width f l h = ⊎-elim (λ w. absurd (h w)) (λ w. w) (is-listed-form f l 
 pub room-for : (f : Form) (w n size : ℕ) → f .bits / 8 ≡ w → n ≡ 2 * f .pairs → totalOf f ≤ size → 4 + w * n ≤ size
 room-for f w n size is count room =
     rw (← is, count, mul-comm (f .bits / 8) (2 * f .pairs), mul-comm 2 (f .pairs)) room
+
+-- at 16 bits the pairs are blocks of 64
+pub whole-blocks : (f : Form) → listed f ≡ true → f .bits ≡ 16 → 128 * (f .pairs / 64) ≡ 2 * f .pairs
+whole-blocks f l w =
+    let none-left : eqb (f .pairs % 64) 0 ≡ true = rw w at (of-listed (λ g. eqb (g .bits) 24 || eqb (g .pairs % 64) 0) refl f l) in
+    omega (arith, eqb-true (f .pairs % 64) 0 none-left)
 
 -- ---- packing
 

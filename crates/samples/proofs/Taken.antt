@@ -1,12 +1,14 @@
 -- Taking samples one after the other out of a packet, at any width. Assumes nothing.
-use Prim.Native.Nat.{ℕ, suc, _+_, _*_, _-_, _/_, _%_, _≤_, _<_}
-use mathlib.Core.Path.{_≡_, sym, ap}
+use Prim.Native.Nat.{ℕ, zero, suc, _+_, _*_, _-_, _/_, _%_, _≤_, _<_}
+use mathlib.Core.Path.{_≡_, sym, ap, _∙_}
 use mathlib.Core.List.{List}
+use native.Mathlib.Decide.{ℕ-discrete}
+use native.Mathlib.Nat.{add-zero, zero-add}
 use native.Mathlib.Numerals.{add-one}
 use native.Mathlib.Omega.{arith}
 use lib.IntN.{ℤ}
-use lib.ListN.{length, getD, set, drop}
-use lib.Seq.{sets}
+use lib.ListN.{length, getD, set, drop, length-set}
+use lib.Seq.{sets, getD-set-same, getD-set-other}
 use Rattle.wire.specs.Number.{field}
 use Rattle.wire.specs.Signed.{signed}
 use Rattle.packets.specs.Samples.{sampleAt, samplesFrom}
@@ -40,18 +42,49 @@ unpack-turn bits s out whole i n z h is done =
     let left : n - i ≡ suc (n - (i + 1)) = omega arith in
     rw (is, add-one i) (rw (left, add-one i) at done)
 
--- two turns, for I and Q of a pair
-pub unpack-pair : (bits : ℕ) (s : List ℕ) (out whole : List ℤ) (i pairs : ℕ) (y z : ℤ) → i < pairs → y ≡ sampleAt bits s (2 * i) → z ≡ sampleAt bits s (2 * i + 1)
-    → sets out (2 * i) (samplesFrom bits s (2 * i) (2 * pairs - 2 * i)) ≡ whole
-    → sets (set (set out (2 * i) y) (2 * i + 1) z) (2 * (i + 1)) (samplesFrom bits s (2 * (i + 1)) (2 * pairs - 2 * (i + 1))) ≡ whole
-unpack-pair bits s out whole i pairs y z h first second done =
-    let next : 2 * (i + 1) ≡ 2 * i + 1 + 1 = omega arith in
-    rw next
-    (unpack-turn bits s (set out (2 * i) y) whole (2 * i + 1) (2 * pairs) z (omega arith) second
-    (unpack-turn bits s out whole (2 * i) (2 * pairs) y (omega arith) first done))
+-- Many turns at once: the samples from the i-th to the e-th are stored, and what is still to be stored gives the whole.
+two-runs : (bits : ℕ) (s : List ℕ) (out : List ℤ) (i a n : ℕ)
+    → sets (sets out i (samplesFrom bits s i a)) (i + a) (samplesFrom bits s (i + a) n) ≡ sets out i (samplesFrom bits s i (a + n))
+two-runs bits s out i zero n = rw (add-zero i, zero-add n)
+two-runs bits s out i (suc a) n =
+    let next : i + suc a ≡ i + 1 + a = omega arith in
+    let count : suc a + n ≡ suc (a + n) = omega arith in
+    rw (next, count, add-one i) (rw (add-one i) at (two-runs bits s (set out i (sampleAt bits s i)) (i + 1) a n))
+
+pub unpack-block : (bits : ℕ) (s : List ℕ) (out whole : List ℤ) (i e n : ℕ) → i ≤ e → e ≤ n → sets out i (samplesFrom bits s i (n - i)) ≡ whole
+    → sets (sets out i (samplesFrom bits s i (e - i))) e (samplesFrom bits s e (n - e)) ≡ whole
+unpack-block bits s out whole i e n from to done =
+    let end : i + (e - i) ≡ e = omega arith in
+    let all : e - i + (n - e) ≡ n - i = omega arith in
+    rw (end, all) at (two-runs bits s out i (e - i) (n - e)) ∙ done
 
 -- all is stored
 pub unpack-end : (bits : ℕ) (s : List ℕ) (out whole : List ℤ) (i n : ℕ) → n ≤ i → sets out i (samplesFrom bits s i (n - i)) ≡ whole → out ≡ whole
 unpack-end bits s out whole i n h done =
     let none : n - i ≡ 0 = omega arith in
     rw none at done
+
+-- ---- 16-bit numbers held for a while
+
+-- the first n numbers held stand for the samples from one on
+abbrev pub Holds : List ℕ → ℕ → List ℕ → ℕ → Type 0
+Holds s from held n = (j : ℕ) → j < n → signed 16 (getD held j 0) ≡ sampleAt 16 s (from + j)
+
+hold-turn : (s : List ℕ) (from : ℕ) (held : List ℕ) (n v : ℕ) → n < length held → signed 16 v ≡ sampleAt 16 s (from + n) → Holds s from held n → Holds s from (set held n v) (n + 1)
+hold-turn s from held n v room is so j h =
+    elim (ℕ-discrete j n) [
+      | yes here ↦ rw here (ap (signed 16) (getD-set-same held n v 0 room) ∙ is)
+      | no there ↦ ap (signed 16) (getD-set-other held n j v 0 there) ∙ so j (omega arith)
+    ]
+
+-- the halves of the word that holds a pair are held
+pub hold-pair : (p held : List ℕ) (first i w : ℕ) → ((k : ℕ) → getD p k 0 < 256) → 4 + 4 * (first + i + 1) ≤ length p → 2 * i + 1 < length held → w ≡ field (4 + 4 * (first + i)) 4 p
+    → Holds (drop 4 p) (2 * first) held (2 * i) → Holds (drop 4 p) (2 * first) (set (set held (2 * i) (w % 65_536)) (2 * i + 1) (w / 65_536)) (2 * (i + 1))
+hold-pair p held first i w small long room is so =
+    let pair = pair-16 p (first + i) w small long is in
+    let one : 2 * (first + i) ≡ 2 * first + 2 * i = omega arith in
+    let two : 2 * first + 2 * i + 1 ≡ 2 * first + (2 * i + 1) = omega arith in
+    let next : 2 * (i + 1) ≡ 2 * i + 1 + 1 = omega arith in
+    rw next
+    (hold-turn (drop 4 p) (2 * first) (set held (2 * i) (w % 65_536)) (2 * i + 1) (w / 65_536) (simp length-set room) (rw (one, two) at (pair .1))
+    (hold-turn (drop 4 p) (2 * first) held (2 * i) (w % 65_536) (omega arith) (rw one at (pair .0)) so))

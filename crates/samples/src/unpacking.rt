@@ -1,7 +1,7 @@
 // Unpacking: the bytes after a packet's four leading bytes, as signed numbers of the width sent.
 use packets::Form;
 ghost use mathlib.Core.Path.{_≡_};
-ghost use Prim.Native.Nat.{_+_, _*_, _≤_, _<_};
+ghost use Prim.Native.Nat.{_+_, _*_, _-_, _≤_, _<_};
 ghost use lib.ListN.{length, drop};
 ghost use lib.Seq.{sets};
 ghost use Rattle.wire.specs.Number.{field};
@@ -33,11 +33,10 @@ fn sign24(v: u32) -> i32
 }
 
 // The number that 16 bits stand for.
-fn sign16(v: u32) -> i32
-    requires { ⌜ v < 65536 ⌝ }
+fn sign16(v: u16) -> i32
     ensures { λ r. ⌜ r ≡ signed 16 v ⌝ }
 {
-    ((v + 32768) % 65536) as i32 - 32768
+    ((v as u32 + 32768) % 65536) as i32 - 32768
 }
 
 // Reads a sample from the word that ends with its three bytes: the four leading bytes see to it that one byte more stands
@@ -53,16 +52,39 @@ fn unpack24(packet: &[u8], out: &mut [i32], n: usize)
     }
 }
 
-// Reads I and Q of a pair from one word.
-fn unpack16(packet: &[u8], out: &mut [i32], pairs: usize)
-    requires { ⌜ (4 + 4 * pairs ≤ length (now packet)) × (2 * pairs ≤ length (now out)) ⌝ }
-    ensures { λ r. ⌜ now (out .exit) ≡ sets (now (out .entry)) 0 (samplesFrom 16 (drop 4 (now (packet .entry))) 0 (2 * pairs)) ⌝ }
+// Reads 64 pairs from the first on, eight in a round. The words of a round go by way of an array of 16-bit numbers: the
+// compiler makes a plain copy of the first inner loop, and reads the samples at once where they are written; no array is left.
+fn block16(packet: &[u8], out: &mut [i32], first: usize)
+    requires { ⌜ (4 + 4 * (first + 64) ≤ length (now packet)) × (2 * (first + 64) ≤ length (now out)) ⌝ }
+    ensures { λ r. ⌜ now (out .exit) ≡ sets (now (out .entry)) (2 * first) (samplesFrom 16 (drop 4 (now (packet .entry))) (2 * first) (2 * (first + 64) - 2 * first)) ⌝ }
+{
+    let mut held = [0u16; 128];
+    let mut round = 0;
+    while round < 8 {
+        let mut i = 8 * round;
+        while i < 8 * round + 8 {
+            let pair = word(packet, 4 + 4 * (first + i));
+            held[2 * i] = (pair % 65536) as u16;
+            held[2 * i + 1] = (pair / 65536) as u16;
+            i += 1;
+        }
+        let mut k = 16 * round;
+        while k < 16 * round + 16 {
+            out[2 * first + k] = sign16(held[k]);
+            k += 1;
+        }
+        round += 1;
+    }
+}
+
+// Reads blocks of 64 pairs.
+fn unpack16(packet: &[u8], out: &mut [i32], blocks: usize)
+    requires { ⌜ (4 + 256 * blocks ≤ length (now packet)) × (128 * blocks ≤ length (now out)) ⌝ }
+    ensures { λ r. ⌜ now (out .exit) ≡ sets (now (out .entry)) 0 (samplesFrom 16 (drop 4 (now (packet .entry))) 0 (128 * blocks)) ⌝ }
 {
     let mut i = 0;
-    while i < pairs {
-        let pair = word(packet, 4 + 4 * i);
-        out[2 * i] = sign16(pair % 65536);
-        out[2 * i + 1] = sign16(pair / 65536);
+    while i < blocks {
+        block16(packet, out, 64 * i);
         i += 1;
     }
 }
@@ -86,6 +108,6 @@ pub fn unpack(f: Form, packet: &[u8], out: &mut [i32]) -> bool
         unpack24(packet, out, 2 * pairs);
         return true;
     }
-    unpack16(packet, out, pairs);
+    unpack16(packet, out, pairs / 64);
     true
 }

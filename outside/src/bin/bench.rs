@@ -14,6 +14,7 @@ use std::time::Instant;
 
 use outside::packet::number_at;
 use outside::random::Random;
+use outside::timing::{best, c_absent, digest, head, proved_absent, row, runners, talk, MESSAGE, MESSAGES};
 use outside::{reader, station, Form, Head};
 
 #[cfg(peer)]
@@ -26,70 +27,9 @@ mod peer {
     }
 }
 
-/// Who is timed: the columns of the table.
-#[derive(Clone, Copy, PartialEq)]
-enum Who {
-    Proved,
-    Rust,
-    C,
-}
-
-/// One way to do a row's work, and whether it did it right.
-struct Runner<'a> {
-    who: Who,
-    run: Box<dyn FnMut() -> u64 + 'a>,
-}
-
-/// The best time of each runner, in nanoseconds for each of the `parts` that one run does.
-fn best(runners: &mut [Runner], parts: f64, rounds: usize) -> Vec<(Who, f64)> {
-    let right = (runners[0].run)();
-    for runner in runners.iter_mut() {
-        assert_eq!((runner.run)(), right, "the runners disagree");
-    }
-    let mut found: Vec<(Who, f64)> = runners.iter().map(|runner| (runner.who, f64::INFINITY)).collect();
-    for _ in 0..rounds {
-        for (runner, (_, least)) in runners.iter_mut().zip(&mut found) {
-            let start = Instant::now();
-            black_box((runner.run)());
-            *least = least.min(start.elapsed().as_nanos() as f64 / parts);
-        }
-    }
-    found
-}
-
-fn row(what: &str, found: &[(Who, f64)], wanted: Option<f64>) {
-    let time = |who| found.iter().find(|(w, _)| *w == who).map(|(_, t)| *t);
-    let cell = |value: Option<f64>| value.map_or("-".into(), |v| format!("{v:.1}"));
-    let ratio = |a: Option<f64>, b: Option<f64>| match (a, b) {
-        (Some(a), Some(b)) => format!("{:.2}", a / b),
-        _ => "-".into(),
-    };
-    let (proved, rust, c) = (time(Who::Proved), time(Who::Rust), time(Who::C));
-    println!(
-        "| {what} | {} | {} | {} | {} | {} | {} |",
-        cell(proved),
-        cell(rust),
-        cell(c),
-        ratio(proved, rust),
-        ratio(proved, c),
-        wanted.map_or("".into(), |w| format!("{w}")),
-    );
-}
-
-/// A sum over bytes, so that a run's output is looked at.
-fn digest(bytes: &[u8]) -> u64 {
-    bytes.iter().fold(0u64, |sum, b| sum.wrapping_mul(31).wrapping_add(u64::from(*b)))
-}
-
 fn feed(rounds: usize) {
-    const MESSAGES: usize = 1000;
-    let mut random = Random::new(1);
-    let mut host = Vec::new();
-    for _ in 0..MESSAGES {
-        host.extend([0x0A, 0x00, 0x20, 0x00, 0x00]);
-        host.extend(&random.within(100_000, 34_000_000).to_le_bytes()[..5]);
-    }
-    let room = MESSAGES * 10 + 64;
+    let host = talk();
+    let room = MESSAGES * MESSAGE + 64;
     let mut results = Vec::new();
     {
         let (mut a, mut b, mut c) = (vec![0; room], vec![0; room], vec![0; room]);
@@ -161,6 +101,31 @@ fn read(form: Form, rounds: usize, wanted: Option<f64>) {
     row(&format!("read, {}", form_name(form)), &found, wanted);
 }
 
+/// A run so long that no processor learns by heart which packets are missing.
+fn read_lossy(form: Form, percent: u64, rounds: usize) {
+    const HEARD: usize = 4096;
+    let total = form.total();
+    let mut random = Random::new(4);
+    let mut packets = vec![0; HEARD * total];
+    let mut position = 0;
+    for packet in packets.chunks_exact_mut(total) {
+        packet[..2].copy_from_slice(&form.header());
+        packet[2..4].copy_from_slice(&number_at(position).to_le_bytes());
+        position += 1;
+        while random.within(1, 100) <= percent {
+            position += 1;
+        }
+    }
+    let mut runners = runners(
+        || proved_read(&packets, total),
+        || reader::read_run(black_box(&packets), black_box(total)),
+        || c_read(&packets, total),
+    );
+    let found = best(&mut runners, HEARD as f64, rounds);
+    drop(runners);
+    row(&format!("read, {}, {percent} % lost", form_name(form)), &found, None);
+}
+
 fn unpack(form: Form, rounds: usize, wanted: Option<f64>) {
     let packets = packets(form);
     let count = form.samples();
@@ -185,30 +150,6 @@ fn each(packets: &[u8], form: Form, unpack: impl FnMut(&[u8]) -> u64) -> u64 {
 #[inline(never)]
 fn rust_unpack(packet: &[u8], numbers: &mut [i32]) -> u64 {
     reader::unpack(packet, numbers).map_or_else(|code| code as u64, |_| 1)
-}
-
-/// The runners that were built. What was not linked in is never called.
-fn runners<'a>(
-    proved: impl FnMut() -> u64 + 'a,
-    rust: impl FnMut() -> u64 + 'a,
-    c: impl FnMut() -> u64 + 'a,
-) -> Vec<Runner<'a>> {
-    let mut list = vec![Runner { who: Who::Rust, run: Box::new(rust) }];
-    if !c_absent() {
-        list.push(Runner { who: Who::C, run: Box::new(c) });
-    }
-    if !proved_absent() {
-        list.push(Runner { who: Who::Proved, run: Box::new(proved) });
-    }
-    list
-}
-
-fn proved_absent() -> bool {
-    cfg!(not(proved))
-}
-
-fn c_absent() -> bool {
-    cfg!(not(peer))
 }
 
 #[cfg(proved)]
@@ -370,16 +311,16 @@ fn lines(count: u64) -> String {
 fn main() {
     let quick = std::env::args().any(|word| word == "--quick");
     let rounds = if quick { 200 } else { 4000 };
-    println!(
-        "| ns for each message or packet | proved | Rust | C -O3 | proved / Rust | proved / C | at most, of Rust |"
-    );
-    println!("|---|---|---|---|---|---|---|");
+    head("message or packet");
     feed(rounds);
     for (form, wanted) in Form::LISTED.into_iter().zip([Some(0.8), None, Some(1.25), None]) {
         cut(form, rounds, wanted);
     }
     for form in Form::LISTED {
         read(form, rounds, Some(1.0));
+    }
+    for percent in [0, 1, 30] {
+        read_lossy(Form::SMALL_24, percent, rounds / 4);
     }
     for (form, wanted) in Form::LISTED.into_iter().zip([Some(0.8), None, Some(1.0), None]) {
         unpack(form, rounds, wanted);

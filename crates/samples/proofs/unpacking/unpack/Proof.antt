@@ -6,10 +6,12 @@ use native.Mathlib.Omega.{arith}
 use borrow.Author.Needs.{needs}
 use borrow.Author.Tests.{not-true, not-false}
 use denote.Ref.{now}
-use lib.ListN.{length}
+use lib.ListN.{length, drop}
+use lib.Seq.{sets}
 use Rattle.packets.specs.Forms.{listed, totalOf}
+use Rattle.packets.specs.Samples.{samplesFrom}
 use Rattle.packets.proofs.Forms.{is-listed-form}
-use Rattle.samples.proofs.Refusals.{other-width, room-for, unpack-unlisted, unpack-short, unpack-room, unpack-done}
+use Rattle.samples.proofs.Refusals.{other-width, room-for, whole-blocks, unpack-unlisted, unpack-short, unpack-room, unpack-done}
 use Rattle.samples.proofs.unpacking.unpack.Statement.{statement}
 use Rattle.samples.proofs.unpacking.unpack.Tie as tie
 
@@ -86,7 +88,7 @@ unpack16-requires c κs =
     let e = t .before .before in
     let f = e .before .before .before .args .f in (
       omega (arith, room-for f 2 (2 * f .pairs) _ (ap (λ (b : ℕ). b / 8) (other-width f (form e) (c .before .if4 .left))) refl (long t)),
-      r .if3 .left,
+      omega (arith, r .if3 .left),
     )
 
 same-length-2 : tie.Need-same-length-2
@@ -100,7 +102,9 @@ returns-5 c =
     let t = r .before .before in
     let e = t .before .before in
     let a = e .before .before .before .args in
-    unpack-done (a .f) (now (a .packet)) (now (a .out)) 16 _ (form e) (long t) (r .if3 .left) (other-width (a .f) (form e) (w .if4 .left)) (u .unpack16 .ensures)
+    let width = other-width (a .f) (form e) (w .if4 .left) in
+    unpack-done (a .f) (now (a .packet)) (now (a .out)) 16 _ (form e) (long t) (r .if3 .left) width
+    (u .unpack16 .ensures ∙ ap (λ (n : ℕ). sets (now (a .out)) 0 (samplesFrom 16 (drop 4 (now (a .packet))) 0 n)) (whole-blocks (a .f) (form e) width))
 
 pub unpack-spec : {M : Type 1} → statement M
 unpack-spec =
