@@ -3,7 +3,7 @@
 #
 #     outside/bench.sh [--quick]
 #
-# It makes a capture of 1 GB in a temporary folder, and removes it.
+# It makes a capture of 1 GB in a temporary folder (100 MB with --quick), and removes it.
 set -eu
 cd "$(dirname "$0")"
 export CARGO_TARGET_DIR="$PWD/target"
@@ -13,11 +13,7 @@ trap 'rm -rf "$room"' EXIT
 free=$(df -Pk "$room" | awk 'NR == 2 { print $4 }')
 [ "$free" -gt 2000000 ] || { echo "bench.sh: under 2 GB are free in $room; set TMPDIR to a folder that has more" >&2; exit 1; }
 
-./native.sh boxdoor
-./native.sh harvestdoor
-./native.sh talks
-./native.sh runs
-./native.sh span
+./native.sh
 cc -O3 -c c/peer.c -o target/native/bench.o
 cc -O3 -DPIECES -c c/peer.c -o target/native/pieces.o
 DOOR_FOLDER=$PWD/target/native PEER_FOLDER=$PWD/target/native cargo build --quiet --release --offline --bin bench --bin pieces

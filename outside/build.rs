@@ -6,8 +6,8 @@ use std::env;
 fn main() {
     for name in ["DOOR_FOLDER", "PEER_FOLDER"] {
         println!("cargo:rerun-if-env-changed={name}");
-        println!("cargo:rustc-check-cfg=cfg(proved)\ncargo:rustc-check-cfg=cfg(peer)");
     }
+    println!("cargo:rustc-check-cfg=cfg(proved)\ncargo:rustc-check-cfg=cfg(peer)");
     if let Ok(folder) = env::var("DOOR_FOLDER") {
         println!("cargo:rustc-link-search=native={folder}");
         for library in ["boxdoor", "harvestdoor", "talks", "runs"] {

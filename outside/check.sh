@@ -7,10 +7,6 @@ set -eu
 cd "$(dirname "$0")"
 export CARGO_TARGET_DIR="$PWD/target"
 cargo test --quiet --release --offline
-./native.sh boxdoor
-./native.sh harvestdoor
-./native.sh talks
-./native.sh runs
-./native.sh span
+./native.sh
 DOOR_FOLDER=$PWD/target/native cargo build --quiet --release --offline --bin compare
 SPAN_PROGRAM=$PWD/target/native/span exec target/release/compare "$@"

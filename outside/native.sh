@@ -1,15 +1,20 @@
 #!/bin/sh
 # native.sh: what rt proves and builds, for the processor at hand, in outside/target/native.
 #
-#     native.sh NAME      a library:  outside/target/native/libNAME.a
-#                         a program:  outside/target/native/NAME
+#     native.sh [NAME...]      a library:  outside/target/native/libNAME.a
+#                              a program:  outside/target/native/NAME
+#                              no name: all that the comparison and the benchmarks need
 #
 # rt compiles for x86-64. There its own archive and its own program are taken. On another machine it runs programs in an
 # emulator, where a time says nothing and nothing native can be linked; so rt proves the crate as ever, the LLVM module that
 # it hands to its clang is kept, and the same clang compiles that for this machine.
 set -eu
 
-[ $# -eq 1 ] || { echo 'usage: native.sh NAME' >&2; exit 2; }
+[ $# -gt 0 ] || set -- boxdoor harvestdoor talks runs span
+if [ $# -gt 1 ]; then
+    for name in "$@"; do sh "$0" "$name"; done
+    exit
+fi
 name=$1
 cd "$(dirname "$0")/.."
 out=$PWD/outside/target/native

@@ -30,9 +30,9 @@ impl Head {
 
     pub fn write(&self, buffer: &mut [u8]) -> Result<usize, Code> {
         if !self.is_allowed() {
-            return Err(Code::BadValue);
+            return Err(Code::ValueNotAllowed);
         }
-        let head = buffer.get_mut(..LENGTH).ok_or(Code::ShortBuffer)?;
+        let head = buffer.get_mut(..LENGTH).ok_or(Code::NoRoom)?;
         head[..3].copy_from_slice(MARK);
         head[3..5].copy_from_slice(&VERSION.to_le_bytes());
         head[5..7].copy_from_slice(&(self.divisor as u16).to_le_bytes());

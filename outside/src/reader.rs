@@ -50,7 +50,7 @@ impl Reader {
     /// The position of a packet numbered above 0 within the capture.
     fn next(&self, form: Form, number: u16) -> Result<u64, Code> {
         if !self.heard {
-            return Err(Code::NoStart);
+            return Err(Code::NoFirstPacket);
         }
         if form != self.form {
             return Err(Code::FormChanged);
@@ -59,7 +59,7 @@ impl Reader {
         let turn = if number > last { 0 } else { 65_535 };
         let position = self.position + turn + u64::from(number) - u64::from(last);
         if position > LAST_POSITION {
-            return Err(Code::PastEnd);
+            return Err(Code::PastLast);
         }
         Ok(position)
     }
@@ -68,7 +68,7 @@ impl Reader {
 /// Writes a packet's I and Q in turn as signed numbers of the width sent; answers how many.
 pub fn unpack(packet: &[u8], numbers: &mut [i32]) -> Result<usize, Code> {
     let form = Form::of_packet(packet).ok_or(Code::NotAPacket)?;
-    let numbers = numbers.get_mut(..form.samples()).ok_or(Code::ShortBuffer)?;
+    let numbers = numbers.get_mut(..form.samples()).ok_or(Code::NoRoom)?;
     let body = &packet[4..];
     if form.bits == 24 {
         for (number, b) in numbers.iter_mut().zip(body.chunks_exact(3)) {

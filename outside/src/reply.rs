@@ -27,7 +27,7 @@ pub enum Reply {
 /// Reads the bytes that came for a wish: 16 where the writer would refuse it, 28 where no valid box answers so.
 pub fn read(wish: Wish, bytes: &[u8]) -> Result<Reply, Code> {
     if !wish.is_allowed() {
-        return Err(Code::BadValue);
+        return Err(Code::ValueNotAllowed);
     }
     if bytes == NAK {
         return Ok(Reply::Nak);

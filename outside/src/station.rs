@@ -116,7 +116,7 @@ impl Settings {
     /// What a control message of 4 to 64 bytes asks for, or why it is refused. Codes 12, 14, 13, 15, 16, 17.
     fn judge(&self, kind: Kind, message: &[u8]) -> Result<(Answer, Change), Code> {
         let code = u16::from_le_bytes([message[2], message[3]]);
-        let item = Item::from_code(code).ok_or(Code::UnknownItem)?;
+        let item = Item::from_code(code).ok_or(Code::NotListed)?;
         let expected = item.expected(kind).ok_or(Code::NotOffered)?;
         if message.len() != expected {
             return Err(Code::WrongLength);
@@ -127,25 +127,25 @@ impl Settings {
             Kind::Request => {
                 let echo = parameters.first().copied().unwrap_or(0);
                 match item {
-                    Item::Frequency | Item::Gain if echo != 0 => return Err(Code::BadChannel),
-                    Item::Versions if item::version(echo).is_none() => return Err(Code::BadValue),
+                    Item::Frequency | Item::Gain if echo != 0 => return Err(Code::ChannelNotAllowed),
+                    Item::Versions if item::version(echo).is_none() => return Err(Code::ValueNotAllowed),
                     _ => {}
                 }
                 Ok((Answer::Value { item, echo }, Change::Nothing))
             }
             Kind::Range => match parameters[0] {
                 0 => Ok((Answer::Range { channel: 0 }, Change::Nothing)),
-                _ => Err(Code::BadChannel),
+                _ => Err(Code::ChannelNotAllowed),
             },
         }
     }
 
     fn judge_set(&self, item: Item, parameters: &[u8]) -> Result<(Answer, Change), Code> {
-        let allowed = |yes: bool| if yes { Ok(()) } else { Err(Code::BadValue) };
-        let while_idle = || if self.running { Err(Code::Running) } else { Ok(()) };
+        let allowed = |yes: bool| if yes { Ok(()) } else { Err(Code::ValueNotAllowed) };
+        let while_idle = || if self.running { Err(Code::NotWhileRunning) } else { Ok(()) };
         let channel_00_or_ff = |channel| match channel {
             0x00 | 0xFF => Ok(()),
-            _ => Err(Code::BadChannel),
+            _ => Err(Code::ChannelNotAllowed),
         };
         let (echo, change) = match (item, parameters) {
             (Item::State, &[_, item::RUN_IDLE, _, _]) => (0, Change::Idle),
@@ -154,7 +154,7 @@ impl Settings {
                 match (self.running, mode == self.mode) {
                     (false, _) => (0, Change::Start { mode }),
                     (true, true) => (0, Change::Nothing),
-                    (true, false) => return Err(Code::Running),
+                    (true, false) => return Err(Code::NotWhileRunning),
                 }
             }
             (Item::Frequency, &[channel, a, b, c, d, e]) => {
@@ -275,7 +275,7 @@ impl Station {
     pub fn fresh(serial: &[u8]) -> (Self, Code) {
         let (serial, code) = match <[u8; 8]>::try_from(serial) {
             Ok(serial) if item::serial_allowed(&serial) => (serial, Code::Done),
-            _ => (*b"00000000", Code::BadSerial),
+            _ => (*b"00000000", Code::NotASerial),
         };
         let station = Station { settings: Settings::fresh(serial), held: [0; HELD], taken: 0 };
         (station, code)
@@ -340,10 +340,10 @@ impl Station {
         Fed { code: Code::Waiting, consumed: host.len(), wrote: 0 }
     }
 
-    /// Answers a finished message, of which at least the first 64 bytes are given.
+    /// Answers a finished message, of which all bytes are given, or the first 64.
     fn finish(&mut self, header: Header, message: &[u8], consumed: usize, reply: &mut [u8]) -> Fed {
         let judged = match classify(header, message) {
-            Class::Unanswered => return Fed { code: Code::Quiet, consumed, wrote: 0 },
+            Class::Unanswered => return Fed { code: Code::NoReplyDue, consumed, wrote: 0 },
             Class::Refused(code) => Err(code),
             Class::Control(kind) => self.settings.judge(kind, message),
         };
@@ -352,7 +352,7 @@ impl Station {
             Err(_) => NAK.len(),
         };
         let Some(reply) = reply.get_mut(..length) else {
-            return Fed { code: Code::ShortBuffer, consumed: 0, wrote: 0 };
+            return Fed { code: Code::NoRoom, consumed: 0, wrote: 0 };
         };
         let code = match judged {
             Ok((answer, change)) => {
@@ -381,19 +381,19 @@ impl Station {
             return Err(Code::Broken);
         }
         if !self.settings.running {
-            return Err(Code::Idle);
+            return Err(Code::WhileIdle);
         }
         if self.settings.count == CAPTURE_LIMIT {
             return Err(Code::CaptureFull);
         }
         let form = self.settings.form();
         if samples.len() != form.samples() {
-            return Err(Code::SampleCount);
+            return Err(Code::WrongCount);
         }
         if !packet::samples_fit(samples) {
-            return Err(Code::SampleRange);
+            return Err(Code::NotASample);
         }
-        let packet = packet.get_mut(..form.total()).ok_or(Code::ShortBuffer)?;
+        let packet = packet.get_mut(..form.total()).ok_or(Code::NoRoom)?;
         packet::write(form, self.settings.count, samples, packet);
         self.settings.count += 1;
         Ok(packet.len())

@@ -82,10 +82,10 @@ impl Wish {
     /// Writes the wish's message; answers its length.
     pub fn write(self, buffer: &mut [u8]) -> Result<usize, Code> {
         if !self.is_allowed() {
-            return Err(Code::BadValue);
+            return Err(Code::ValueNotAllowed);
         }
         if buffer.len() < 16 {
-            return Err(Code::ShortBuffer);
+            return Err(Code::NoRoom);
         }
         // every kind and item that a wish has is offered
         let length = self.item().expected(self.kind()).unwrap_or(4);

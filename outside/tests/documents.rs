@@ -148,7 +148,7 @@ fn a_data_item_of_length_zero_is_8194_bytes() {
     bytes[8194..].copy_from_slice(&[0x04, 0x20, 0x05, 0x00]);
     let mut buffer = [0; 64];
     let fed = station.feed(&bytes, &mut buffer);
-    assert_eq!((fed.code, fed.consumed, fed.wrote), (Code::Quiet, 8194, 0));
+    assert_eq!((fed.code, fed.consumed, fed.wrote), (Code::NoReplyDue, 8194, 0));
     let fed = station.feed(&bytes[fed.consumed..], &mut buffer);
     assert_eq!(buffer[..fed.wrote], [0x05, 0x00, 0x05, 0x00, 0x0B]);
 }
@@ -181,7 +181,7 @@ fn short_buffers_consume_nothing() {
     let message = hex("0A 00 20 00 00 90 C6 D5 00 00");
     let mut buffer = [0xEE; 9];
     let fed = station.feed(&message, &mut buffer);
-    assert_eq!((fed.code, fed.consumed, fed.wrote), (Code::ShortBuffer, 0, 0));
+    assert_eq!((fed.code, fed.consumed, fed.wrote), (Code::NoRoom, 0, 0));
     assert_eq!((station, buffer), (fresh(), [0xEE; 9]));
 }
 
@@ -189,7 +189,7 @@ fn short_buffers_consume_nothing() {
 fn serials() {
     for serial in [&b"MT12345"[..], b"MT1234567", b"mt123456", b""] {
         let (station, code) = Station::fresh(serial);
-        assert_eq!((code, &station.settings.serial), (Code::BadSerial, b"00000000"));
+        assert_eq!((code, &station.settings.serial), (Code::NotASerial, b"00000000"));
     }
 }
 
@@ -205,7 +205,7 @@ fn numbers() {
         packet
     };
     let mut reader = Reader::default();
-    assert_eq!(reader.read(&packet(7)), Err(Code::NoStart));
+    assert_eq!(reader.read(&packet(7)), Err(Code::NoFirstPacket));
     assert_eq!(reader.read(&packet(0)).unwrap().position, 0);
     assert_eq!(reader.read(&packet(7)).unwrap().position, 7);
     assert_eq!(reader.read(&packet(7)).unwrap().position, 7 + 65_535);
@@ -214,7 +214,7 @@ fn numbers() {
     assert_eq!((place.position, place.sample), (131_071, 131_071 * 128));
     reader.position = 3_999_999_999;
     let next = number_at(4_000_000_000);
-    assert_eq!(reader.read(&packet(next)), Err(Code::PastEnd));
+    assert_eq!(reader.read(&packet(next)), Err(Code::PastLast));
     assert_eq!(reader.read(&packet(0)).unwrap().position, 0);
     reader.position = 4_000_000_000;
     assert_eq!(reader.read(&packet(0)), Err(Code::Broken));
@@ -252,15 +252,15 @@ fn minus_257_and_every_form_cut_and_unpacked() {
         assert_eq!(unpack(packet, &mut numbers), Ok(form.samples()));
         let shift = 24 - form.bits;
         assert!(numbers.iter().zip(&samples).all(|(n, s)| *n == s >> shift));
-        assert_eq!(unpack(packet, &mut numbers[1..]), Err(Code::ShortBuffer));
+        assert_eq!(unpack(packet, &mut numbers[1..]), Err(Code::NoRoom));
         assert_eq!(unpack(&packet[1..], &mut []), Err(Code::NotAPacket));
         samples[3] = 8_388_608;
-        assert_eq!(station.cut(&samples, &mut []).code, Code::SampleRange);
-        assert_eq!(station.cut(&samples[1..], &mut []).code, Code::SampleCount);
+        assert_eq!(station.cut(&samples, &mut []).code, Code::NotASample);
+        assert_eq!(station.cut(&samples[1..], &mut []).code, Code::WrongCount);
         station.settings.count = 4_000_000_000;
         assert_eq!(station.cut(&samples[1..], &mut []).code, Code::CaptureFull);
         station.settings.running = false;
-        assert_eq!(station.cut(&samples[1..], &mut []).code, Code::Idle);
+        assert_eq!(station.cut(&samples[1..], &mut []).code, Code::WhileIdle);
         station.settings.count = 4_000_000_001;
         assert_eq!(station.cut(&samples[1..], &mut []).code, Code::Broken);
     }
@@ -301,9 +301,9 @@ fn wishes_reach_the_box_and_its_reply_is_read() {
         assert_eq!(reply::read(wish, &buffer[..fed.wrote]), Ok(expected), "{wish:?}");
         assert_eq!(reply::read(wish, &buffer[..fed.wrote + 1]), Err(Code::NotAReply));
     }
-    assert_eq!(Wish::SetGain(1).write(&mut []), Err(Code::BadValue));
-    assert_eq!(Wish::SetGain(0).write(&mut [0; 15]), Err(Code::ShortBuffer));
-    assert_eq!(reply::read(Wish::Version(4), &[2, 0]), Err(Code::BadValue));
+    assert_eq!(Wish::SetGain(1).write(&mut []), Err(Code::ValueNotAllowed));
+    assert_eq!(Wish::SetGain(0).write(&mut [0; 15]), Err(Code::NoRoom));
+    assert_eq!(reply::read(Wish::Version(4), &[2, 0]), Err(Code::ValueNotAllowed));
 }
 
 fn capture(numbers: &[u16]) -> Vec<u8> {

@@ -258,10 +258,12 @@ fn make_capture(path: &Path, bytes: u64) -> std::io::Result<u64> {
     Ok(count)
 }
 
-/// Seconds that a shell command takes, and what it wrote.
-fn timed(command: &str) -> (f64, String) {
+/// Seconds that a shell command takes, `$1` in it the program and `$2` the capture, and what it wrote.
+fn timed(command: &str, program: &str, file: &Path) -> (f64, String) {
     let start = Instant::now();
-    let output = Command::new("sh").args(["-c", command]).stdin(Stdio::null()).output().expect("a shell");
+    let mut shell = Command::new("sh");
+    shell.args(["-c", command, "sh", program]).arg(file).stdin(Stdio::null());
+    let output = shell.output().expect("a shell");
     let took = start.elapsed().as_secs_f64();
     assert!(output.status.success(), "{command}: {}", String::from_utf8_lossy(&output.stderr));
     (took, String::from_utf8_lossy(&output.stdout).into_owned())
@@ -270,28 +272,22 @@ fn timed(command: &str) -> (f64, String) {
 fn span(program: &str, folder: &Path, bytes: u64, rounds: usize) {
     let file = folder.join("capture.spn");
     let count = make_capture(&file, bytes).expect("room for the capture");
-    let file = file.display();
     let rows = [
-        (
-            "span from a file, against `cat FILE > /dev/null`",
-            format!("{program} < {file}"),
-            format!("cat {file} > /dev/null"),
-            1.05,
-        ),
+        ("span from a file, against `cat FILE > /dev/null`", r#""$1" < "$2""#, r#"cat "$2" > /dev/null"#, 1.05),
         (
             "span from a pipe, against `cat FILE \\| cat > /dev/null`",
-            format!("cat {file} | {program}"),
-            format!("cat {file} | cat > /dev/null"),
+            r#"cat "$2" | "$1""#,
+            r#"cat "$2" | cat > /dev/null"#,
             1.1,
         ),
     ];
     for (what, ours, cat, wanted) in rows {
         let (mut least, mut least_cat) = (f64::INFINITY, f64::INFINITY);
         for _ in 0..rounds {
-            let (took, text) = timed(&ours);
+            let (took, text) = timed(ours, program, &file);
             assert_eq!(text, lines(count), "what span printed");
             least = least.min(took);
-            least_cat = least_cat.min(timed(&cat).0);
+            least_cat = least_cat.min(timed(cat, program, &file).0);
         }
         println!(
             "| {what} | {:.0} | {:.0} | {:.2} | {wanted} |",
@@ -328,7 +324,7 @@ fn main() {
     let (Ok(program), Ok(folder)) = (std::env::var("SPAN_PROGRAM"), std::env::var("CAPTURE_FOLDER")) else {
         return;
     };
-    println!("\n| ms for a capture of 1 GB | span | cat | span / cat | at most |\n|---|---|---|---|---|");
-    let bytes = if quick { 100_000_000 } else { 1_000_000_000 };
-    span(&program, Path::new(&folder), bytes, if quick { 3 } else { 11 });
+    let (bytes, said, rounds) = if quick { (100_000_000, "100 MB", 3) } else { (1_000_000_000, "1 GB", 11) };
+    println!("\n| ms for a capture of {said} | span | cat | span / cat | at most |\n|---|---|---|---|---|");
+    span(&program, Path::new(&folder), bytes, rounds);
 }

@@ -299,7 +299,7 @@ fn random_spans(c: &mut Comparison, r: &mut Random, times: u64) {
 fn every_header(c: &mut Comparison, r: &mut Random) {
     for header in 0..=u16::MAX {
         let message = inputs::whole(r, header);
-        let state = Plain.fresh_state();
+        let state = fresh_state();
         let mut states = (state.clone(), state);
         for cut in [0, 1, 2, message.len() - 1] {
             let mut at = 0;
@@ -321,7 +321,7 @@ fn every_item(c: &mut Comparison) {
                 let mut message = vec![0; usize::from(*length)];
                 message[..2].copy_from_slice(&(length | kind << 13).to_le_bytes());
                 message[2..4].copy_from_slice(&item.to_le_bytes());
-                let state = Plain.fresh_state();
+                let state = fresh_state();
                 c.feed(&mut (state.clone(), state), &message, 64);
             }
         }
@@ -330,7 +330,7 @@ fn every_item(c: &mut Comparison) {
 
 /// Every rate that is allowed and those beside them, idle and, for some, running.
 fn every_rate(c: &mut Comparison) {
-    let state = Plain.fresh_state();
+    let state = fresh_state();
     for rate in 31_990..=2_000_010u32 {
         let mut message = [0x09, 0x00, 0xB8, 0x00, 0x5A, 0, 0, 0, 0];
         message[5..].copy_from_slice(&rate.to_le_bytes());
@@ -340,7 +340,7 @@ fn every_rate(c: &mut Comparison) {
 
 /// The settings of one byte: every gain with every channel, every state's run byte and mode, every size, every version.
 fn every_byte(c: &mut Comparison) {
-    let idle = Plain.fresh_state();
+    let idle = fresh_state();
     let mut running = idle.clone();
     Plain.feed(&mut running, &[0x08, 0x00, 0x18, 0x00, 0x80, 0x02, 0x00, 0x00], &mut [0; 64]);
     for state in [idle, running] {
@@ -368,7 +368,7 @@ fn every_byte(c: &mut Comparison) {
 
 /// Frequencies and clocks around each edge, with the word of each pair.
 fn every_edge_of_bands(c: &mut Comparison) {
-    let state = Plain.fresh_state();
+    let state = fresh_state();
     for centre in inputs::FREQUENCIES {
         for frequency in centre.saturating_sub(50)..=(centre + 50).min(0xFF_FFFF_FFFF) {
             for clock in inputs::CLOCKS {
@@ -387,7 +387,7 @@ fn every_edge_of_bands(c: &mut Comparison) {
 
 /// Each reply with a buffer of each length up to its own, and states of each length.
 fn every_room(c: &mut Comparison) {
-    let state = Plain.fresh_state();
+    let state = fresh_state();
     let mut messages: Vec<Vec<u8>> = inputs::ITEMS.iter().map(|&i| vec![0x04, 0x20, i as u8, 0x00]).collect();
     for item in [0x04, 0x20, 0x38, 0xB0, 0xB8] {
         messages.push(vec![0x05, 0x20, item, 0x00, 0x00]);
@@ -630,16 +630,10 @@ fn every_span(c: &mut Comparison, r: &mut Random) {
     c.span(&long);
 }
 
-trait FreshState {
-    fn fresh_state(&self) -> Vec<u8>;
-}
-
-impl FreshState for Plain {
-    fn fresh_state(&self) -> Vec<u8> {
-        let mut state = vec![0; STATION_BYTES];
-        self.fresh(b"MT123456", &mut state);
-        state
-    }
+fn fresh_state() -> Vec<u8> {
+    let mut state = vec![0; STATION_BYTES];
+    Plain.fresh(b"MT123456", &mut state);
+    state
 }
 
 /// The codes that a call can give at all; each has to have been seen.
