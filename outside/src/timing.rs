@@ -13,7 +13,7 @@ pub enum Who {
     C,
 }
 
-/// One way to do a row's work, and whether it did it right.
+/// One way to do a row's work; what it answers is held to the others' answers.
 pub struct Runner<'a> {
     pub who: Who,
     pub run: Box<dyn FnMut() -> u64 + 'a>,
