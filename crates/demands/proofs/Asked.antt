@@ -66,7 +66,7 @@ few : (w : Wish) → sizeOf (layoutOf w) ≤ 64
 few w = omega (arith, short-message w)
 
 -- it is taken whole, in one call
-wish-taken : (w : Wish) → taken between (messageOf w) ≡ tookAll (messageOf w)
+pub wish-taken : (w : Wish) → taken between (messageOf w) ≡ tookAll (messageOf w)
 unfolding messageOf
 wish-taken w =
     one-message (laid (layoutOf w)) announces (omega arith) (omega (arith, length-laid (layoutOf w), few w))
@@ -108,7 +108,7 @@ accepted : (w : Wish) (buffer : ℕ) → writeCode w buffer ≡ 1 → allowed w 
 unfolding writeCode
 accepted w buffer e = not-false (allowed w) (absent (writeChecks w buffer) 1 refl e .0)
 
-message-written : (w : Wish) (buffer : ℕ) → writeCode w buffer ≡ 1 → bytesWritten w buffer ≡ messageOf w
+pub message-written : (w : Wish) (buffer : ℕ) → writeCode w buffer ≡ 1 → bytesWritten w buffer ≡ messageOf w
 unfolding bytesWritten
 message-written w buffer e = rw e refl
 

@@ -11,7 +11,7 @@ use lib.ListN.{length}
 use Rattle.wire.specs.Choice.{pick}
 use Rattle.wire.specs.Codes.{boxWrites}
 use Rattle.wire.specs.Header.{typeRange, typeReply, typeRangeReply}
-use Rattle.framing.specs.Framing.{announced, between, taken}
+use Rattle.framing.specs.Framing.{between, taken}
 use Rattle.framing.proofs.Leaving.{between-left}
 use Rattle.layouts.proofs.Sizes.{least, length-laid}
 use Rattle.items.specs.declared.Settings.{Settings}
@@ -24,34 +24,21 @@ use Rattle.station.proofs.Valid.{valid-both}
 use Rattle.wishes.specs.declared.Wish.{Wish}
 use Rattle.wishes.specs.Wishes.{layoutOf, messageOf, notNow}
 use Rattle.wishes.specs.Writing.{writeCode, bytesWritten}
-use Rattle.wishes.proofs.Rows.{by-wish, short-message}
+use Rattle.wishes.proofs.Rows.{short-message}
 use Rattle.replies.specs.Reading.{Told, toldOf}
 use Rattle.demands.specs.Shown.{resting}
 use Rattle.demands.specs.Written.{replyDue}
 use Rattle.demands.specs.Asked.{Understands}
 use Rattle.demands.specs.AskedInPieces.{UnderstandsInPieces, WhatIsAskedIsUnderstoodInPieces}
-use Rattle.demands.proofs.OneMessage.{tookAll, one-message}
-use Rattle.demands.proofs.Asked.{what-is-asked-is-understood}
-use Rattle.demands.proofs.Written.{feeds-by-the-table, wishes-by-the-table}
+use Rattle.demands.proofs.Asked.{wish-taken, message-written, what-is-asked-is-understood}
+use Rattle.demands.proofs.Written.{feeds-by-the-table}
 use Rattle.demands.proofs.InPieces.{whole, message-served, pieces-served}
 
--- ---- a wish's message is one whole message
-
-announces : (w : Wish) → announced (messageOf w) ≡ length (messageOf w)
-unfolding messageOf
-announces =
-    by-wish (λ w. announced (messageOf w) ≡ length (messageOf w)) refl refl refl (λ _. refl) refl (λ _. refl) refl (λ _. refl) refl refl
-    (λ _. refl) refl (λ _. refl) refl (λ _. refl) refl (λ _. refl) refl
+-- ---- how long a wish's message is
 
 length-wish : (w : Wish) → (4 ≤ length (messageOf w)) × (length (messageOf w) ≤ 64)
 unfolding messageOf
 length-wish w = let long = length-laid (layoutOf w) in (omega (arith, least (layoutOf w)), omega (arith, short-message w))
-
-wish-taken : (w : Wish) → taken between (messageOf w) ≡ tookAll (messageOf w)
-wish-taken w = let l = length-wish w in one-message (messageOf w) (announces w) (omega arith) (l .1)
-
-wish-written : (w : Wish) (buffer : ℕ) → writeCode w buffer ≡ 1 → bytesWritten w buffer ≡ messageOf w
-wish-written w buffer e = rw e at (wishes-by-the-table w buffer)
 
 -- ---- and gets one reply
 
@@ -97,6 +84,6 @@ understood-in-pieces w s pieces ranged eight enough same u =
 
 pub what-is-asked-is-understood-in-pieces : WhatIsAskedIsUnderstoodInPieces
 what-is-asked-is-understood-in-pieces w buffer e s ranged eight pieces enough same =
-    let written = wish-written w buffer e in
+    let written = message-written w buffer e in
     understood-in-pieces w s pieces ranged eight enough (same ∙ written)
     (rw written at (what-is-asked-is-understood w buffer e s ranged eight 64 (le-refl 64)))

@@ -64,7 +64,7 @@ module _ (m : List ℕ) (one : OneMessage m) where
         areBytes = all-append m (replicate (64 - length m) 0) (one .areBytes) (all-zero (64 - length m));
       }
 
-  took : taken between m ≡ tookAll m
+  pub took : taken between m ≡ tookAll m
   took = one-message m (one .announces) (one .least) (one .most)
 
   is-message : messageIn (taken between m .store) ≡ messageOf m

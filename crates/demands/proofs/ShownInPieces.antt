@@ -7,7 +7,6 @@ use mathlib.Core.Path.{_≡_, ap, _∙_}
 use mathlib.Core.Bool.{true}
 use mathlib.Core.List.{List, [], _∷_, append-nil}
 use lib.ListN.{length}
-use Rattle.framing.specs.Framing.{between, taken}
 use Rattle.items.specs.declared.Settings.{Settings}
 use Rattle.items.specs.Answer.{settingsAfter}
 use Rattle.station.specs.Station.{valid}
@@ -16,18 +15,13 @@ use Rattle.station.specs.Serving.{Served, unserved, noting, called, serving}
 use Rattle.station.proofs.Kept.{serial-kept}
 use Rattle.demands.specs.Shown.{OneMessage, messageOf, resting, valueSet, showing}
 use Rattle.demands.specs.ShownInPieces.{SetShowsLaterInPieces}
-use Rattle.demands.proofs.OneMessage.{tookAll, one-message}
 use Rattle.demands.proofs.Reached.{feeding-keeps}
-use Rattle.demands.proofs.ShownFed.{message-fed, fed-set-shows}
+use Rattle.demands.proofs.ShownFed.{took, message-fed, fed-set-shows}
 use Rattle.demands.proofs.InPieces.{whole, message-served, pieces-served}
 
--- a whole message is taken in one call
-module _ (m : List ℕ) (one : OneMessage m) where
-  took : taken between m ≡ tookAll m
-  took = one-message m (one .announces) (one .least) (one .most)
-
-  some : 1 ≤ length m
-  some = omega (arith, one .least)
+-- a whole message has a byte
+some : (m : List ℕ) → OneMessage m → 1 ≤ length m
+some m one = omega (arith, one .least)
 
 -- two messages, each in one call
 two-served : (s : Settings) (m q : List ℕ) → valid (resting s) ≡ true → length (s .serial) ≡ 8 → OneMessage m → OneMessage q
