@@ -2,7 +2,7 @@
 -- Assumes nothing.
 use Prim.Native.Nat.{ℕ, zero, suc, _≤_}
 use native.Mathlib.Omega.{arith}
-use mathlib.Core.Path.{_≡_, refl, sym, ap, subst, _∙_}
+use mathlib.Core.Path.{_≡_, refl, sym, ap, _∙_}
 use mathlib.Core.Bool.{true}
 use mathlib.Core.List.{List, [], _∷_, _++_, append-nil, append-assoc}
 use lib.ListN.{length, drop}
@@ -11,13 +11,13 @@ use Rattle.hearing.specs.Hearing.{farthest}
 use Rattle.lines.specs.Due.{Telling}
 use Rattle.spans.specs.declared.Span.{Span}
 use Rattle.spans.specs.Report.{report}
-use Rattle.spans.specs.Eating.{Eating, freshSpan, silently, eatingOf, finishingOf}
-use Rattle.spans.specs.Pieces.{room, Handed, nothingHanded, before, handing, handed, printedFrom, joinedOf}
+use Rattle.spans.specs.Eating.{Eating, freshSpan, finishingOf}
+use Rattle.spans.specs.Pieces.{room, nothingHanded, before, handing, handed, printedFrom, joinedOf}
 use Rattle.spans.proofs.Going.{stopped-valid}
 use Rattle.spans.proofs.Eats.{eating-stopped, finishing-stopped}
 use Rattle.spans.proofs.Reported.{allBytes}
 use Rattle.spans.proofs.Inputs.{report-is}
-use Rattle.span.specs.Reached.{handedAll}
+use Rattle.span.specs.Reached.{handedAll, Reached}
 
 -- all that the program writes for the pieces that it read, and then for the end
 abbrev pub written : List (List ℕ) → List ℕ
@@ -57,6 +57,13 @@ pub written-is : (ps : List (List ℕ)) → allBytes (joinedOf ps) → length (j
 unfolding printedFrom
 written-is ps small near =
     sym (printed-on ps [] freshSpan) ∙ ap (printedFrom freshSpan) (append-nil ps) ∙ report-is ps small near
+
+-- what the last write requires makes the report whole
+pub last-ends : (s : Span) (lines : List ℕ) (r : Reached s 0) → lines ≡ finishingOf s room .bytes → allBytes (joinedOf (r .pieces))
+    → handedAll freshSpan (r .pieces) .text ++ lines ≡ report (joinedOf (r .pieces))
+last-ends s lines r is small =
+    ap (λ (l : List ℕ). handedAll freshSpan (r .pieces) .text ++ l) (is ∙ ap (λ (x : Span). finishingOf x room .bytes) (r .span))
+    ∙ written-is (r .pieces) small (omega (arith, r .room))
 
 -- once the span has stopped, nothing of the input that is not read would have changed it
 pub stopped-is : (ps more : List (List ℕ)) → handedAll freshSpan ps .span .stopped ≡ true
