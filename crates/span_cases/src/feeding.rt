@@ -1,6 +1,7 @@
 // An input is handed to a span in pieces, and what is due is printed.
 ghost use mathlib.Core.Path.{_≡_};
-ghost use Prim.Native.Nat.{_+_, min};
+ghost use Prim.Native.Nat.{_+_, _<_, min};
+ghost use Rattle.spans.specs.Eating.{eatingOf};
 use crate::saying::first;
 use crate::saying::say;
 use spans::Eaten;
@@ -20,7 +21,9 @@ pub(crate) fn further(at: usize, n: usize, end: usize) -> usize
 }
 
 // Hands a piece of the input over, and prints the lines that are due.
-fn hand_over(s: Span, piece: &[u8]) -> Eaten {
+fn hand_over(s: Span, piece: &[u8]) -> Eaten
+    ensures { λ r. ⌜ r ≡ eatingOf s (now (piece .entry)) 256 .eaten ⌝ }
+{
     let mut out = [0u8; 256];
     let e = spans::eat(s, piece, &mut out);
     say(first(&out, e.wrote));
@@ -35,32 +38,32 @@ fn close(s: Span) {
 }
 
 // Hands an input over in pieces of so many bytes, each from where the one before was consumed to; then the end.
-fn run(input: &[u8], step: usize) {
+fn run(input: &[u8], step: usize)
+    requires { ⌜ 0 < step ⌝ }
+{
     let mut span = spans::fresh();
     let mut at = 0;
     while at < input.len() {
         let e = hand_over(span, first(&input[at..], step));
         let next = e.span;
         span = next;
-        if e.consumed == 0 {
-            say(b"nothing was consumed\n");
-            return;
-        }
-        at = further(at, e.consumed, input.len());
+        at += e.consumed;
     }
     close(span);
 }
 
 // A name, a way to cut, and the lines.
-fn cut(name: &[u8], way: &[u8], input: &[u8], step: usize) {
+fn cut(name: &[u8], way: &[u8], input: &[u8], step: usize)
+    requires { ⌜ 0 < step ⌝ }
+{
     say(name);
     say(way);
     run(input, step);
 }
 
-// An input in each way to cut it.
+// An input in each way to cut it. None is longer than 8,192 bytes.
 pub(crate) fn ways(name: &[u8], input: &[u8]) {
-    cut(name, b": whole\n", input, input.len());
+    cut(name, b": whole\n", input, 8192);
     cut(name, b": byte by byte\n", input, 1);
     cut(name, b": pieces of 7\n", input, 7);
     cut(name, b": pieces of 389\n", input, 389);

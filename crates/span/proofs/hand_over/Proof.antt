@@ -1,80 +1,49 @@
--- What a call consumes lies within the rest of the piece, and what it writes within the slice.
-use Prim.Native.Nat.{_-_, _≤_}
-use mathlib.Core.Path.{_≡_, refl, sym, _∙_}
+-- Each turn is one call, which leaves fewer bytes; what is left leads where the whole piece leads.
+use Prim.Native.Nat.{_-_}
 use native.Mathlib.Omega.{arith}
-use lib.ListN.{length, take, drop, length-drop}
-use denote.Ref.{now}
-use lib.Seq.{length-take-le}
-use Rattle.spans.proofs.Within.{eaten-within}
+use lib.ListN.{length}
+use borrow.Author.Needs.{needs}
+use Rattle.span.proofs.Pieces.{Onward, begins, ends, Turn, turns}
 use Rattle.span.proofs.hand_over.Statement.{statement}
 use Rattle.span.proofs.hand_over.Tie as tie
 
 abbrev Inv-loop : tie.InvT-loop
-Inv-loop piece out₀ span₀ at₀ out span at = (at ≤ length piece) × (length out ≡ length out₀)
+Inv-loop piece span₀ at₀ span at = Onward span₀ piece span at
 
 abbrev μ-loop : tie.MeasureT-loop
-μ-loop piece out₀ span₀ at₀ out span at = length piece - at
-
-consumed : (c : tie.After-eat Inv-loop μ-loop)
-    → (let l = c .before .before .before .before in
-    c .eat .result .consumed ≤ length (now (l .before .before .before .args .piece)) - l .loop .at)
-consumed c =
-    let l = c .before .before .before .before in
-    let rest = drop (l .loop .at) (now (l .before .before .before .args .piece)) in
-    let part = length-take-le (length (now (l .before .before .before .args .piece)) - l .loop .at) rest (simp length-drop (omega arith)) in
-    omega (arith, part, eaten-within _ _ _ (c .eat .result) (c .eat .ensures .0) .0)
-
-wrote : (c : tie.After-eat Inv-loop μ-loop) → c .eat .result .wrote ≤ length (c .eat .last .1 .1 .0)
-wrote c = omega (arith, eaten-within _ _ _ (c .eat .result) (c .eat .ensures .0) .1, c .eat .kept .1 .1 .0)
+μ-loop piece span₀ at₀ span at = length piece - at
 
 loop-holds : tie.Need-loop-holds Inv-loop μ-loop
-loop-holds c = (omega arith, refl)
+loop-holds c = begins _ _ (c .before .pre)
 
-sub-eat : tie.Need-sub-eat Inv-loop μ-loop
-sub-eat c = omega arith
+sub-eat-some : tie.Need-sub-eat-some Inv-loop μ-loop
+sub-eat-some c = search needs
 
-part-eat-start : tie.Need-part-eat-start Inv-loop μ-loop
-part-eat-start c = omega arith
+part-eat-some-start : tie.Need-part-eat-some-start Inv-loop μ-loop
+part-eat-some-start c = search needs
 
-part-eat-end : tie.Need-part-eat-end Inv-loop μ-loop
-part-eat-end c = omega arith
+part-eat-some-end : tie.Need-part-eat-some-end Inv-loop μ-loop
+part-eat-some-end c = search needs
 
-eat-requires : tie.Need-eat-requires Inv-loop μ-loop
-eat-requires c κs = tt
+eat-some-requires : tie.Need-eat-some-requires Inv-loop μ-loop
+eat-some-requires c κs = search needs
 
-slice-reshare-prefix-write-all : tie.Need-slice-reshare-prefix-write-all Inv-loop μ-loop
-slice-reshare-prefix-write-all c = wrote (c .before .before)
-
-slice-aggregate-write-all : tie.Need-slice-aggregate-write-all Inv-loop μ-loop
-slice-aggregate-write-all c = sym (length-take-le _ _ (wrote (c .before .before .before)))
-
-write-all-requires : tie.Need-write-all-requires Inv-loop μ-loop
-write-all-requires c κs = tt
-
-same-length : tie.Need-same-length Inv-loop μ-loop
-same-length c =
-    let e = c .before .before .before .before .before .before .before in
-    e .eat .kept .1 .1 .0 ∙ e .before .before .before .before .loop .inv .1
-
-returns : tie.Need-returns Inv-loop μ-loop
-returns c = tt
+-- what the call did
+turn : (c : tie.After-eat-some Inv-loop μ-loop)
+    → Turn (c .before .before .before .before .before .args .s) (c .before .before .before .before .before .args .piece .now) (c .before .before .before .loop .at) (c .eat-some .result)
+turn c = turns _ _ _ _ (c .before .before .before .loop .inv) (c .before .before .loop-test .taken) _ (c .eat-some .ensures)
 
 add-at : tie.Need-add-at Inv-loop μ-loop
-add-at c = omega (arith, consumed (c .before .before .before .before .before .before .before .before), c .before .before .before .before .before .before .before .before .before .before .before .before .before .before .before .good)
+add-at c = omega (arith, turn (c .before .before) .onward .inside)
 
 loop-less : tie.Need-loop-less Inv-loop μ-loop
-loop-less c = omega (arith, consumed (c .before .before .before .before .before .before .before .before), c .before .if1 .left)
+loop-less c = omega (arith, turn (c .before .before) .some)
 
 loop-again : tie.Need-loop-again Inv-loop μ-loop
-loop-again c =
-    let e = c .before .before .before .before .before .before .before .before in
-    (omega (arith, consumed e), e .eat .kept .1 .1 .0 ∙ e .before .before .before .before .loop .inv .1)
+loop-again c = turn (c .before .before) .onward
 
-same-length-2 : tie.Need-same-length-2 Inv-loop μ-loop
-same-length-2 c = c .before .loop .inv .1
-
-returns-2 : tie.Need-returns-2 Inv-loop μ-loop
-returns-2 c = tt
+returns : tie.Need-returns Inv-loop μ-loop
+returns c = ends _ _ _ _ (c .before .loop .inv) (c .loop-test .left)
 
 pub hand-over-spec : {M : Type 1} → statement M
 hand-over-spec =
@@ -83,17 +52,11 @@ hand-over-spec =
     Inv-loop
     μ-loop
     loop-holds
-    sub-eat
-    part-eat-start
-    part-eat-end
-    eat-requires
-    slice-reshare-prefix-write-all
-    slice-aggregate-write-all
-    write-all-requires
-    same-length
-    returns
+    sub-eat-some
+    part-eat-some-start
+    part-eat-some-end
+    eat-some-requires
     add-at
     loop-less
     loop-again
-    same-length-2
-    returns-2)
+    returns)

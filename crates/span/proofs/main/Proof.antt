@@ -1,22 +1,18 @@
--- What the end writes lies within the slice.
-use borrow.Author.Needs.{needs}
-use Prim.Native.Nat.{_≤_}
-use mathlib.Core.Path.{sym}
-use native.Mathlib.Omega.{arith}
-use lib.ListN.{length}
+-- What the end writes is the span's last lines.
+use mathlib.Core.Path.{refl, sym}
 use lib.Seq.{length-take-le}
-use Rattle.spans.proofs.Within.{finished-within}
+use borrow.Author.Needs.{needs}
+use Rattle.spans.specs.Eating.{finishingOf}
+use Rattle.span.proofs.Lines.{Lines, lines-of-end}
 use Rattle.span.proofs.main.Statement.{statement}
 use Rattle.span.proofs.main.Tie as tie
 
-wrote : (c : tie.After-finish) → c .finish .result .wrote ≤ length (c .finish .last .1 .0)
-wrote c = omega (arith, finished-within _ _ (c .finish .result) (c .finish .ensures .0), c .finish .kept .1 .0)
+-- what finishing left in the array
+lines : (c : tie.After-finish) → Lines (finishingOf (c .before .before .before .run .result) 256 .bytes) (c .finish .result .wrote) (c .finish .last .1 .0)
+lines c = lines-of-end _ _ _ _ refl (c .finish .ensures .0) (c .finish .ensures .1)
 
 slice-aggregate-run : tie.Need-slice-aggregate-run
 slice-aggregate-run c = search needs
-
-slice-aggregate-run-2 : tie.Need-slice-aggregate-run-2
-slice-aggregate-run-2 c = search needs
 
 run-requires : tie.Need-run-requires
 run-requires c κs = search needs
@@ -28,13 +24,13 @@ finish-requires : tie.Need-finish-requires
 finish-requires c κs = search needs
 
 array-share-prefix-out : tie.Need-array-share-prefix-out
-array-share-prefix-out c = wrote (c .before)
+array-share-prefix-out c = lines (c .before) .inside
 
-slice-aggregate-write-all : tie.Need-slice-aggregate-write-all
-slice-aggregate-write-all c = sym (length-take-le _ _ (wrote (c .before .before)))
+slice-aggregate-write-last : tie.Need-slice-aggregate-write-last
+slice-aggregate-write-last c = sym (length-take-le _ _ (lines (c .before .before) .inside))
 
-write-all-requires : tie.Need-write-all-requires
-write-all-requires c κs = search needs
+write-last-requires : tie.Need-write-last-requires
+write-last-requires c κs = (c .before .before .before .before .before .run .ensures, lines (c .before .before) .bytes)
 
 returns : tie.Need-returns
 returns c = search needs
@@ -44,11 +40,10 @@ main-spec =
     tie.close
     (tie.spec
     slice-aggregate-run
-    slice-aggregate-run-2
     run-requires
     slice-aggregate-finish
     finish-requires
     array-share-prefix-out
-    slice-aggregate-write-all
-    write-all-requires
+    slice-aggregate-write-last
+    write-last-requires
     returns)

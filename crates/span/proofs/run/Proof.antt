@@ -1,60 +1,67 @@
--- The measure is the number of turns that are left. The two slices keep their lengths.
-use mathlib.Core.Path.{_≡_, refl, _∙_}
+-- The measure is the number of bytes that the span can still count. Reading keeps the buffer's length.
+use mathlib.Core.Path.{_≡_, refl}
 use native.Mathlib.Omega.{arith}
 use lib.ListN.{length}
+use borrow.Author.Needs.{needs}
+use Rattle.span.specs.Reached.{Reached}
+use Rattle.span.proofs.Reaching.{reached-fewer, room-for, reached-next, reached-fresh}
 use Rattle.span.proofs.run.Statement.{statement}
 use Rattle.span.proofs.run.Tie as tie
 
 abbrev Inv-loop : tie.InvT-loop
-Inv-loop buf₀ out₀ span₀ turns₀ buf out span turns = (length buf ≡ length buf₀) × (length out ≡ length out₀)
+Inv-loop buf₀ span₀ left₀ buf span left = (length buf ≡ length buf₀) × Reached span left
 
 abbrev μ-loop : tie.MeasureT-loop
-μ-loop buf₀ out₀ span₀ turns₀ buf out span turns = turns
+μ-loop buf₀ span₀ left₀ buf span left = left
+
+-- where the loop is left
+reached : (c : tie.At-loop Inv-loop μ-loop) → Reached (c .loop .span) 0
+reached c = reached-fewer _ _ 0 (omega arith) (c .loop .inv .1)
 
 fresh-requires : tie.Need-fresh-requires Inv-loop μ-loop
-fresh-requires c κs = tt
+fresh-requires c κs = search needs
 
 loop-holds : tie.Need-loop-holds Inv-loop μ-loop
-loop-holds c = (refl, refl)
+loop-holds c = (refl, rw (c .fresh .ensures) reached-fresh)
 
-read-once-requires : tie.Need-read-once-requires Inv-loop μ-loop
-read-once-requires c κs = tt
+read-requires : tie.Need-read-requires Inv-loop μ-loop
+read-requires c κs = search needs
+
+count-requires : tie.Need-count-requires Inv-loop μ-loop
+count-requires c κs = search needs
 
 same-length : tie.Need-same-length Inv-loop μ-loop
-same-length c =
-    let r = c .before .before .before .before .before .before .before in
-    let l = r .before .before .before .before in
-    r .read-once .kept .1 .0 ∙ l .loop .inv .0
-
-same-length-2 : tie.Need-same-length-2 Inv-loop μ-loop
-same-length-2 c =
-    let r = c .before .before .before .before .before .before .before in
-    let l = r .before .before .before .before in
-    r .read-once .kept .1 .1 .0 ∙ l .loop .inv .1
+same-length c = search needs
 
 returns : tie.Need-returns Inv-loop μ-loop
-returns c = tt
+returns c = reached (c .before .before .before .before .before .before .before .before .before)
 
-sub-turns : tie.Need-sub-turns Inv-loop μ-loop
-sub-turns c = omega arith
-
-loop-less : tie.Need-loop-less Inv-loop μ-loop
-loop-less c = omega arith
-
-loop-again : tie.Need-loop-again Inv-loop μ-loop
-loop-again c =
-    let r = c .before .before .before .before .before .before .before in
-    let l = r .before .before .before .before in
-    (r .read-once .kept .1 .0 ∙ l .loop .inv .0, r .read-once .kept .1 .1 .0 ∙ l .loop .inv .1)
-
-same-length-3 : tie.Need-same-length-3 Inv-loop μ-loop
-same-length-3 c = c .before .loop .inv .0
-
-same-length-4 : tie.Need-same-length-4 Inv-loop μ-loop
-same-length-4 c = c .before .loop .inv .1
+same-length-2 : tie.Need-same-length-2 Inv-loop μ-loop
+same-length-2 c = search needs
 
 returns-2 : tie.Need-returns-2 Inv-loop μ-loop
-returns-2 c = tt
+returns-2 c = reached (c .before .before .before .before .before .before .before .before .before .before)
+
+slice-reshare-prefix-hand-over : tie.Need-slice-reshare-prefix-hand-over Inv-loop μ-loop
+slice-reshare-prefix-hand-over c = search needs
+
+slice-aggregate-hand-over : tie.Need-slice-aggregate-hand-over Inv-loop μ-loop
+slice-aggregate-hand-over c = search needs
+
+hand-over-requires : tie.Need-hand-over-requires Inv-loop μ-loop
+hand-over-requires c κs = room-for _ _ _ _ (c .before .before .before .before .before .before .before .before .before .before .before .loop .inv .1) (c .before .if3 .left)
+
+loop-less : tie.Need-loop-less Inv-loop μ-loop
+loop-less c = search needs
+
+loop-again : tie.Need-loop-again Inv-loop μ-loop
+loop-again c = (search needs, reached-next _ _ _ _ (c .before .before .before .before .before .before .before .before .before .before .before .before .loop .inv .1) (c .before .before .if3 .left) _ (search needs) (c .hand-over .ensures))
+
+same-length-3 : tie.Need-same-length-3 Inv-loop μ-loop
+same-length-3 c = search needs
+
+returns-3 : tie.Need-returns-3 Inv-loop μ-loop
+returns-3 c = reached (c .before .before)
 
 pub run-spec : {M : Type 1} → statement M
 run-spec =
@@ -64,13 +71,16 @@ run-spec =
     μ-loop
     fresh-requires
     loop-holds
-    read-once-requires
+    read-requires
+    count-requires
     same-length
-    same-length-2
     returns
-    sub-turns
+    same-length-2
+    returns-2
+    slice-reshare-prefix-hand-over
+    slice-aggregate-hand-over
+    hand-over-requires
     loop-less
     loop-again
     same-length-3
-    same-length-4
-    returns-2)
+    returns-3)

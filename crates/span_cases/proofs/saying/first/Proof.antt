@@ -1,13 +1,13 @@
--- The part has the length that was asked for, which the slice has.
+-- The part has the length that was asked for, where the slice has as many bytes, and else all is the part.
 use mathlib.Core.Path.{sym}
 use native.Mathlib.Omega.{arith}
 use borrow.Author.Needs.{needs}
-use lib.Seq.{length-take-le}
+use lib.Seq.{length-take-le, take-all}
 use Rattle.span_cases.proofs.saying.first.Statement.{statement}
 use Rattle.span_cases.proofs.saying.first.Tie as tie
 
 returns : tie.Need-returns
-returns c = search needs
+returns c = sym (take-all (c .before .args .n) _ (omega arith))
 
 slice-aggregate-result : tie.Need-slice-aggregate-result
 slice-aggregate-result c = sym (length-take-le _ _ (omega arith))

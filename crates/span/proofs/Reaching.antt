@@ -1,0 +1,71 @@
+-- Spans that pieces of an input have left: a piece more leaves another, and so long as there is room each goes on.
+-- Assumes nothing.
+use Prim.Native.Nat.{ℕ, _+_, _-_, _≤_}
+use native.Mathlib.Nat.{zero-add}
+use native.Mathlib.Omega.{arith}
+use mathlib.Core.Path.{_≡_, refl, sym, ap, subst, _∙_}
+use mathlib.Core.Bool.{false}
+use mathlib.Core.List.{List, [], _∷_, _++_}
+use lib.ListN.{length, take, length-append, length-take}
+use lib.Seq.{length-take-le}
+use Rattle.hearing.specs.Hearing.{farthest}
+use Rattle.spans.specs.declared.Span.{Span}
+use Rattle.spans.specs.Eating.{freshSpan}
+use Rattle.spans.specs.Pieces.{handed, joinedOf}
+use Rattle.spans.proofs.Going.{Going, fresh-going}
+use Rattle.spans.proofs.Cuts.{all-calls}
+use Rattle.span.specs.Reached.{handedAll, Reached}
+
+-- it has stopped, or it goes on after so many bytes of input
+abbrev pub Goes : Span → ℕ → Type 0
+Goes s used = s .stopped ≡ false → Going s used
+
+all-go : (ps : List (List ℕ)) (s : Span) (used : ℕ) → Goes s used → used + length (joinedOf ps) ≤ farthest
+    → Goes (handedAll s ps .span) (used + length (joinedOf ps))
+unfolding handedAll
+all-go [] s used goes near = subst (Goes s) (omega arith) goes
+all-go (p ∷ ps) s used goes near =
+    let long = length-append p (joinedOf ps) in
+    let one = all-calls (length p) s used p [] (omega arith) goes (omega (arith, long)) in
+    let count : used + length p + length (joinedOf ps) ≡ used + length (p ++ joinedOf ps) = omega (arith, long) in
+    subst (Goes (handedAll (handed s p .span) ps .span)) count (all-go ps (handed s p .span) (used + length p) (one .goes) (omega (arith, long)))
+
+pub reached-goes : (s : Span) (more : ℕ) (r : Reached s more) → Goes s (length (joinedOf (r .pieces)))
+reached-goes s more r =
+    rw (r .span, ← zero-add (length (joinedOf (r .pieces)))) (all-go (r .pieces) freshSpan 0 (λ e. fresh-going) (omega (arith, r .room)))
+
+-- ---- one piece more
+
+handed-last : (ps : List (List ℕ)) (s : Span) (p : List ℕ) → handedAll s (ps ++ p ∷ []) .span ≡ handed (handedAll s ps .span) p .span
+unfolding handedAll
+handed-last [] s p = refl
+handed-last (q ∷ qs) s p = handed-last qs (handed s q .span) p
+
+joined-last : (ps : List (List ℕ)) (p : List ℕ) → length (joinedOf (ps ++ p ∷ [])) ≡ length (joinedOf ps) + length p
+joined-last [] p = simp length-append (omega arith)
+joined-last (q ∷ qs) p = simp length-append (omega (arith, joined-last qs p))
+
+-- a span that can count more bytes can count fewer
+pub reached-fewer : (s : Span) (more fewer : ℕ) → fewer ≤ more → Reached s more → Reached s fewer
+reached-fewer s more fewer less r = record { pieces = r .pieces; span = r .span; room = omega (arith, r .room) }
+
+-- The first n bytes of a buffer are the piece.
+module _ (s : Span) (more n : ℕ) (buf : List ℕ) (r : Reached s more) (fits : n ≤ more) where
+  abbrev piece : List ℕ
+  piece = take n buf
+
+  pub room-for : Reached s (length piece)
+  room-for = reached-fewer s more (length piece) (simp length-take (omega arith)) r
+
+  pub reached-next : (after : Span) → n ≤ length buf → after ≡ handed s piece .span → Reached after (more - n)
+  reached-next after there is =
+      record {
+        pieces = r .pieces ++ piece ∷ [];
+        span = is ∙ ap (λ (x : Span). handed x piece .span) (r .span) ∙ sym (handed-last (r .pieces) freshSpan piece);
+        room = omega (arith, joined-last (r .pieces) piece, length-take-le n buf there, r .room);
+      }
+
+-- before the first piece
+pub reached-fresh : Reached freshSpan farthest
+unfolding handedAll
+reached-fresh = record { pieces = []; span = refl; room = omega arith }
