@@ -25,7 +25,7 @@ use Rattle.items.specs.Answer.{Message, itemIn, row, parameters, valueAllowed, 
 use Rattle.items.proofs.Classes.{fitting, unnamed}
 use Rattle.items.proofs.Judging.{by-item}
 use Rattle.station.specs.Feeding.{answered}
-use Rattle.items.proofs.Rows.{Each, _⨾_, found-at, row-code}
+use Rattle.items.proofs.Rows.{Each, _then_, found-at, row-code}
 use Rattle.items.proofs.Judging.{passed}
 use Rattle.station.proofs.Kept.{left-alone}
 use Rattle.demands.specs.Shown.{shownBy, valueSet, Held, showing, touches, changes, afterAll, noneChanges}
@@ -72,17 +72,17 @@ state-leaves j t s p = go (eqb (runByte p) idle) (s .running) (steady j t)
 leave : Each Leaves items
 leave =
     (λ j t s p q. refl)
-    ⨾ (λ j t s p q. refl)
-    ⨾ (λ j t s p q. refl)
-    ⨾ (λ j t s p q. refl)
-    ⨾ (λ j t s p q. refl)
-    ⨾ state-leaves
-    ⨾ (leaves-each 0x0020 frequency (search no-such depth 30))
-    ⨾ (leaves-each 0x0038 gain (search no-such depth 30))
-    ⨾ (leaves-each 0x00B0 clock (search no-such depth 30))
-    ⨾ (leaves-each 0x00B8 rate (search no-such depth 30))
-    ⨾ (leaves-each 0x00C4 packetSize (search no-such depth 30))
-    ⨾ tt
+    then (λ j t s p q. refl)
+    then (λ j t s p q. refl)
+    then (λ j t s p q. refl)
+    then (λ j t s p q. refl)
+    then state-leaves
+    then (leaves-each 0x0020 frequency (search no-such depth 30))
+    then (leaves-each 0x0038 gain (search no-such depth 30))
+    then (leaves-each 0x00B0 clock (search no-such depth 30))
+    then (leaves-each 0x00B8 rate (search no-such depth 30))
+    then (leaves-each 0x00C4 packetSize (search no-such depth 30))
+    then tt
 
 -- Other items are unchanged: a set of one item, whatever its parameters, leaves the value of every other, but for the status
 -- where the state is set
@@ -144,17 +144,17 @@ show : Each Shows items
 unfolding shownBy
 show =
     (λ size long. absurd (true-not-false (sym long)))
-    ⨾ (λ size long. absurd (true-not-false (sym long)))
-    ⨾ (λ size long. absurd (true-not-false (sym long)))
-    ⨾ (λ size long. absurd (true-not-false (sym long)))
-    ⨾ (λ size long. absurd (true-not-false (sym long)))
-    ⨾ state-shows
-    ⨾ (λ size long s p room b may free q. field-shown 1 5 p (omega (arith, eqb-true size 10 long)) b)
-    ⨾ (λ size long s p room b may free q. byte-shown 1 p (omega (arith, eqb-true size 6 long)) b)
-    ⨾ (λ size long s p room b may free q. field-shown 1 4 p (omega (arith, eqb-true size 9 long)) b)
-    ⨾ (λ size long s p room b may free q. rw (nearest-d (field 1 4 p) may) refl)
-    ⨾ (λ size long s p room b may free q. byte-shown 0 p (omega (arith, eqb-true size 5 long)) b)
-    ⨾ tt
+    then (λ size long. absurd (true-not-false (sym long)))
+    then (λ size long. absurd (true-not-false (sym long)))
+    then (λ size long. absurd (true-not-false (sym long)))
+    then (λ size long. absurd (true-not-false (sym long)))
+    then state-shows
+    then (λ size long s p room b may free q. field-shown 1 5 p (omega (arith, eqb-true size 10 long)) b)
+    then (λ size long s p room b may free q. byte-shown 1 p (omega (arith, eqb-true size 6 long)) b)
+    then (λ size long s p room b may free q. field-shown 1 4 p (omega (arith, eqb-true size 9 long)) b)
+    then (λ size long s p room b may free q. rw (nearest-d (field 1 4 p) may) refl)
+    then (λ size long s p room b may free q. byte-shown 0 p (omega (arith, eqb-true size 5 long)) b)
+    then tt
 
 -- ---- what an accepted message passed
 

@@ -15,9 +15,9 @@ Each P [] = Unit {0}
 Each P (i ∷ is) = P (i .code) i × Each P is
 
 -- a line, and those after it
-infixr 5 _⨾_
-abbrev pub _⨾_ : {A B : Type 0} → A → B → A × B
-_⨾_ line rest = (line, rest)
+infixr 5 _then_
+abbrev pub _then_ : {A B : Type 0} → A → B → A × B
+_then_ line rest = (line, rest)
 
 row-at : (P : ℕ → Item → Type 0) → ((code : ℕ) → P code noItem) → (is : List Item) (code : ℕ) → Each P is → P code (rowIn is code)
 row-at P none [] code h = none code

@@ -18,7 +18,7 @@ use Rattle.framing.specs.Framing.{taken, finished}
 use Rattle.items.specs.declared.Settings.{Settings}
 use Rattle.items.specs.Items.{Item, rowOf, state, stateAfter, runByte, idle}
 use Rattle.items.specs.Answer.{Message, replyOf, codeOf, checks, refusedRunning, settingsAfter, row, parameters, itemIn}
-use Rattle.items.proofs.Rows.{_⨾_, found}
+use Rattle.items.proofs.Rows.{_then_, found}
 use Rattle.station.specs.declared.Station.{Station}
 use Rattle.station.specs.Station.{valid}
 use Rattle.station.specs.Feeding.{Feeding, feedingOf, fedBy, messageIn, waiting, answered, refused as refuses}
@@ -99,34 +99,34 @@ rows-leave : (code : ℕ) → Leaves (rowOf code)
 rows-leave =
     found Leaves (λ s p r l a. refl)
     ((λ s p r l a. refl)
-    ⨾ (λ s p r l a. refl)
-    ⨾ (λ s p r l a. refl)
-    ⨾ (λ s p r l a. refl)
-    ⨾ (λ s p r l a. refl)
-    ⨾ state-leaves
-    ⨾ (λ s p r l a. refl)
-    ⨾ (λ s p r l a. refl)
-    ⨾ (λ s p r l a. refl)
-    ⨾ (λ s p r l a. never (sym l))
-    ⨾ (λ s p r l a. never (sym l))
-    ⨾ tt)
+    then (λ s p r l a. refl)
+    then (λ s p r l a. refl)
+    then (λ s p r l a. refl)
+    then (λ s p r l a. refl)
+    then state-leaves
+    then (λ s p r l a. refl)
+    then (λ s p r l a. refl)
+    then (λ s p r l a. refl)
+    then (λ s p r l a. never (sym l))
+    then (λ s p r l a. never (sym l))
+    then tt)
 
 -- all but the state keep an idle box idle
 rows-start : (code : ℕ) → Starts (rowOf code)
 rows-start =
     found Starts (λ s p r a. never (sym r ∙ a))
     ((λ s p r a. never (sym r ∙ a))
-    ⨾ (λ s p r a. never (sym r ∙ a))
-    ⨾ (λ s p r a. never (sym r ∙ a))
-    ⨾ (λ s p r a. never (sym r ∙ a))
-    ⨾ (λ s p r a. never (sym r ∙ a))
-    ⨾ state-starts
-    ⨾ (λ s p r a. never (sym r ∙ a))
-    ⨾ (λ s p r a. never (sym r ∙ a))
-    ⨾ (λ s p r a. never (sym r ∙ a))
-    ⨾ (λ s p r a. never (sym r ∙ a))
-    ⨾ (λ s p r a. never (sym r ∙ a))
-    ⨾ tt)
+    then (λ s p r a. never (sym r ∙ a))
+    then (λ s p r a. never (sym r ∙ a))
+    then (λ s p r a. never (sym r ∙ a))
+    then (λ s p r a. never (sym r ∙ a))
+    then state-starts
+    then (λ s p r a. never (sym r ∙ a))
+    then (λ s p r a. never (sym r ∙ a))
+    then (λ s p r a. never (sym r ∙ a))
+    then (λ s p r a. never (sym r ∙ a))
+    then (λ s p r a. never (sym r ∙ a))
+    then tt)
 
 -- an accepted set was not locked
 unlocked : (s : Settings) (m : Message) → codeOf s m ≡ 1 → m .type ≡ typeSet → s .running ≡ true → row m .locked s (parameters m) ≡ false

@@ -1,5 +1,6 @@
 // The session program: standard input is fed to a fresh box with serial MT123456, and its raw replies go to standard
 // output. It stands behind a TCP relay, so every reply is written before the program waits for more input.
+use libc::STDERR_FILENO;
 use libc::STDIN_FILENO;
 use libc::STDOUT_FILENO;
 use station::Fed;
@@ -9,11 +10,13 @@ ghost use Rattle.station.specs.Feeding.{feedingOf};
 ghost use Rattle.session.specs.Session.{Sound, HandedOver};
 
 // Writes the reply of a box to some bytes of the host, in one write. Box and bytes are there for the contract alone, which
-// says whose reply it is.
+// says whose reply it is. That it could not be written is said on standard error.
 fn write_reply(s: Station, host: &[u8], reply: &[u8])
     requires { ⌜ now reply ≡ feedingOf s (now host) 64 .bytes ⌝ }
 {
-    io::write_all(STDOUT_FILENO, reply);
+    if !io::write_all(STDOUT_FILENO, reply) {
+        io::write_all(STDERR_FILENO, b"session: a reply could not be written\n");
+    }
 }
 
 // One call of feeding on what is left of a piece, and its reply.
@@ -44,7 +47,15 @@ fn feed_piece(s: Station, piece: &[u8]) -> Station
     now
 }
 
-// Reads pieces as they come, until the input ends. A proved loop has to end, and nothing says that the input does. So
+// A read that failed is said on standard error.
+fn read_failed() {
+    io::write_all(
+        STDERR_FILENO,
+        b"session: the input could not be read to its end\n",
+    );
+}
+
+// Reads pieces as they come, until the input ends or a read fails. A proved loop has to end, and nothing says that the input does. So
 // the loop counts its turns down, from a number that no run uses up.
 fn serve(s: Station, buf: &mut [u8])
     requires { ⌜ Sound s ⌝ }
@@ -53,7 +64,11 @@ fn serve(s: Station, buf: &mut [u8])
     let mut turns = u64::MAX;
     while turns > 0 {
         let got = libc::read(STDIN_FILENO, buf);
-        if got <= 0 {
+        if got < 0 {
+            read_failed();
+            return;
+        }
+        if got == 0 {
             return;
         }
         let n = io::count(got, buf);

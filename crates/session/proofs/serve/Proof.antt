@@ -24,6 +24,15 @@ same-length c = search needs
 returns : tie.Need-returns Inv-loop μ-loop
 returns c = search needs
 
+read-failed-requires : tie.Need-read-failed-requires Inv-loop μ-loop
+read-failed-requires c κs = search needs
+
+same-length-2 : tie.Need-same-length-2 Inv-loop μ-loop
+same-length-2 c = search needs
+
+returns-2 : tie.Need-returns-2 Inv-loop μ-loop
+returns-2 c = search needs
+
 count-requires : tie.Need-count-requires Inv-loop μ-loop
 count-requires c κs = search needs
 
@@ -45,11 +54,11 @@ loop-less c = search needs
 loop-again : tie.Need-loop-again Inv-loop μ-loop
 loop-again c = search needs
 
-same-length-2 : tie.Need-same-length-2 Inv-loop μ-loop
-same-length-2 c = search needs
+same-length-3 : tie.Need-same-length-3 Inv-loop μ-loop
+same-length-3 c = search needs
 
-returns-2 : tie.Need-returns-2 Inv-loop μ-loop
-returns-2 c = search needs
+returns-3 : tie.Need-returns-3 Inv-loop μ-loop
+returns-3 c = search needs
 
 pub serve-spec : {M : Type 1} → statement M
 serve-spec =
@@ -59,8 +68,11 @@ serve-spec =
     μ-loop
     loop-holds
     read-requires
+    read-failed-requires
     same-length
     returns
+    same-length-2
+    returns-2
     count-requires
     slice-reshare-prefix-feed-piece
     slice-aggregate-feed-piece
@@ -68,5 +80,5 @@ serve-spec =
     sub-turns
     loop-less
     loop-again
-    same-length-2
-    returns-2)
+    same-length-3
+    returns-3)
