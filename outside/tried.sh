@@ -1,0 +1,104 @@
+#!/bin/sh
+# tried.sh: the wrong answers of docs/FIRMNESS.md that the gate has no time for. Each edit of outside/tried/CRATE/ is made in a
+# copy of its crate, and must be refused because a fact fails. One that does not compile, or whose proof only no longer fits
+# the code's shape, shows nothing, and counts as failed.
+#
+#     outside/tried.sh [CRATE...]      every crate that has such edits, by default
+#
+# It works in a temporary copy of the repository, and takes over what is proved in target/.
+set -eu
+cd "$(dirname "$0")/.."
+if [ $# -eq 0 ]; then
+    for folder in outside/tried/*/; do set -- "$@" "$(basename "$folder")"; done
+fi
+for crate; do
+    [ -d "outside/tried/$crate" ] || { echo "tried.sh: there is no outside/tried/$crate" >&2; exit 2; }
+done
+
+room=$(cd "$(mktemp -d)" && pwd -P)
+trap 'rm -rf "$room"' EXIT
+trap 'exit 130' INT TERM
+git ls-files -z crates crates.txt | xargs -0 tar -cf - | tar -xf - -C "$room"
+# `rt must-fail CRATE` tries the edits of the crates that CRATE depends on too: the copy has those of one crate at a time
+rm -rf "$room"/crates/*/must-fail
+mkdir "$room/target"
+for part in rlib stamp; do
+    [ ! -d "target/$part" ] || cp -R "target/$part" "$room/target/$part"
+done
+
+# What the first error of an edit's log is: "fact" or "other", the function, the need, and why it is not met.
+first_of() { # CRATE NAME
+    LC_ALL=C awk -v where="$room/target/must-fail/$1/$2/" '
+        # the function around a line of a source file
+        function function_at(file, line,    text, n, name) {
+            while (n++ < line && (getline text < (where file)) > 0)
+                if (match(text, /fn [a-z0-9_]+/)) name = substr(text, RSTART + 3, RLENGTH - 3)
+            close(where file)
+            return name
+        }
+        # the text with its long terms cut
+        function short(text,    out, term) {
+            while (match(text, /`[^`]*`/)) {
+                term = substr(text, RSTART + 1, RLENGTH - 2)
+                gsub(/( \.before)+/, " ..", term)
+                if (length(term) > 50) { term = substr(term, 1, 50); sub(/[\200-\377]+$/, "", term); term = term ".." }
+                out = out substr(text, 1, RSTART) term "`"
+                text = substr(text, RSTART + RLENGTH)
+            }
+            return out text
+        }
+        function tell(kind) { print kind " " place (need == "" ? "" : ", " need) ": " short(why); told = 1; exit }
+        !at && index($0, where) {
+            at = NR
+            why = substr($0, index($0, where) + length(where))
+            split(why, part, ":")
+            sub(/^[^:]*:[0-9]+:[0-9]+: (error: )?/, "", why)
+            place = part[1]
+            if (place ~ /^src\//) place = function_at(place, part[2])
+            else if (place ~ /Proof\.antt$/) { sub(/^proofs\//, "", place); sub(/\/Proof\.antt$/, "", place); gsub("/", "::", place) }
+            if (match(why, /^`[^`]*`: /)) { need = substr(why, 2, RLENGTH - 4); why = substr(why, RLENGTH + 1) }
+            if (why ~ /^it is not proved that/) {
+                if (match(why, /\(`[^`]*`\)$/)) { need = substr(why, RSTART + 2, RLENGTH - 4); why = substr(why, 1, RSTART - 2) }
+                tell("fact")
+            }
+            if (part[1] ~ /^src\//) tell("other")
+            if (why ~ /^`search`: no proof of/) { why = "no proof is found"; tell("fact") }
+            if (why ~ /^`omega`: .* does not follow/) { why = "it does not follow from what is known"; tell("fact") }
+        }
+        at && NR > at && /^[^ ]/ { exit }
+        at && /has no `Need-|can be named from here|expected type `tie\.Need-/ { tell("other") }
+        at && /what it leaves must be a path whose two ends are equal/ { why = "the two sides are not equal after the rewriting"; tell("fact") }
+        at && /computed as far as they go, the two types/ { sub(/.*computed as far as they go, /, ""); differ = 1; why = "" }
+        differ == 1 { sub(/^ +/, ""); why = why (why == "" ? "" : " ") $0; if (/\(found\)/ || /expected type/) differ = 2 }
+        END {
+            if (told) exit
+            if (!at) why = "the log has no error"
+            tell(differ ? "fact" : "other")
+        }' "$room/target/must-fail/$1/$2/.log"
+}
+
+tried=0 facts=0
+for crate; do
+    cp -R "outside/tried/$crate" "$room/crates/$crate/must-fail"
+    (cd "$room" && rt must-fail "$crate") >"$room/said" 2>&1 || :
+    for edit in "outside/tried/$crate"/*.edit; do
+        name=$(basename "$edit" .edit)
+        tried=$((tried + 1))
+        case $(cat "$room/target/must-fail/$crate/$name.res" 2>/dev/null) in
+        refused)
+            first=$(first_of "$crate" "$name")
+            case $first in
+            fact*) facts=$((facts + 1)) && echo "$crate/$name: refused at ${first#fact }" ;;
+            *) echo "$crate/$name: REFUSED FOR ANOTHER REASON at ${first#other }" ;;
+            esac
+            ;;
+        *)
+            echo "$crate/$name: NOT REFUSED"
+            grep -A 5 "must-fail $crate/$name: " "$room/said" || tail -n 5 "$room/said"
+            ;;
+        esac
+    done
+    rm -rf "$room/crates/$crate/must-fail"
+done
+echo "$tried tried, $facts refused because a fact fails"
+[ "$tried" -eq "$facts" ]
