@@ -48,7 +48,8 @@ first_of() { # CRATE NAME
             return out text
         }
         function tell(kind) { print kind " " place (need == "" ? "" : ", " need) ": " short(why); told = 1; exit }
-        !at && index($0, where) {
+        # an error that only says what another one entails is passed over
+        !at && index($0, where) && !/was not admitted/ {
             at = NR
             why = substr($0, index($0, where) + length(where))
             split(why, part, ":")
@@ -66,9 +67,10 @@ first_of() { # CRATE NAME
             if (why ~ /^`omega`: .* does not follow/) { why = "it does not follow from what is known"; tell("fact") }
         }
         at && NR > at && /^[^ ]/ { exit }
-        at && /has no `Need-|can be named from here|expected type `tie\.Need-/ { tell("other") }
+        at && /has no `Need-|can be named from here|expected type `tie\./ { tell("other") }
         at && /what it leaves must be a path whose two ends are equal/ { why = "the two sides are not equal after the rewriting"; tell("fact") }
         at && /computed as far as they go, the two types/ { sub(/.*computed as far as they go, /, ""); differ = 1; why = "" }
+        at && !differ && /^ +but this has type/ { why = "what is proved is something else than what is needed"; differ = 2 }
         differ == 1 { sub(/^ +/, ""); why = why (why == "" ? "" : " ") $0; if (/\(found\)/ || /expected type/) differ = 2 }
         END {
             if (told) exit
