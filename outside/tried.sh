@@ -48,8 +48,8 @@ first_of() { # CRATE NAME
             return out text
         }
         function tell(kind) { print kind " " place (need == "" ? "" : ", " need) ": " short(why); told = 1; exit }
-        # an error that only says what another one entails is passed over
-        !at && index($0, where) && !/was not admitted/ {
+        # the first error that is not only what another one entails
+        !at && index($0, where) && /: error: |: it is not proved that/ && !/was not admitted/ {
             at = NR
             why = substr($0, index($0, where) + length(where))
             split(why, part, ":")
@@ -69,13 +69,22 @@ first_of() { # CRATE NAME
         at && NR > at && /^[^ ]/ { exit }
         at && /has no `Need-|can be named from here|expected type `tie\./ { tell("other") }
         at && /what it leaves must be a path whose two ends are equal/ { why = "the two sides are not equal after the rewriting"; tell("fact") }
-        at && /computed as far as they go, the two types/ { sub(/.*computed as far as they go, /, ""); differ = 1; why = "" }
-        at && !differ && /^ +but this has type/ { why = "what is proved is something else than what is needed"; differ = 2 }
-        differ == 1 { sub(/^ +/, ""); why = why (why == "" ? "" : " ") $0; if (/\(found\)/ || /expected type/) differ = 2 }
+        # "as printed, the two .. differ where ..", and mostly a second such text, "computed as far as they go, ..", which says it better
+        at && /(as printed|computed as far as they go), the two (types|sides)/ {
+            sub(/.*(as printed|computed as far as they go), /, "")
+            differ = "more"
+            why = ""
+        }
+        differ == "more" {
+            sub(/^ +/, "")
+            why = why (why == "" ? "" : " ") $0
+            if (/\((found|right)\)/) differ = "whole"
+        }
+        at && differ == "" && /^ +but this has type/ { why = "what is proved is something else than what is needed"; differ = "whole" }
         END {
             if (told) exit
             if (!at) why = "the log has no error"
-            tell(differ ? "fact" : "other")
+            tell(differ == "" ? "other" : "fact")
         }' "$room/target/must-fail/$1/$2/.log"
 }
 
