@@ -26,8 +26,10 @@ for part in rlib stamp; do
     [ ! -d "target/$part" ] || cp -R "target/$part" "$room/target/$part"
 done
 
-# What the first error of an edit's log is: "fact" or "other", the function, the need, and why it is not met.
-first_of() { # CRATE NAME
+# What an edit's log says: "fact" or "other", the function, the need that is not met, and why. Of several errors the first is
+# told that is about what a function returns, and else the first: a need on the way may fail only because its proof names
+# the number that was changed.
+error_of() { # CRATE NAME
     LC_ALL=C awk -v where="$room/target/must-fail/$1/$2/" '
         # the function around a line of a source file
         function function_at(file, line,    text, n, name) {
@@ -47,45 +49,43 @@ first_of() { # CRATE NAME
             }
             return out text
         }
-        function tell(kind) { print kind " " place (need == "" ? "" : ", " need) ": " short(why); told = 1; exit }
-        # the first error that is not only what another one entails
-        !at && index($0, where) && /: error: |: it is not proved that/ && !/was not admitted/ {
-            at = NR
-            why = substr($0, index($0, where) + length(where))
-            split(why, part, ":")
-            sub(/^[^:]*:[0-9]+:[0-9]+: (error: )?/, "", why)
+        # where the two things differ that are compared, by a text that begins so
+        function difference(text, begin,    i) {
+            i = index(text, begin ", the two ")
+            if (!i) return ""
+            text = substr(text, i + length(begin) + 2)
+            if (match(text, /\((found|right)\)/)) text = substr(text, 1, RSTART + RLENGTH - 1)
+            return text ~ /^the two (types|sides) are identical/ ? "" : text
+        }
+        function judge(    part, place, need, kind, why) {
+            if (error == "" || chosen) return
+            split(error, part, ":")
             place = part[1]
             if (place ~ /^src\//) place = function_at(place, part[2])
             else if (place ~ /Proof\.antt$/) { sub(/^proofs\//, "", place); sub(/\/Proof\.antt$/, "", place); gsub("/", "::", place) }
-            if (match(why, /^`[^`]*`: /)) { need = substr(why, 2, RLENGTH - 4); why = substr(why, RLENGTH + 1) }
-            if (why ~ /^it is not proved that/) {
-                if (match(why, /\(`[^`]*`\)$/)) { need = substr(why, RSTART + 2, RLENGTH - 4); why = substr(why, 1, RSTART - 2) }
-                tell("fact")
-            }
-            if (part[1] ~ /^src\//) tell("other")
-            if (why ~ /^`search`: no proof of/) { why = "no proof is found"; tell("fact") }
-            if (why ~ /^`omega`: .* does not follow/) { why = "it does not follow from what is known"; tell("fact") }
+            sub(/^[^:]*:[0-9]+:[0-9]+: (error: )?/, "", error)
+            if (match(error, /^`[^`]*`: /)) { need = substr(error, 2, RLENGTH - 4); error = substr(error, RLENGTH + 1) }
+            kind = "fact"
+            if (error ~ /^it is not proved that/) {
+                why = error
+                if (match(why, / \(`[^`]*`\)$/)) { need = substr(why, RSTART + 3, RLENGTH - 5); why = substr(why, 1, RSTART - 1) }
+            } else if (part[1] ~ /^src\// || error ~ /has no `Need-|can be named from here|expected type `tie\./) { kind = "other"; why = error }
+            else if (error ~ /^`search`: no proof of/) why = "no proof is found"
+            else if (error ~ /^`omega`: .* does not follow/) why = "it does not follow from what is known"
+            else if (error ~ /what it leaves must be a path whose two ends are equal/) why = "the two sides are not equal after the rewriting"
+            else if ((why = difference(error, "computed as far as they go")) != "") { }
+            else if ((why = difference(error, "as printed")) != "") { }
+            else if (error ~ /but this has type/) why = "what is proved is something else than what is needed"
+            else { kind = "other"; why = error }
+            chosen = kind == "fact" && need ~ /^returns/
+            if (chosen || told == "") told = kind " " place (need == "" ? "" : ", " need) ": " short(why)
+            error = ""
         }
-        at && NR > at && /^[^ ]/ { exit }
-        at && /has no `Need-|can be named from here|expected type `tie\./ { tell("other") }
-        at && /what it leaves must be a path whose two ends are equal/ { why = "the two sides are not equal after the rewriting"; tell("fact") }
-        # "as printed, the two .. differ where ..", and mostly a second such text, "computed as far as they go, ..", which says it better
-        at && /(as printed|computed as far as they go), the two (types|sides)/ {
-            sub(/.*(as printed|computed as far as they go), /, "")
-            differ = "more"
-            why = ""
-        }
-        differ == "more" {
-            sub(/^ +/, "")
-            why = why (why == "" ? "" : " ") $0
-            if (/\((found|right)\)/) differ = "whole"
-        }
-        at && differ == "" && /^ +but this has type/ { why = "what is proved is something else than what is needed"; differ = "whole" }
-        END {
-            if (told) exit
-            if (!at) why = "the log has no error"
-            tell(differ == "" ? "other" : "fact")
-        }' "$room/target/must-fail/$1/$2/.log"
+        # an error runs on in the lines that are set in; one that says only what another entails is passed over
+        /^[^ ]/ { judge() }
+        /^ / && error != "" { sub(/^ +/, ""); error = error " " $0 }
+        index($0, where) && /: error: |: it is not proved that/ && !/was not admitted/ { error = substr($0, index($0, where) + length(where)) }
+        END { judge(); print told == "" ? "other: the log has no error" : told }' "$room/target/must-fail/$1/$2/.log"
 }
 
 tried=0 facts=0
@@ -97,10 +97,10 @@ for crate; do
         tried=$((tried + 1))
         case $(cat "$room/target/must-fail/$crate/$name.res" 2>/dev/null) in
         refused)
-            first=$(first_of "$crate" "$name")
-            case $first in
-            fact*) facts=$((facts + 1)) && echo "$crate/$name: refused at ${first#fact }" ;;
-            *) echo "$crate/$name: REFUSED FOR ANOTHER REASON at ${first#other }" ;;
+            error=$(error_of "$crate" "$name")
+            case $error in
+            fact*) facts=$((facts + 1)) && echo "$crate/$name: refused at ${error#fact }" ;;
+            *) echo "$crate/$name: REFUSED FOR ANOTHER REASON at ${error#other }" ;;
             esac
             ;;
         *)
