@@ -26,9 +26,9 @@ for part in rlib stamp; do
     [ ! -d "target/$part" ] || cp -R "target/$part" "$room/target/$part"
 done
 
-# What an edit's log says: "fact" or "other", the function, the need that is not met, and why. Of several errors the first is
-# told that is about what a function returns, and else the first: a need on the way may fail only because its proof names
-# the number that was changed.
+# What an edit's log says: "fact" or "other", the function, the need that is not met, and why. Of several errors one is told
+# that is for another reason than a fact; else one about what a function returns, since a need on the way may fail only
+# because its proof names the number that was changed; else the first.
 error_of() { # CRATE NAME
     LC_ALL=C awk -v where="$room/target/must-fail/$1/$2/" '
         # the function around a line of a source file
@@ -58,7 +58,7 @@ error_of() { # CRATE NAME
             return text ~ /^the two (types|sides) are identical/ ? "" : text
         }
         function judge(    part, place, need, kind, why) {
-            if (error == "" || chosen) return
+            if (error == "") return
             split(error, part, ":")
             place = part[1]
             if (place ~ /^src\//) place = function_at(place, part[2])
@@ -69,7 +69,7 @@ error_of() { # CRATE NAME
             if (error ~ /^it is not proved that/) {
                 why = error
                 if (match(why, / \(`[^`]*`\)$/)) { need = substr(why, RSTART + 3, RLENGTH - 5); why = substr(why, 1, RSTART - 1) }
-            } else if (part[1] ~ /^src\// || error ~ /has no `Need-|can be named from here|expected type `tie\./) { kind = "other"; why = error }
+            } else if (part[1] ~ /^src\// || error ~ /has no `Need-|has no field|can be named from here|expected type `tie\./) { kind = "other"; why = error }
             else if (error ~ /^`search`: no proof of/) why = "no proof is found"
             else if (error ~ /^`omega`: .* does not follow/) why = "it does not follow from what is known"
             else if (error ~ /what it leaves must be a path whose two ends are equal/) why = "the two sides are not equal after the rewriting"
@@ -77,8 +77,8 @@ error_of() { # CRATE NAME
             else if ((why = difference(error, "as printed")) != "") { }
             else if (error ~ /but this has type/) why = "what is proved is something else than what is needed"
             else { kind = "other"; why = error }
-            chosen = kind == "fact" && need ~ /^returns/
-            if (chosen || told == "") told = kind " " place (need == "" ? "" : ", " need) ": " short(why)
+            rank = kind == "other" ? 3 : need ~ /^returns/ ? 2 : 1
+            if (best < rank) { best = rank; told = kind " " place (need == "" ? "" : ", " need) ": " short(why) }
             error = ""
         }
         # an error runs on in the lines that are set in; one that says only what another entails is passed over
@@ -105,7 +105,7 @@ for crate; do
             ;;
         *)
             echo "$crate/$name: NOT REFUSED"
-            grep -A 5 "must-fail $crate/$name: " "$room/said" || tail -n 5 "$room/said"
+            head -n 5 "$room/target/must-fail/$crate/$name.out" 2>/dev/null || tail -n 5 "$room/said"
             ;;
         esac
     done
