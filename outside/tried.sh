@@ -31,9 +31,9 @@ done
 # because its proof names the number that was changed; else the first.
 error_of() { # CRATE NAME
     LC_ALL=C awk -v where="$room/target/must-fail/$1/$2/" '
-        # the function around a line of a source file
+        # the function around a line of a source file, or after it where the line is an attribute
         function function_at(file, line,    text, n, name) {
-            while (n++ < line && (getline text < (where file)) > 0)
+            while ((n++ < line || text ~ /^#/) && (getline text < (where file)) > 0)
                 if (match(text, /fn [a-z0-9_]+/)) name = substr(text, RSTART + 3, RLENGTH - 3)
             close(where file)
             return name
