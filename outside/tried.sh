@@ -75,9 +75,11 @@ error_of() { # CRATE NAME
             else if (error ~ /what it leaves must be a path whose two ends are equal/) why = "the two sides are not equal after the rewriting"
             else if ((why = difference(error, "computed as far as they go")) != "") { }
             else if ((why = difference(error, "as printed")) != "") { }
+            else if (match(error, /^`[^`]*` ≟ `[^`]*`[: ]+does not hold/)) why = substr(error, 1, RLENGTH)
             else if (error ~ /but this has type/) why = "what is proved is something else than what is needed"
             else { kind = "other"; why = error }
-            rank = kind == "other" ? 3 : need ~ /^returns/ ? 2 : 1
+            # a rewriting that finds nothing to rewrite may be either, and is told where there is no other error
+            rank = error ~ /^`rw`: (no occurrence|neither the goal)/ ? 1 : kind == "other" ? 4 : need ~ /^returns/ ? 3 : 2
             if (best < rank) { best = rank; told = kind " " place (need == "" ? "" : ", " need) ": " short(why) }
             error = ""
         }
