@@ -64,7 +64,10 @@ fn code16(x: i32) -> u16
 // Writes all samples in three bytes each, unless one is outside 24 bits.
 fn pack24(samples: &[i32], packet: &mut [u8]) -> bool
     requires { ⌜ 4 + 3 * length (now samples) ≤ length (now packet) ⌝ }
-    ensures { λ r. ⌜ (r ≡ allSamples (now (samples .entry))) × (now (packet .exit) ≡ sets (now (packet .entry)) 4 (pick (allSamples (now (samples .entry))) (samplesBytes 24 (now (samples .entry))) [])) ⌝ }
+    ensures { λ r.
+        ⌜ (r ≡ allSamples (now (samples .entry)))
+        × (now (packet .exit)
+        ≡ sets (now (packet .entry)) 4 (pick (allSamples (now (samples .entry))) (samplesBytes 24 (now (samples .entry))) [])) ⌝ }
 {
     if !all_fit(samples) {
         return false;
@@ -81,7 +84,9 @@ fn pack24(samples: &[i32], packet: &mut [u8]) -> bool
 // the reading of the samples that takes the time.
 fn narrow(samples: &[i32], held: &mut [u16; 512]) -> bool
     requires { ⌜ length (now samples) ≤ 512 ⌝ }
-    ensures { λ r. ⌜ (r ≡ allSamples (now (samples .entry))) × (now (held .exit) ≡ sets (now (held .entry)) 0 (map (λ z. coded 32 (narrowed 16 z) % 65536) (now (samples .entry)))) ⌝ }
+    ensures { λ r.
+        ⌜ (r ≡ allSamples (now (samples .entry)))
+        × (now (held .exit) ≡ sets (now (held .entry)) 0 (map (λ z. coded 32 (narrowed 16 z) % 65536) (now (samples .entry)))) ⌝ }
 {
     let mut least = 0;
     let mut greatest = 0;
@@ -99,7 +104,10 @@ fn narrow(samples: &[i32], held: &mut [u16; 512]) -> bool
 // Writes all samples in two bytes each, I and Q of a pair at once, unless one is outside 24 bits.
 fn pack16(samples: &[i32], packet: &mut [u8], pairs: usize) -> bool
     requires { ⌜ (pairs ≤ 256) × (length (now samples) ≡ 2 * pairs) × (4 + 4 * pairs ≤ length (now packet)) ⌝ }
-    ensures { λ r. ⌜ (r ≡ allSamples (now (samples .entry))) × (now (packet .exit) ≡ sets (now (packet .entry)) 4 (pick (allSamples (now (samples .entry))) (samplesBytes 16 (now (samples .entry))) [])) ⌝ }
+    ensures { λ r.
+        ⌜ (r ≡ allSamples (now (samples .entry)))
+        × (now (packet .exit)
+        ≡ sets (now (packet .entry)) 4 (pick (allSamples (now (samples .entry))) (samplesBytes 16 (now (samples .entry))) [])) ⌝ }
 {
     let mut held = [0u16; 512];
     if !narrow(samples, &mut held) {
@@ -116,7 +124,9 @@ fn pack16(samples: &[i32], packet: &mut [u8], pairs: usize) -> bool
 // Writes the sample bytes of a packet of a form after its four leading bytes. It refuses, and writes nothing, where the
 // form is not listed, the samples are not its I/Q pairs, the slice has no room for the packet, or a sample is outside 24 bits.
 pub fn pack(f: Form, samples: &[i32], packet: &mut [u8]) -> bool
-    ensures { λ r. ⌜ (r ≡ mayPack f (now (samples .entry)) (length (now (packet .entry)))) × (now (packet .exit) ≡ sets (now (packet .entry)) 4 (packedOf f (now (samples .entry)) (length (now (packet .entry))))) ⌝ }
+    ensures { λ r.
+        ⌜ (r ≡ mayPack f (now (samples .entry)) (length (now (packet .entry))))
+        × (now (packet .exit) ≡ sets (now (packet .entry)) 4 (packedOf f (now (samples .entry)) (length (now (packet .entry))))) ⌝ }
 {
     if !packets::is_listed(f) {
         return false;

@@ -56,7 +56,9 @@ fn unpack24(packet: &[u8], out: &mut [i32], n: usize)
 // compiler makes a plain copy of the first inner loop, and reads the samples at once where they are written; no array is left.
 fn block16(packet: &[u8], out: &mut [i32], first: usize)
     requires { ⌜ (4 + 4 * (first + 64) ≤ length (now packet)) × (2 * (first + 64) ≤ length (now out)) ⌝ }
-    ensures { λ r. ⌜ now (out .exit) ≡ sets (now (out .entry)) (2 * first) (samplesFrom 16 (drop 4 (now (packet .entry))) (2 * first) (2 * (first + 64) - 2 * first)) ⌝ }
+    ensures { λ r.
+        ⌜ now (out .exit)
+        ≡ sets (now (out .entry)) (2 * first) (samplesFrom 16 (drop 4 (now (packet .entry))) (2 * first) (2 * (first + 64) - 2 * first)) ⌝ }
 {
     let mut held = [0u16; 128];
     let mut round = 0;
@@ -92,7 +94,9 @@ fn unpack16(packet: &[u8], out: &mut [i32], blocks: usize)
 // Writes the samples of a packet of a form at the start of `out`, I and Q in turn, as signed numbers of the width sent. It
 // refuses, and writes nothing, where the form is not listed, the packet is shorter than its form says, or `out` has no room.
 pub fn unpack(f: Form, packet: &[u8], out: &mut [i32]) -> bool
-    ensures { λ r. ⌜ (r ≡ mayUnpack f (length (now (packet .entry))) (length (now (out .entry)))) × (now (out .exit) ≡ sets (now (out .entry)) 0 (unpackedOf f (now (packet .entry)) (length (now (out .entry))))) ⌝ }
+    ensures { λ r.
+        ⌜ (r ≡ mayUnpack f (length (now (packet .entry))) (length (now (out .entry))))
+        × (now (out .exit) ≡ sets (now (out .entry)) 0 (unpackedOf f (now (packet .entry)) (length (now (out .entry))))) ⌝ }
 {
     if !packets::is_listed(f) {
         return false;
