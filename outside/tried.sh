@@ -18,7 +18,7 @@ done
 room=$(cd "$(mktemp -d)" && pwd -P)
 trap 'rm -rf "$room"' EXIT
 trap 'exit 130' INT TERM
-git ls-files -z crates crates.txt | xargs -0 tar -cf - | tar -xf - -C "$room"
+git ls-files -z crates crates.txt | tar --null -T - -cf - | tar -xf - -C "$room"
 # `rt must-fail CRATE` tries the edits of the crates that CRATE depends on too: the copy has those of one crate at a time
 rm -rf "$room"/crates/*/must-fail
 mkdir "$room/target"
