@@ -60,7 +60,7 @@ fn hand_over(s: Span, piece: &[u8], out: &mut [u8]) -> Span
     span
 }
 
-// How reading came to an end: the span then, and whether no read failed.
+// How reading came to an end: the span then, and whether all of the input that it wants was read.
 struct Ended {
     span: Span,
     whole: bool,
