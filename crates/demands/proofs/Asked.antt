@@ -1,6 +1,6 @@
 -- Demand 2: what the harvester asks is what the box understands, and what the box says is what the harvester reads.
 -- Assumes nothing.
-use Prim.Native.Nat.{ℕ, _+_, _-_, _≤_}
+use Prim.Native.Nat.{ℕ, _-_, _≤_}
 use native.Mathlib.Nat.{le-trans}
 use native.Mathlib.Omega.{arith}
 use borrow.Author.Tests.{lt-leb, not-false}
@@ -85,13 +85,13 @@ wish-held w =
 
 -- ---- the demand
 
-understands : (w : Wish) (s : Settings) (room : ℕ) → allowed w ≡ true → inRange s ≡ true → length (s .serial) ≡ 8 → 64 ≤ room
+understands : (w : Wish) (s : Settings) (room : ℕ) → allowed w ≡ true → inRange s ≡ true → 64 ≤ room
     → Understands w (messageOf w) s room
-understands w s room e v eight enough =
+understands w s room e v enough =
     record {
       code = ap (λ (f : Feeding). f .fed .code) fed ∙ code-of-wish w s e;
       does = ap (λ (f : Feeding). f .fed .station) fed ∙ ap resting (settings-of-wish w s e);
-      says = ap (λ (f : Feeding). toldOf w (f .bytes)) fed ∙ box-reply-is-read w s e v eight;
+      says = ap (λ (f : Feeding). toldOf w (f .bytes)) fed ∙ box-reply-is-read w s e v;
     }
   where
     fed : feedingOf (resting s) (messageOf w) room
@@ -99,7 +99,7 @@ understands w s room e v eight enough =
     fed =
         let t : taken between (messageOf w) ≡ tookAll (messageOf w) = wish-taken w in
         feeding-answered s between (messageOf w) room (valid-both s between v between-left) (told 0 between (messageOf w) ∙ ap (λ (k : Taking). k .finished) t)
-        (le-trans (reply-short s (messageIn (taken between (messageOf w) .store)) eight) enough)
+        (le-trans (reply-short s (messageIn (taken between (messageOf w) .store)) v) enough)
         ∙ ap (answered s) t
         ∙ ap (λ (m : Message). record { fed = record { code = codeOf s m; consumed = length (messageOf w); wrote = length (replyOf s m); station = resting (settingsAfter s m) }; bytes = replyOf s m }) (wish-held w)
 
@@ -113,5 +113,5 @@ unfolding bytesWritten
 message-written w buffer e = rw e refl
 
 pub what-is-asked-is-understood : WhatIsAskedIsUnderstood
-what-is-asked-is-understood w buffer e s v eight room enough =
-    rw (message-written w buffer e) (understands w s room (accepted w buffer e) v eight enough)
+what-is-asked-is-understood w buffer e s v room enough =
+    rw (message-written w buffer e) (understands w s room (accepted w buffer e) v enough)

@@ -23,7 +23,6 @@ use Rattle.station.specs.Serving.{Served, unserved, noting, called, Piece, serv
 use Rattle.station.proofs.Valid.{valid-both}
 use Rattle.wishes.specs.declared.Wish.{Wish}
 use Rattle.wishes.specs.Wishes.{layoutOf, messageOf, notNow}
-use Rattle.wishes.specs.Writing.{writeCode, bytesWritten}
 use Rattle.wishes.proofs.Rows.{short-message}
 use Rattle.replies.specs.Reading.{Told, toldOf}
 use Rattle.demands.specs.Shown.{resting}
@@ -56,10 +55,10 @@ read-once : (w : Wish) (reply : List ℕ) → 1 ≤ length reply → map (toldOf
 read-once w [] some = absurd (omega arith)
 read-once w (b ∷ bs) some = refl
 
-understood-in-pieces : (w : Wish) (s : Settings) (pieces : List Piece) → inRange s ≡ true → length (s .serial) ≡ 8
+understood-in-pieces : (w : Wish) (s : Settings) (pieces : List Piece) → inRange s ≡ true
     → roomy pieces → joined pieces ≡ messageOf w → Understands w (messageOf w) s 64 → UnderstandsInPieces w pieces s
 unfolding serving
-understood-in-pieces w s pieces ranged eight enough same u =
+understood-in-pieces w s pieces ranged enough same u =
     record {
       does = ap (λ (r : Served). r .station) served ∙ u .does;
       says =
@@ -74,8 +73,8 @@ understood-in-pieces w s pieces ranged eight enough same u =
     served : serving (unserved (resting s)) pieces ≡ called 64 (unserved (resting s)) (messageOf w)
     served =
         let l = length-wish w in
-        pieces-served s v eight pieces (whole (messageOf w) ∷ []) enough (λ n. le-refl 64, tt) (same ∙ sym (append-nil (messageOf w)))
-        ∙ message-served s v eight (messageOf w) [] [] (wish-taken w) (omega arith)
+        pieces-served s v pieces (whole (messageOf w) ∷ []) enough (λ n. le-refl 64, tt) (same ∙ sym (append-nil (messageOf w)))
+        ∙ message-served s v (messageOf w) [] [] (wish-taken w) (omega arith)
 
     some : 1 ≤ length (feedingOf (resting s) (messageOf w) 64 .bytes)
     some =
@@ -83,7 +82,7 @@ understood-in-pieces w s pieces ranged eight enough same u =
         (aloud (notNow w s) s (messageIn (taken between (messageOf w) .store)))
 
 pub what-is-asked-is-understood-in-pieces : WhatIsAskedIsUnderstoodInPieces
-what-is-asked-is-understood-in-pieces w buffer e s ranged eight pieces enough same =
+what-is-asked-is-understood-in-pieces w buffer e s ranged pieces enough same =
     let written = message-written w buffer e in
-    understood-in-pieces w s pieces ranged eight enough (same ∙ written)
-    (rw written at (what-is-asked-is-understood w buffer e s ranged eight 64 (le-refl 64)))
+    understood-in-pieces w s pieces ranged enough (same ∙ written)
+    (rw written at (what-is-asked-is-understood w buffer e s ranged 64 (le-refl 64)))

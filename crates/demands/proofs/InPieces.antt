@@ -16,7 +16,7 @@ use Rattle.station.specs.Feeding.{messageIn, feedingOf}
 use Rattle.station.specs.Serving.{Served, unserved, called, calling, Piece, serving, joined, roomy}
 use Rattle.station.proofs.Serving.{cuts-do-not-matter}
 use Rattle.station.proofs.Short.{reply-short}
-use Rattle.station.proofs.Valid.{feeding-answered}
+use Rattle.station.proofs.Valid.{valid-settings, feeding-answered}
 use Rattle.demands.specs.Shown.{resting}
 use Rattle.demands.proofs.OneMessage.{tookAll}
 
@@ -39,12 +39,12 @@ called-once r (b ∷ bs) some all =
     (ap (λ (n : ℕ). drop n (b ∷ bs)) all ∙ drop-of-length-le (b ∷ bs) (le-refl (length (b ∷ bs))))
     ∙ calling-none (λ calls. 64) (length bs) (called 64 r (b ∷ bs))
 
-module _ (s : Settings) (v : valid (resting s) ≡ true) (eight : length (s .serial) ≡ 8) where
+module _ (s : Settings) (v : valid (resting s) ≡ true) where
   -- a whole message is consumed by the call that answers it
   message-consumed : (m : List ℕ) → taken between m ≡ tookAll m → feedingOf (resting s) m 64 .fed .consumed ≡ length m
   message-consumed m took =
       rw (feeding-answered s between m 64 v (told 0 between m ∙ ap (λ (t : Taking). t .finished) took)
-      (reply-short s (messageIn (taken between m .store)) eight))
+      (reply-short s (messageIn (taken between m .store)) (valid-settings s between v)))
       (ap (λ (t : Taking). t .count) took)
 
   -- so that call is all of its piece's serving
@@ -60,4 +60,4 @@ module _ (s : Settings) (v : valid (resting s) ≡ true) (eight : length (s .ser
   pub pieces-served : (pieces wholes : List Piece) → roomy pieces → roomy wholes → joined pieces ≡ joined wholes
       → serving (unserved (resting s)) pieces ≡ serving (unserved (resting s)) wholes
   pieces-served pieces wholes enough more same =
-      cuts-do-not-matter (resting s) pieces wholes v (record { serial = eight; held = refl }) enough more same
+      cuts-do-not-matter (resting s) pieces wholes v enough more same

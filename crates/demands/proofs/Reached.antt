@@ -3,32 +3,29 @@
 use Prim.Native.Nat.{ℕ, _+_}
 use native.Mathlib.Omega.{arith}
 use borrow.Author.Tests.{le-leb, leb-false, eqb-true}
-use mathlib.Core.Path.{_≡_, refl, sym, _∙_}
-use mathlib.Core.Bool.{Bool, true, false, not}
+use mathlib.Core.Path.{_≡_, refl}
+use mathlib.Core.Bool.{Bool, true, false}
 use mathlib.Core.List.{List}
-use lib.Dec.{eqb, leb, ltb}
+use lib.Dec.{eqb, leb}
 use lib.IntN.{ℤ}
-use lib.ListN.{length, replicate}
+use lib.ListN.{replicate}
 use Rattle.wire.specs.Choice.{pick}
 use Rattle.packets.specs.Numbers.{most}
-use Rattle.framing.specs.Framing.{taken, finished, between}
+use Rattle.framing.specs.Framing.{between}
 use Rattle.items.specs.declared.Settings.{Settings}
-use Rattle.items.specs.Settings.{inRange, freshOf, allSerial, isSerial, withCount}
-use Rattle.items.specs.Answer.{replyOf, settingsAfter}
+use Rattle.items.specs.Settings.{inRange, freshOf, isSerial, withCount}
 use Rattle.station.specs.declared.Station.{Station}
 use Rattle.station.specs.Station.{valid, freshStation, freshBox}
-use Rattle.station.specs.Feeding.{feedingOf, messageIn, refused, waiting, answered}
 use Rattle.wire.proofs.Checks.{absent}
-use Rattle.wire.proofs.Laws.{and-right}
-use Rattle.station.proofs.Kept.{ranges, in-range, message-keeps}
-use Rattle.framing.proofs.Cutting.{told, taken-left}
+use Rattle.station.proofs.Calls.{feeding-keeps}
+use Rattle.station.proofs.Kept.{ranges, in-range}
 use Rattle.framing.proofs.Leaving.{between-left}
 use Rattle.station.proofs.Valid.{valid-settings, valid-store, valid-both}
 use Rattle.cutting.specs.Cutting.{cuttingOf, cutCode, cutChecks, cutFrom}
 use Rattle.demands.specs.Reached.{fresh, fed, cut, NeverOutOfRange}
 
 -- a fresh box is valid
-pub fresh-valid : (serial : List ℕ) → allSerial serial ≡ true → valid (freshStation serial) ≡ true
+pub fresh-valid : (serial : List ℕ) → isSerial serial ≡ true → valid (freshStation serial) ≡ true
 fresh-valid serial h =
     valid-both (freshOf serial) between
     (in-range (freshOf serial)
@@ -40,24 +37,8 @@ fresh-box-valid : (serial : List ℕ) → valid (freshBox serial .station) ≡ t
 fresh-box-valid serial = go (isSerial serial) refl
   where
     go : (b : Bool) → isSerial serial ≡ b → valid (freshBox serial .station) ≡ true
-    go true q = rw q (fresh-valid serial (and-right (eqb (length serial) 8) (allSerial serial) q))
+    go true q = rw q (fresh-valid serial q)
     go false q = rw q (fresh-valid (replicate 8 0x30) refl)
-
--- feeding a valid box leaves a valid box, whatever it is fed
-pub feeding-keeps : (s : Station) (host : List ℕ) (room : ℕ) → valid s ≡ true → valid (feedingOf s host room .fed .station) ≡ true
-unfolding feedingOf
-feeding-keeps s host room v = rw v (go (finished (taken (s .store) host .store)) refl (ltb room (length (replyOf (s .settings) (messageIn (taken (s .store) host .store))))))
-  where
-    go : (d : Bool) → finished (taken (s .store) host .store) ≡ d → (short : Bool)
-        → valid (pick (not d) (waiting (s .settings) (taken (s .store) host))
-        (pick short (refused 20 s) (answered (s .settings) (taken (s .store) host))) .fed .station) ≡ true
-    go true q true = v
-    go true q false =
-        valid-both (settingsAfter (s .settings) (messageIn (taken (s .store) host .store))) between
-        (message-keeps (s .settings) (messageIn (taken (s .store) host .store)) (valid-settings (s .settings) (s .store) v)) between-left
-    go false q short =
-        valid-both (s .settings) (taken (s .store) host .store) (valid-settings (s .settings) (s .store) v)
-        (taken-left 0 (s .store) host (valid-store (s .settings) (s .store) v) (sym (told 0 (s .store) host) ∙ q))
 
 -- one packet more than a count below the most
 counted : (s : Settings) → inRange s ≡ true → leb most (s .count) ≡ false → inRange (withCount (s .count + 1) s) ≡ true

@@ -2,27 +2,25 @@
 -- Assumes nothing.
 use Prim.Native.Nat.{ℕ, _≤_, _<_}
 use mathlib.Core.Path.{_≡_, refl}
-use mathlib.Core.Bool.{not}
 use mathlib.Core.List.{List}
 use native.Mathlib.Omega.{arith}
 use borrow.Author.Tests.{ne-eqb}
-use lib.Dec.{eqb, ltb}
+use lib.Dec.{eqb}
 use lib.IntN.{ℤ}
-use lib.ListN.{length}
 use Rattle.wire.specs.Header.{nak}
 use Rattle.wire.proofs.Checks.{given-below}
 use Rattle.wire.proofs.Laws.{pick-keeps}
-use Rattle.framing.specs.Framing.{Taking, taken, finished}
+use Rattle.framing.specs.Framing.{taken}
 use Rattle.items.specs.declared.Settings.{Settings}
 use Rattle.items.specs.Answer.{Message, checks, codeOf, settingsAfter, replyOf}
 use Rattle.reader.specs.declared.Reader.{Reader}
 use Rattle.packets.specs.Numbers.{numberIn}
 use Rattle.reader.specs.Reading.{positionAfter, readCode, readingOf, heardAt, unheard}
 use Rattle.station.specs.declared.Station.{Station}
-use Rattle.station.specs.Station.{valid}
-use Rattle.station.specs.Feeding.{Feeding, messageIn, feedingOf, refused, waiting, answered, answering, fedBy}
+use Rattle.station.specs.Feeding.{messageIn, feedingOf}
+use Rattle.station.proofs.Valid.{each-way}
 use Rattle.cutting.specs.Cutting as cutting
-use Rattle.cutting.specs.Cutting.{Cutting, cutCode, cutFrom, cuttingOf}
+use Rattle.cutting.specs.Cutting.{cutCode, cutFrom, cuttingOf}
 use Rattle.packets.specs.Forms.{wholeOf}
 use Rattle.demands.specs.Refused.{NakOnly, FeedsNothing, CutsNothing, HearsNothing}
 
@@ -42,29 +40,17 @@ refused-kept s m r = rw (ne-eqb (codeOf s m) 1 (λ e. omega arith)) refl
 
 -- ---- feeding
 
--- what holds of each way that a call of feeding can go
-pub each-way : (P : Feeding → Type 0) (s : Station) (host : List ℕ) (room : ℕ) → P (refused 21 s) → P (refused 20 s)
-    → P (waiting (s .settings) (taken (s .store) host)) → P (answered (s .settings) (taken (s .store) host)) → P (feedingOf s host room)
-unfolding feedingOf
-each-way P s host room broken short open′ done =
-    pick-keeps P (not (valid s)) (refused 21 s) (fedBy s t room) (λ e. broken)
-    (λ e. pick-keeps P (not (finished (t .store))) (waiting (s .settings) t) (answering s t room) (λ f. open′)
-    (λ f. pick-keeps P (ltb room (length (replyOf (s .settings) (messageIn (t .store))))) (refused 20 s) (answered (s .settings) t) (λ g. short) (λ g. done)))
-  where
-    t : Taking
-    t = taken (s .store) host
-
 pub nak-and-nothing-else : (s : Station) (host : List ℕ) (room : ℕ) → NakOnly s host (feedingOf s host room)
 nak-and-nothing-else s host room =
-    each-way (NakOnly s host) s host room (λ low high. absurd (omega arith)) (λ low high. absurd (omega arith)) (λ low high. absurd (omega arith))
-    (λ low high.
+    each-way (NakOnly s host) s host room (λ v low high. absurd (omega arith)) (λ v low high. absurd (omega arith)) (λ v f low high. absurd (omega arith))
+    (λ v f enough low high.
     let m = messageIn (taken (s .store) host .store) in
     rw (refused-reply (s .settings) m low, refused-kept (s .settings) m low) (refl, refl, refl, refl))
 
 pub fed-refused : (s : Station) (host : List ℕ) (room : ℕ) → FeedsNothing s (feedingOf s host room)
 fed-refused s host room =
-    each-way (FeedsNothing s) s host room (λ r. (refl, refl, refl, refl)) (λ r. (refl, refl, refl, refl)) (λ r. absurd (omega arith))
-    (λ r. absurd (omega (arith, code-below (s .settings) (messageIn (taken (s .store) host .store)))))
+    each-way (FeedsNothing s) s host room (λ v r. (refl, refl, refl, refl)) (λ v r. (refl, refl, refl, refl)) (λ v f r. absurd (omega arith))
+    (λ v f enough r. absurd (omega (arith, code-below (s .settings) (messageIn (taken (s .store) host .store)))))
 
 -- ---- cutting and reading
 

@@ -5,9 +5,9 @@ use Prim.Native.Nat.{ℕ, zero, suc, _+_, _-_, _≤_, _<_, max}
 use native.Mathlib.Nat.{le-trans}
 use native.Mathlib.Omega.{arith}
 use mathlib.Core.Path.{_≡_, refl, sym, ap, _∙_}
-use mathlib.Core.Bool.{Bool, true, false, _&&_, not}
+use mathlib.Core.Bool.{Bool, true, false, _&&_}
 use mathlib.Core.List.{List, [], _∷_, _++_}
-use lib.Dec.{eqb, leb, ltb, lit≤}
+use lib.Dec.{eqb, leb, lit≤}
 use lib.IntN.{ℤ}
 use lib.ListN.{length, getD, replicate, length-append, length-replicate}
 use lib.Seq.{take-append-le}
@@ -24,13 +24,13 @@ use Rattle.items.specs.Items.{rowOf, listed}
 use Rattle.items.specs.Answer.{Message, itemIn, row, parameters, codeOf, settingsAfter, replyOf}
 use Rattle.station.specs.declared.Station.{Station}
 use Rattle.station.specs.Station.{valid}
-use Rattle.station.specs.Feeding.{messageIn, Feeding, refused, waiting, answered, feedingOf}
+use Rattle.station.specs.Feeding.{messageIn, Feeding, feedingOf}
 use Rattle.station.proofs.Short.{reply-short}
-use Rattle.station.proofs.Valid.{feeding-answered}
+use Rattle.station.proofs.Valid.{valid-settings, feeding-answered, each-way}
 use Rattle.cutting.specs.Cutting.{cutCode, cutFrom, cuttingOf}
-use Rattle.demands.proofs.Reached.{feeding-keeps, cutting-keeps}
+use Rattle.demands.proofs.Reached.{cutting-keeps}
 use Rattle.demands.proofs.OneMessage.{tookAll, one-message}
-use Rattle.station.proofs.Kept.{serial-kept}
+use Rattle.station.proofs.Calls.{feeding-keeps}
 use Rattle.demands.specs.Shown.{shownBy, valueSet, Held, showing, OneMessage, messageOf, resting, repliesWith, ShowsSets, finishedBy, naksAll, echoesOnly, Undisturbed, still, fed, cut}
 use Rattle.demands.proofs.Shown.{Same, message-leaves, asked-alike, asked-shows, answered-alike, has-value-set, set-replies}
 
@@ -74,13 +74,13 @@ module _ (m : List ℕ) (one : OneMessage m) where
       (take-append-le 2 m (replicate (64 - length m) 0) (one .least))
 
   -- a valid box answers it
-  pub message-fed : (s : Settings) (room : ℕ) → valid (resting s) ≡ true → length (s .serial) ≡ 8 → 64 ≤ room
+  pub message-fed : (s : Settings) (room : ℕ) → valid (resting s) ≡ true → 64 ≤ room
       → (feedingOf (resting s) m room .fed .code ≡ codeOf s (messageOf m))
       × (feedingOf (resting s) m room .fed .station ≡ resting (settingsAfter s (messageOf m)))
       × (feedingOf (resting s) m room .bytes ≡ replyOf s (messageOf m))
-  message-fed s room v eight enough =
+  message-fed s room v enough =
       rw (feeding-answered s between m room v (told 0 between m ∙ ap (λ (t : Taking). t .finished) took)
-      (le-trans (reply-short s (messageIn (taken between m .store)) eight) enough))
+      (le-trans (reply-short s (messageIn (taken between m .store)) (valid-settings s between v)) enough))
       (ap (codeOf s) is-message, ap (λ (x : Message). resting (settingsAfter s x)) is-message, ap (replyOf s) is-message)
 
 -- ---- the calls in between
@@ -90,25 +90,10 @@ feeding-by : (P : Settings → Type 0) (s : Station) (host : List ℕ) (room : �
     → (feedingOf s host room .fed .code ≡ codeOf (s .settings) (finishedBy s host)
     → P (settingsAfter (s .settings) (finishedBy s host)))
     → P (feedingOf s host room .fed .station .settings)
-unfolding feedingOf
 feeding-by P s host room before after =
-    go (valid s) (finished (taken (s .store) host .store))
-    (ltb room (length (replyOf (s .settings) (finishedBy s host)))) after
-  where
-    Fed : Bool → Bool → Bool → Feeding
-    Fed v d short =
-        pick (not v) (refused 21 s)
-        (pick (not d) (waiting (s .settings) (taken (s .store) host))
-        (pick short (refused 20 s) (answered (s .settings) (taken (s .store) host))))
-
-    go : (v d short : Bool)
-        → (Fed v d short .fed .code ≡ codeOf (s .settings) (finishedBy s host)
-        → P (settingsAfter (s .settings) (finishedBy s host)))
-        → P (Fed v d short .fed .station .settings)
-    go false d short h = before
-    go true false short h = before
-    go true true true h = before
-    go true true false h = h refl
+    each-way
+    (λ f. (f .fed .code ≡ codeOf (s .settings) (finishedBy s host) → P (settingsAfter (s .settings) (finishedBy s host))) → P (f .fed .station .settings))
+    s host room (λ v h. before) (λ v h. before) (λ v f h. before) (λ v f enough h. h refl) after
 
 -- a cut counts one packet more, or leaves the settings
 cutting-by : (P : Settings → Type 0) (s : Station) (samples : List ℤ) (room : ℕ) → P (s .settings)
@@ -127,18 +112,15 @@ count-leaves = found-at (λ code i. (s : Settings) (n : ℕ) → Same i s (withC
 -- what the calls keep
 record Keeps (asked : ℕ) (s t : Station) : Type 0 where
   same : Same (rowOf asked) (s .settings) (t .settings)
-  serial : t .settings .serial ≡ s .settings .serial
   stays : valid s ≡ true → valid t ≡ true
 
 kept : (asked : ℕ) (s t : Station) → Undisturbed asked s t → Keeps asked s t
-kept asked s t (still u) = record { same = λ q. refl; serial = refl; stays = λ v. v }
+kept asked s t (still u) = record { same = λ q. refl; stays = λ v. v }
 kept asked s t (fed b u host room rest calm) =
     let k = kept asked b u rest in
     record {
       same = λ q. feeding-by (λ x. rowOf asked .value x q ≡ rowOf asked .value (u .settings) q) u host room refl
           (λ code. message-leaves asked (u .settings) (finishedBy u host) (rw code at calm) q) ∙ k .same q;
-      serial = feeding-by (λ x. x .serial ≡ u .settings .serial) u host room refl
-          (λ code. serial-kept (u .settings) (finishedBy u host)) ∙ k .serial;
       stays = λ v. feeding-keeps u host room (k .stays v);
     }
 kept asked s t (cut b u samples room rest) =
@@ -146,24 +128,21 @@ kept asked s t (cut b u samples room rest) =
     record {
       same = λ q. cutting-by (λ x. rowOf asked .value x q ≡ rowOf asked .value (u .settings) q) u samples room refl
           (count-leaves asked (u .settings) (u .settings .count + 1) q) ∙ k .same q;
-      serial = cutting-by (λ x. x .serial ≡ u .settings .serial) u samples room refl refl ∙ k .serial;
       stays = λ v. cutting-keeps u samples room (k .stays v);
     }
 
 -- Demand 2, of the box: a whole set that is accepted is fed in one call; then any calls of feeding and cutting, none of
 -- which changes what its item shows; then, between messages, a whole request of it. The reply shows the value set.
 pub fed-set-shows-later : (s : Settings) (m : List ℕ) (room : ℕ) (t : Settings) (q : List ℕ) (later : ℕ)
-    → valid (resting s) ≡ true → length (s .serial) ≡ 8 → 64 ≤ room → 64 ≤ later
+    → valid (resting s) ≡ true → 64 ≤ room → 64 ≤ later
     → OneMessage m → messageOf m .type ≡ typeSet → codeOf s (messageOf m) ≡ 1
     → Undisturbed (itemIn (messageOf m)) (feedingOf (resting s) m room .fed .station) (resting t)
     → OneMessage q → messageOf q .type ≡ typeRequest → itemIn (messageOf q) ≡ itemIn (messageOf m) → codeOf s (messageOf q) ≡ 1
     → repliesWith (feedingOf (resting t) q later) (showing (messageOf q) (valueSet s (messageOf m)))
-fed-set-shows-later s m room t q later v eight enough more one kind h calm two asked same answered =
-    let f = message-fed m one s room v eight enough in
+fed-set-shows-later s m room t q later v enough more one kind h calm two asked same answered =
+    let f = message-fed m one s room v enough in
     let k = kept (itemIn (messageOf m)) (feedingOf (resting s) m room .fed .station) (resting t) calm in
-    let long : length (t .serial) ≡ 8 =
-    ap length (k .serial ∙ ap (λ (b : Station). b .settings .serial) (f .1) ∙ serial-kept s (messageOf m)) ∙ eight in
-    let g = message-fed q two t later (k .stays (feeding-keeps (resting s) m room v)) long more in
+    let g = message-fed q two t later (k .stays (feeding-keeps (resting s) m room v)) more in
     let now : codeOf t (messageOf q) ≡ 1 = asked-alike s t (messageOf q) asked ∙ answered in
     let value : row (messageOf m) .value t (parameters (messageOf q)) ≡ valueSet s (messageOf m) =
     k .same (parameters (messageOf q))
@@ -177,24 +156,24 @@ fed-set-shows-later s m room t q later v eight enough more one kind h calm two a
 
 -- The same at once: the whole set in one call, and the whole request in the next.
 pub fed-set-shows : ShowsSets feedingOf
-fed-set-shows s m room q later v eight enough more one kind h two asked same answered =
-    let f = message-fed m one s room v eight enough in (
+fed-set-shows s m room q later v enough more one kind h two asked same answered =
+    let f = message-fed m one s room v enough in (
       (f .0 ∙ h, f .2 ∙ set-replies s (messageOf m) h kind (held-whole m one)),
       rw (f .1)
-          (fed-set-shows-later s m room (settingsAfter s (messageOf m)) q later v eight enough more one kind h
+          (fed-set-shows-later s m room (settingsAfter s (messageOf m)) q later v enough more one kind h
           (rw (f .1) (still (resting (settingsAfter s (messageOf m))))) two asked same answered),
     )
 
 -- And other items are unchanged: after any calls, none of which changes what it shows, a whole request is answered as before.
 pub fed-same-answer : (s t : Settings) (q : List ℕ) (room later : ℕ)
-    → valid (resting s) ≡ true → length (s .serial) ≡ 8 → 64 ≤ room → 64 ≤ later
+    → valid (resting s) ≡ true → 64 ≤ room → 64 ≤ later
     → OneMessage q → messageOf q .type ≡ typeRequest → Undisturbed (itemIn (messageOf q)) (resting s) (resting t)
     → feedingOf (resting t) q later .bytes ≡ feedingOf (resting s) q room .bytes
-fed-same-answer s t q room later v eight enough more one asked calm =
+fed-same-answer s t q room later v enough more one asked calm =
     let k = kept (itemIn (messageOf q)) (resting s) (resting t) calm in
-    message-fed q one t later (k .stays v) (ap length (k .serial) ∙ eight) more .2
+    message-fed q one t later (k .stays v) more .2
     ∙ answered-alike s t (messageOf q) asked (k .same)
-    ∙ sym (message-fed q one s room v eight enough .2)
+    ∙ sym (message-fed q one s room v enough .2)
 
 -- ---- two boxes that are none of ours
 
@@ -213,7 +192,7 @@ tuned : (feed : Station → List ℕ → ℕ → Feeding) → ShowsSets feed
     → repliesWith (feed (resting start) tune 64) tune × repliesWith (feed (feed (resting start) tune 64 .fed .station) ask 64) tune
 unfolding valid inRange couldBeLeft listed rowOf codeOf shownBy
 tuned feed shows =
-    shows start tune 64 ask 64 refl refl (lit≤ tt) (lit≤ tt)
+    shows start tune 64 ask 64 refl (lit≤ tt) (lit≤ tt)
     (record { areBytes = search lit≤ depth 20; announces = refl; least = lit≤ tt; most = lit≤ tt }) refl refl
     (record { areBytes = search lit≤ depth 20; announces = refl; least = lit≤ tt; most = lit≤ tt }) refl refl refl
 

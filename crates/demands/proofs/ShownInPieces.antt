@@ -12,10 +12,9 @@ use Rattle.items.specs.Answer.{settingsAfter}
 use Rattle.station.specs.Station.{valid}
 use Rattle.station.specs.Feeding.{feedingOf}
 use Rattle.station.specs.Serving.{Served, unserved, noting, called, serving}
-use Rattle.station.proofs.Kept.{serial-kept}
+use Rattle.station.proofs.Calls.{feeding-keeps}
 use Rattle.demands.specs.Shown.{OneMessage, messageOf, resting, valueSet, showing}
 use Rattle.demands.specs.ShownInPieces.{SetShowsLaterInPieces}
-use Rattle.demands.proofs.Reached.{feeding-keeps}
 use Rattle.demands.proofs.ShownFed.{took, message-fed, fed-set-shows}
 use Rattle.demands.proofs.InPieces.{whole, message-served, pieces-served}
 
@@ -24,22 +23,22 @@ some : (m : List ℕ) → OneMessage m → 1 ≤ length m
 some m one = omega (arith, one .least)
 
 -- two messages, each in one call
-two-served : (s : Settings) (m q : List ℕ) → valid (resting s) ≡ true → length (s .serial) ≡ 8 → OneMessage m → OneMessage q
+two-served : (s : Settings) (m q : List ℕ) → valid (resting s) ≡ true → OneMessage m → OneMessage q
     → serving (unserved (resting s)) (whole m ∷ whole q ∷ []) ≡ called 64 (called 64 (unserved (resting s)) m) q
 unfolding serving
-two-served s m q v eight one two =
-    let f = message-fed m one s 64 v eight (le-refl 64) in
+two-served s m q v one two =
+    let f = message-fed m one s 64 v (le-refl 64) in
     let stays : valid (resting (settingsAfter s (messageOf m))) ≡ true = rw (f .1) at (feeding-keeps (resting s) m 64 v) in
-    message-served s v eight m [] (whole q ∷ []) (took m one) (some m one)
+    message-served s v m [] (whole q ∷ []) (took m one) (some m one)
     ∙ rw (f .1)
-    (message-served (settingsAfter s (messageOf m)) stays (ap length (serial-kept s (messageOf m)) ∙ eight) q
+    (message-served (settingsAfter s (messageOf m)) stays q
     (noting [] (feedingOf (resting s) m 64 .bytes)) [] (took q two) (some q two))
 
 pub set-shows-later-in-pieces : SetShowsLaterInPieces
-set-shows-later-in-pieces s m q pieces v eight one kind h two asked same answered enough e =
-    let shown = fed-set-shows s m 64 q 64 v eight (le-refl 64) (le-refl 64) one kind h two asked same answered in
+set-shows-later-in-pieces s m q pieces v one kind h two asked same answered enough e =
+    let shown = fed-set-shows s m 64 q 64 v (le-refl 64) (le-refl 64) one kind h two asked same answered in
     ap (λ (r : Served). r .replies)
-    (pieces-served s v eight pieces (whole m ∷ whole q ∷ []) enough (λ n. le-refl 64, (λ n. le-refl 64, tt)) (rw append-nil e)
-    ∙ two-served s m q v eight one two)
+    (pieces-served s v pieces (whole m ∷ whole q ∷ []) enough (λ n. le-refl 64, (λ n. le-refl 64, tt)) (rw append-nil e)
+    ∙ two-served s m q v one two)
     ∙ ap (noting (noting [] (feedingOf (resting s) m 64 .bytes))) (shown .1 .1)
     ∙ ap (λ (reply : List ℕ). noting (noting [] reply) (showing (messageOf q) (valueSet s (messageOf m)))) (shown .0 .1)

@@ -21,6 +21,8 @@ use Rattle.items.specs.Answer.{Message, checks, codeOf, replyOf}
 use Rattle.framing.specs.Framing.{taken}
 use Rattle.station.specs.declared.Station.{Station}
 use Rattle.station.specs.Feeding.{Feeding, messageIn, feedingOf}
+use Rattle.station.proofs.Valid.{each-way}
+use Rattle.station.proofs.Calls.{feeding-within}
 use Rattle.cutting.specs.Cutting.{Cutting, packetOf, cutChecks, cutCode, cutFrom, cuttingOf, formNow}
 use Rattle.cutting.specs.Cutting as cutting
 use Rattle.reader.specs.Reading.{countIn, unpackChecks, unpackCode, unpackedOf}
@@ -33,7 +35,6 @@ use Rattle.heads.specs.Head.{writeChecks as headChecks, writeCode as headCode}
 use Rattle.positions.proofs.Boxes.{made}
 use Rattle.positions.proofs.Packets.{packet-length}
 use Rattle.demands.specs.Written.{replyDue, FeedsByTheTable, CutsByTheTable, WishesByTheTable, HeadsByTheTable, UnpacksByTheTable}
-use Rattle.demands.proofs.Refused.{each-way}
 
 -- ---- the box
 
@@ -45,18 +46,15 @@ message-writes s m =
     (refl, (refl, (refl, (refl, (refl, (refl, (refl, (refl, (refl, tt))))))))) refl
 
 pub feeds-by-the-table : (s : Station) (host : List ℕ) (room : ℕ) → FeedsByTheTable s host room
-feeds-by-the-table s host room = record { bytes = bytes; wrote = wrote }
+feeds-by-the-table s host room = record { bytes = bytes; wrote = feeding-within s host room .wrote }
   where
     m : Message
     m = messageIn (taken (s .store) host .store)
 
     bytes : feedingOf s host room .bytes ≡ boxWrites (feedingOf s host room .fed .code) (replyDue (s .settings) m)
     bytes =
-        each-way (λ (f : Feeding). f .bytes ≡ boxWrites (f .fed .code) (replyDue (s .settings) m)) s host room refl refl refl
-        (message-writes (s .settings) m)
-
-    wrote : feedingOf s host room .fed .wrote ≡ length (feedingOf s host room .bytes)
-    wrote = each-way (λ (f : Feeding). f .fed .wrote ≡ length (f .bytes)) s host room refl refl refl refl
+        each-way (λ (f : Feeding). f .bytes ≡ boxWrites (f .fed .code) (replyDue (s .settings) m)) s host room (λ v. refl) (λ v. refl)
+        (λ v f. refl) (λ v f enough. message-writes (s .settings) m)
 
 -- a refused cut writes nothing, as the table has it beside each of its codes
 refused-cut : (s : Station) (samples : List ℤ) (room : ℕ) (packet : List ℕ) → (cutCode s samples room ≡ 1 → ⊥)

@@ -3,7 +3,6 @@ use Prim.Native.Nat.{ℕ, _≤_}
 use mathlib.Core.Path.{_≡_}
 use mathlib.Core.Bool.{true}
 use mathlib.Core.List.{List}
-use lib.ListN.{length}
 use Rattle.wire.specs.Choice.{pick}
 use Rattle.wire.specs.Codes as Code
 use Rattle.items.specs.declared.Settings.{Settings}
@@ -28,6 +27,6 @@ pub record Understands (w : Wish) (message : List ℕ) (s : Settings) (room : �
 abbrev pub WhatIsAskedIsUnderstood : Type 0
 WhatIsAskedIsUnderstood =
     (w : Wish) (buffer : ℕ) → writeCode w buffer ≡ Code.done
-    → (s : Settings) → inRange s ≡ true → length (s .serial) ≡ 8
+    → (s : Settings) → inRange s ≡ true
     → (room : ℕ) → 64 ≤ room
     → Understands w (bytesWritten w buffer) s room

@@ -4,7 +4,6 @@ use Prim.Native.Nat.{ℕ}
 use mathlib.Core.Path.{_≡_}
 use mathlib.Core.Bool.{true}
 use mathlib.Core.List.{List, [], _∷_, map}
-use lib.ListN.{length}
 use Rattle.wire.specs.Choice.{pick}
 use Rattle.wire.specs.Codes as Code
 use Rattle.items.specs.declared.Settings.{Settings}
@@ -28,6 +27,6 @@ pub record UnderstandsInPieces (w : Wish) (pieces : List Piece) (s : Settings) :
 abbrev pub WhatIsAskedIsUnderstoodInPieces : Type 0
 WhatIsAskedIsUnderstoodInPieces =
     (w : Wish) (buffer : ℕ) → writeCode w buffer ≡ Code.done
-    → (s : Settings) → inRange s ≡ true → length (s .serial) ≡ 8
+    → (s : Settings) → inRange s ≡ true
     → (pieces : List Piece) → roomy pieces → joined pieces ≡ bytesWritten w buffer
     → UnderstandsInPieces w pieces s

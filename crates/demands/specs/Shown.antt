@@ -115,7 +115,7 @@ repliesWith f reply = (f .fed .code ≡ Code.done) × (f .bytes ≡ reply)
 abbrev pub ShowsSets : (Station → List ℕ → ℕ → Feeding) → Type 0
 ShowsSets feed =
     (s : Settings) (m : List ℕ) (room : ℕ) (q : List ℕ) (later : ℕ)
-    → valid (resting s) ≡ true → length (s .serial) ≡ 8 → 64 ≤ room → 64 ≤ later
+    → valid (resting s) ≡ true → 64 ≤ room → 64 ≤ later
     → OneMessage m → messageOf m .type ≡ typeSet → codeOf s (messageOf m) ≡ Code.done
     → OneMessage q → messageOf q .type ≡ typeRequest → itemIn (messageOf q) ≡ itemIn (messageOf m) → codeOf s (messageOf q) ≡ Code.done
     → repliesWith (feed (resting s) m room) (showing (messageOf m) (valueSet s (messageOf m)))

@@ -5,7 +5,6 @@ use Prim.Native.Nat.{ℕ}
 use mathlib.Core.Path.{_≡_}
 use mathlib.Core.Bool.{true}
 use mathlib.Core.List.{List, [], _∷_, _++_}
-use lib.ListN.{length}
 use Rattle.wire.specs.Codes as Code
 use Rattle.wire.specs.Header.{typeSet, typeRequest}
 use Rattle.items.specs.declared.Settings.{Settings}
@@ -19,7 +18,7 @@ use Rattle.demands.specs.Shown.{OneMessage, messageOf, resting, valueSet
 abbrev pub SetShowsLaterInPieces : Type 0
 SetShowsLaterInPieces =
     (s : Settings) (m q : List ℕ) (pieces : List Piece)
-    → valid (resting s) ≡ true → length (s .serial) ≡ 8
+    → valid (resting s) ≡ true
     → OneMessage m → messageOf m .type ≡ typeSet → codeOf s (messageOf m) ≡ Code.done
     → OneMessage q → messageOf q .type ≡ typeRequest → itemIn (messageOf q) ≡ itemIn (messageOf m) → codeOf s (messageOf q) ≡ Code.done
     → roomy pieces → joined pieces ≡ m ++ q

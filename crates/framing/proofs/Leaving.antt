@@ -2,15 +2,15 @@
 -- Assumes nothing.
 use Prim.Native.Nat.{ℕ, zero, suc, _+_, _-_, _≤_, _<_}
 use mathlib.Core.Path.{_≡_, refl, sym, ap, _∙_}
-use mathlib.Core.Bool.{true, false, not, and-true, and-false}
+use mathlib.Core.Bool.{true, false, _&&_, not, and-true, and-false}
 use mathlib.Core.List.{List, [], _∷_, _++_}
 use native.Mathlib.Decide.{decLt}
 use native.Mathlib.Nat.{le-refl, zero-add}
 use native.Mathlib.Numerals.{add-one}
 use native.Mathlib.Omega.{arith}
-use borrow.Author.Tests.{eqb-true, not-true}
+use borrow.Author.Tests.{eqb-true, eq-eqb, not-true}
 use lib.Dec.{eqb}
-use lib.ListN.{length, take, drop, replicate, length-append, length-take, length-replicate}
+use lib.ListN.{length, take, drop, replicate, length-set, length-append, length-take, length-replicate}
 use lib.Seq.{sets, sets-eq, drop-set-lt, length-take-le}
 use Rattle.wire.proofs.Laws.{and-left, and-right}
 use Rattle.wire.proofs.Stores.{sets-append, sets-out}
@@ -25,17 +25,24 @@ pub left-finished : (s : Store) → finished s ≡ true → couldBeLeft s ≡ fa
 unfolding couldBeLeft
 left-finished s f = rw (f, and-false) refl
 
-pub left-unfinished : (s : Store) → finished s ≡ false → couldBeLeft s ≡ zeros (drop (s .taken) (s .held))
+pub left-unfinished : (s : Store) → length (s .held) ≡ 64 → finished s ≡ false → couldBeLeft s ≡ zeros (drop (s .taken) (s .held))
 unfolding couldBeLeft
-left-unfinished s f = rw (f, and-true) refl
+left-unfinished s long f = rw (eq-eqb (length (s .held)) 64 long, f, and-true) refl
 
 pub left-open : (s : Store) → couldBeLeft s ≡ true → finished s ≡ false
 unfolding couldBeLeft
-left-open s h = not-true (finished s) (and-right (zeros (drop (s .taken) (s .held))) (not (finished s)) h)
+left-open s h = not-true (finished s) (and-right (eqb (length (s .held)) 64 && zeros (drop (s .taken) (s .held))) (not (finished s)) h)
+
+-- there are 64 places, and the unused ones are zero
+left-places : (s : Store) → couldBeLeft s ≡ true → (eqb (length (s .held)) 64 && zeros (drop (s .taken) (s .held))) ≡ true
+unfolding couldBeLeft
+left-places s h = and-left (eqb (length (s .held)) 64 && zeros (drop (s .taken) (s .held))) (not (finished s)) h
+
+pub left-long : (s : Store) → couldBeLeft s ≡ true → length (s .held) ≡ 64
+left-long s h = eqb-true (length (s .held)) 64 (and-left (eqb (length (s .held)) 64) (zeros (drop (s .taken) (s .held))) (left-places s h))
 
 pub left-zeros : (s : Store) → couldBeLeft s ≡ true → zeros (drop (s .taken) (s .held)) ≡ true
-unfolding couldBeLeft
-left-zeros s h = and-left (zeros (drop (s .taken) (s .held))) (not (finished s)) h
+left-zeros s h = and-right (eqb (length (s .held)) 64) (zeros (drop (s .taken) (s .held))) (left-places s h)
 
 -- ---- some bytes leave it, so the test holds
 
@@ -55,7 +62,8 @@ pushed-unused s b h =
     rw (add-one, drop-set-lt (suc (s .taken)) (s .held) (s .taken) b (le-refl (suc (s .taken)))) (zeros-further (s .taken) (s .held) h)
 
 pub pushed-left : (s : Store) (b : ℕ) → couldBeLeft s ≡ true → finished (pushed s b) ≡ false → couldBeLeft (pushed s b) ≡ true
-pushed-left s b h f = left-unfinished (pushed s b) f ∙ pushed-unused s b (left-zeros s h)
+pushed-left s b h f =
+    left-unfinished (pushed s b) (length-set (s .held) (s .taken) b ∙ left-long s h) f ∙ pushed-unused s b (left-zeros s h)
 
 all-left : (s : Store) (bs : List ℕ) → couldBeLeft s ≡ true → unfinishedAll s bs → couldBeLeft (pushedAll s bs) ≡ true
 all-left s [] h u = h
@@ -118,10 +126,10 @@ leftBy s = take (s .taken) (s .held) ++ replicate (s .taken - length (s .held)) 
 left-length : (s : Store) → length (leftBy s) ≡ s .taken
 left-length s = simp (length-append, length-take, length-replicate) (omega arith)
 
-module _ (s : Store) (test : couldBeLeft s ≡ true) (long : length (s .held) ≡ 64) where
+module _ (s : Store) (test : couldBeLeft s ≡ true) where
   left-held : after between (leftBy s) ≡ s
   left-held =
-      rw (all-stored (s .held) (between .held) (s .taken) (rw long refl) (left-zeros s test), left-length s, zero-add) refl
+      rw (all-stored (s .held) (between .held) (s .taken) (rw (left-long s test) refl) (left-zeros s test), left-length s, zero-add) refl
 
   left-prefix : (j : ℕ) → j < length (leftBy s) → finished (after between (take (suc j) (leftBy s))) ≡ false
   left-prefix j l =
@@ -138,11 +146,11 @@ module _ (s : Store) (test : couldBeLeft s ≡ true) (long : length (s .held) �
           ap announcedBy (header-settled between (leftBy s) (suc j) (omega (arith, part)))
           ∙ ap (λ (t : Store). announced (t .held)) left-held
 
-pub tested-left : (s : Store) → couldBeLeft s ≡ true → length (s .held) ≡ 64 → allBytes (s .held) → Left s
-tested-left s test long bytes =
+pub tested-left : (s : Store) → couldBeLeft s ≡ true → allBytes (s .held) → Left s
+tested-left s test bytes =
     record {
       message = leftBy s;
       areBytes = bytes-append (take (s .taken) (s .held)) _ (bytes-take (s .taken) (s .held) bytes) (bytes-zero (s .taken - length (s .held)));
-      unfinished = unfinished-all between (leftBy s) (λ j l. rw pushed-all (left-prefix s test long j l));
-      leaves = pushed-all between (leftBy s) ∙ left-held s test long;
+      unfinished = unfinished-all between (leftBy s) (λ j l. rw pushed-all (left-prefix s test j l));
+      leaves = pushed-all between (leftBy s) ∙ left-held s test;
     }

@@ -86,9 +86,9 @@ abbrev pub zeros : List ℕ → Bool
 zeros [] = true
 zeros (b ∷ bs) = eqb b 0 && zeros bs
 
--- The same as a test: what is not taken is zero, and the message is not finished.
+-- The same as a test: there are 64 places, those not taken are zero, and the message is not finished.
 unfoldable pub couldBeLeft : Store → Bool
-couldBeLeft s = zeros (drop (s .taken) (s .held)) && not (finished s)
+couldBeLeft s = eqb (length (s .held)) 64 && zeros (drop (s .taken) (s .held)) && not (finished s)
 
 -- ---- what a call tells of it
 

@@ -38,6 +38,10 @@ abbrev pub allSerial : List ℕ → Bool
 allSerial [] = true
 allSerial (b ∷ bs) = isSerialByte b && allSerial bs
 
+-- a serial: eight of them
+abbrev pub isSerial : List ℕ → Bool
+isSerial serial = eqb (length serial) 8 && allSerial serial
+
 -- every setting lies within its range
 unfoldable pub inRange : Settings → Bool
 inRange s =
@@ -48,7 +52,7 @@ inRange s =
     && isMode (s .mode)
     && isGain (s .gain)
     && isSize (s .size)
-    && allSerial (s .serial)
+    && isSerial (s .serial)
 
 -- "A fresh box: idle, mode 80, 10,000,000 Hz, gain 0, clock 80,000,000, D = 100, large packets, count 0."
 abbrev pub freshOf : List ℕ → Settings
@@ -64,10 +68,6 @@ freshOf serial =
       size = 0;
       serial = serial;
     }
-
--- a serial: eight characters
-abbrev pub isSerial : List ℕ → Bool
-isSerial serial = eqb (length serial) 8 && allSerial serial
 
 -- "serial not eight of A-Z, 0-9": 26, and "the fresh box has serial 00000000"
 abbrev pub freshAnswer : List ℕ → Began

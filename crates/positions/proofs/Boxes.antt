@@ -2,26 +2,27 @@
 -- leaves running keeps mode, size and count.
 use Prim.Native.Nat.{ℕ, _*_, _<_}
 use mathlib.Core.Path.{_≡_, refl, sym, _∙_}
-use mathlib.Core.Bool.{Bool, true, false, _&&_, not}
+use mathlib.Core.Bool.{Bool, true, false, _&&_}
 use mathlib.Core.List.{List}
 use borrow.Author.Tests.{eq-eqb, eqb-true, eqb-false, leb-false, not-false}
-use lib.Dec.{eqb, ltb}
+use lib.Dec.{eqb}
 use lib.IntN.{ℤ}
 use lib.ListN.{length}
 use Rattle.wire.specs.Choice.{pick}
 use Rattle.wire.specs.Header.{typeSet}
-use Rattle.wire.proofs.Laws.{and-both, and-rest, pick-keeps}
+use Rattle.wire.proofs.Laws.{and-both, and-rest}
 use Rattle.packets.specs.declared.Form.{Form}
 use Rattle.packets.specs.Numbers.{most}
 use Rattle.packets.specs.Samples.{allSamples}
-use Rattle.framing.specs.Framing.{taken, finished}
+use Rattle.framing.specs.Framing.{taken}
 use Rattle.items.specs.declared.Settings.{Settings}
 use Rattle.items.specs.Items.{Item, rowOf, state, stateAfter, runByte, idle}
-use Rattle.items.specs.Answer.{Message, replyOf, codeOf, checks, refusedRunning, settingsAfter, row, parameters, itemIn}
+use Rattle.items.specs.Answer.{Message, codeOf, checks, refusedRunning, settingsAfter, row, parameters, itemIn}
 use Rattle.items.proofs.Rows.{_then_, found}
 use Rattle.station.specs.declared.Station.{Station}
 use Rattle.station.specs.Station.{valid}
-use Rattle.station.specs.Feeding.{Feeding, feedingOf, fedBy, messageIn, waiting, answered, refused as refuses}
+use Rattle.station.specs.Feeding.{feedingOf, messageIn}
+use Rattle.station.proofs.Valid.{each-way}
 use Rattle.cutting.specs.Cutting.{formNow, cutChecks, cutCode, cuttingOf, cutFrom, refused}
 use Rattle.wire.proofs.Checks.{absent}
 use Rattle.positions.proofs.Tests.{never}
@@ -166,18 +167,9 @@ fed-leaves : (P : Settings → Type 0) (s : Station) (host : List ℕ) (room : �
     → P (s .settings)
     → ((m : Message) → P (settingsAfter (s .settings) m))
     → P (feedingOf s host room .fed .station .settings)
-unfolding feedingOf
 fed-leaves P s host room same after =
-    let t = taken (s .store) host in
-    let m = messageIn (t .store) in
-    pick-keeps Q (not (valid s)) (refuses 21 s) (fedBy s t room) (λ q. same) λ q.
-    pick-keeps Q (not (finished (t .store))) (waiting (s .settings) t)
-    (pick (ltb room (length (replyOf (s .settings) m))) (refuses 20 s) (answered (s .settings) t)) (λ q. same) λ q.
-    pick-keeps Q (ltb room (length (replyOf (s .settings) m))) (refuses 20 s) (answered (s .settings) t) (λ q. same) λ q.
-    after m
-  where
-    Q : Feeding → Type 0
-    Q x = P (x .fed .station .settings)
+    each-way (λ f. P (f .fed .station .settings)) s host room (λ v. same) (λ v. same) (λ v f. same)
+    (λ v f enough. after (messageIn (taken (s .store) host .store)))
 
 -- a box that is running before a call of feeding and after it cuts next what it would have cut
 pub feeding-leaves : (s : Station) (host : List ℕ) (room : ℕ)

@@ -23,10 +23,10 @@ use Rattle.layouts.specs.declared.Layout.{Layout}
 use Rattle.layouts.specs.Layouts.{parametersOf, sizeOf, laid}
 use Rattle.layouts.proofs.Sizes.{length-laid}
 use Rattle.items.specs.declared.Settings.{Settings}
-use Rattle.items.specs.Settings.{isMode, isSerialByte, allSerial, inRange, freshOf, withFrequency, withClock, withDivisor, withRunning, withMode, withGain, withSize, withCount}
+use Rattle.items.specs.Settings.{isMode, isSerialByte, allSerial, isSerial, inRange, freshOf, withFrequency, withClock, withDivisor, withRunning, withMode, withGain, withSize, withCount}
 use Rattle.items.specs.Items.{versionTable, run, idle, achievedRate}
 use Rattle.items.specs.Answer.{settingsAfter, replyOf, replyTo, framed, parameters}
-use Rattle.station.proofs.Kept.{Ranges, ranges, message-keeps, serial-kept}
+use Rattle.station.proofs.Kept.{Ranges, ranges, message-keeps}
 use Rattle.wishes.specs.declared.StateFields.{StateFields}
 use Rattle.wishes.specs.declared.Wish.{Wish}
 use Rattle.wishes.specs.declared.Wish.the-variants.{AskName, AskSerial, AskInterface, AskVersion, AskStatus, SetState, AskState, SetFrequency, AskFrequency, AskFrequencyRange, SetGain, AskGain, SetClock, AskClock, SetRate, AskRate, SetPacketSize, AskPacketSize}
@@ -35,7 +35,7 @@ use Rattle.wishes.proofs.Rows.{by-wish}
 use Rattle.wishes.proofs.Allowed.{by-or, one-has, state-has}
 use Rattle.wishes.proofs.Understood.{code-of-wish, row-of-wish, settings-of-wish}
 use Rattle.replies.specs.declared.Reply.the-variants.{Nak, Status, State}
-use Rattle.replies.specs.Awaited.{awaited, isSerial, idleShown, runShown, stateShown, saysState, nameBytes, replyType, replyLayout, replyBytes, numberIn}
+use Rattle.replies.specs.Awaited.{awaited, holdsSerial, idleShown, runShown, stateShown, saysState, nameBytes, replyType, replyLayout, replyBytes, numberIn}
 use Rattle.replies.specs.Reading.{isReply, isNak, readCode, told, toldOf}
 use Rattle.replies.specs.Saying.{saysOf, saidBy}
 use Rattle.replies.specs.Exactly.{ReadAsSaid, Given, Exactly}
@@ -101,14 +101,27 @@ bytes-zero : (n v : ℕ) → v < 256 ^ n → bytes (suc n) v ≡ bytes n v ++ 0 
 bytes-zero zero v h = let none : v % 256 ≡ 0 = omega arith in rw none
 bytes-zero (suc n) v h = ap (λ (l : List ℕ). v % 256 ∷ l) (bytes-zero n (v / 256) (omega arith))
 
-serial-back : (l : List ℕ) → allSerial l ≡ true → length l ≡ 8 → bytes 8 (number l) ≡ l
-serial-back l e eight = rw eight at (bytes-number l (serial-bytes l e))
+-- a serial as a number, and back
+module _ (l : List ℕ) (is : isSerial l ≡ true) where
+  eight : length l ≡ 8
+  eight = eqb-true (length l) 8 (and-left (eqb (length l) 8) (allSerial l) is)
 
-serial-fits : (l : List ℕ) → allSerial l ≡ true → length l ≡ 8 → number l < 256 ^ 8
-serial-fits l e eight = rw eight at (number-below l (serial-bytes l e))
+  characters : allSerial l ≡ true
+  characters = and-right (eqb (length l) 8) (allSerial l) is
 
-serial-shown : (l : List ℕ) → allSerial l ≡ true → length l ≡ 8 → l ++ 0 ∷ [] ≡ bytes 9 (number l)
-serial-shown l e eight = sym (bytes-zero 8 (number l) (serial-fits l e eight) ∙ ap (λ (m : List ℕ). m ++ 0 ∷ []) (serial-back l e eight))
+  serial-back : bytes 8 (number l) ≡ l
+  serial-back = rw eight at (bytes-number l (serial-bytes l characters))
+
+  serial-fits : number l < 256 ^ 8
+  serial-fits = rw eight at (number-below l (serial-bytes l characters))
+
+  serial-shown : l ++ 0 ∷ [] ≡ bytes 9 (number l)
+  serial-shown = sym (bytes-zero 8 (number l) serial-fits ∙ ap (λ (m : List ℕ). m ++ 0 ∷ []) serial-back)
+
+  serial-could : holdsSerial (number l) ≡ true
+  serial-could =
+      and-both (allSerial (bytes 8 (number l))) (ltb (number l) (256 ^ 8)) (ap allSerial serial-back ∙ characters)
+      (lt-ltb (number l) (256 ^ 8) serial-fits)
 
 -- what holds of the states that a box can be in
 box-has : (P : Bool → ℕ → Type 0) → P false 0x80 → P false 0x00 → P true 0x80 → P true 0x00 → (t : Bool) (m : ℕ) → isMode m ≡ true → P t m
@@ -126,26 +139,26 @@ rate-shown : (d : ℕ) → isD d ≡ true → bytes 4 (achievedRate d) ≡ bytes
 rate-shown d is = ap (bytes 4) (pick-true (isD d) (rateOf d) 0 is)
 
 -- the bytes are those of the number
-shown-number : (w : Wish) (s : Settings) → allowed w ≡ true → Ranges s → length (s .serial) ≡ 8 → shown w s ≡ bytes (awaited w .width) (numberOf w s)
+shown-number : (w : Wish) (s : Settings) → allowed w ≡ true → Ranges s → shown w s ≡ bytes (awaited w .width) (numberOf w s)
 unfolding messageOf
-shown-number AskName s e r eight = refl
-shown-number AskSerial s e r eight = serial-shown (s .serial) (r .serial) eight
-shown-number AskInterface s e r eight = refl
-shown-number (AskVersion id) s e r eight = version-has (λ id. shown (AskVersion id) s ≡ bytes 2 (numberOf (AskVersion id) s)) refl refl refl refl id e
-shown-number AskStatus s e r eight = status-bytes (s .running)
-shown-number (SetState f) s e r eight = state-bytes (s .running) (s .mode) (r .mode)
-shown-number AskState s e r eight = state-bytes (s .running) (s .mode) (r .mode)
-shown-number (SetFrequency hz) s e r eight = refl
-shown-number AskFrequency s e r eight = refl
-shown-number AskFrequencyRange s e r eight = refl
-shown-number (SetGain g) s e r eight = refl
-shown-number AskGain s e r eight = refl
-shown-number (SetClock hz) s e r eight = refl
-shown-number AskClock s e r eight = refl
-shown-number (SetRate hz) s e r eight = rate-shown (s .divisor) (r .divisor)
-shown-number AskRate s e r eight = rate-shown (s .divisor) (r .divisor)
-shown-number (SetPacketSize n) s e r eight = refl
-shown-number AskPacketSize s e r eight = refl
+shown-number AskName s e r = refl
+shown-number AskSerial s e r = serial-shown (s .serial) (r .serial)
+shown-number AskInterface s e r = refl
+shown-number (AskVersion id) s e r = version-has (λ id. shown (AskVersion id) s ≡ bytes 2 (numberOf (AskVersion id) s)) refl refl refl refl id e
+shown-number AskStatus s e r = status-bytes (s .running)
+shown-number (SetState f) s e r = state-bytes (s .running) (s .mode) (r .mode)
+shown-number AskState s e r = state-bytes (s .running) (s .mode) (r .mode)
+shown-number (SetFrequency hz) s e r = refl
+shown-number AskFrequency s e r = refl
+shown-number AskFrequencyRange s e r = refl
+shown-number (SetGain g) s e r = refl
+shown-number AskGain s e r = refl
+shown-number (SetClock hz) s e r = refl
+shown-number AskClock s e r = refl
+shown-number (SetRate hz) s e r = rate-shown (s .divisor) (r .divisor)
+shown-number AskRate s e r = rate-shown (s .divisor) (r .divisor)
+shown-number (SetPacketSize n) s e r = refl
+shown-number AskPacketSize s e r = refl
 
 status-could : (t : Bool) → oneOf (pick t 0x0C 0x0B) (0x0B ∷ 0x0C ∷ []) ≡ true
 status-could false = refl
@@ -180,32 +193,27 @@ run-could : (m : ℕ) (s : Settings) → s .running && not (eqb m (s .mode)) ≡
     → let x = pick (s .running) s (withCount 0 (withMode m (withRunning true s))) in eqb (stateShown (pick (x .running) run idle) (x .mode)) (stateShown run m) ≡ true
 run-could m s h = rw (started m s h .0, started m s h .1) (eq-eqb (stateShown run m) (stateShown run m) refl)
 
-serial-could : (l : List ℕ) → allSerial l ≡ true → length l ≡ 8 → isSerial (number l) ≡ true
-serial-could l e eight =
-    and-both (allSerial (bytes 8 (number l))) (ltb (number l) (256 ^ 8)) (ap allSerial (serial-back l e eight) ∙ e)
-    (lt-ltb (number l) (256 ^ 8) (serial-fits l e eight))
-
 -- a valid box could give the value that a valid box shows
-could-shown : (w : Wish) (s : Settings) → allowed w ≡ true → Ranges s → length (s .serial) ≡ 8 → notNow w s ≡ false
+could-shown : (w : Wish) (s : Settings) → allowed w ≡ true → Ranges s → notNow w s ≡ false
     → awaited w .could (numberOf w (granted w s)) ≡ true
-could-shown AskName s e r eight now = refl
-could-shown AskSerial s e r eight now = serial-could (s .serial) (r .serial) eight
-could-shown AskInterface s e r eight now = refl
-could-shown (AskVersion id) s e r eight now = eq-eqb (number (getD versionTable id [])) (number (getD versionTable id [])) refl
-could-shown AskStatus s e r eight now = status-could (s .running)
-could-shown (SetState f) s e r eight now = state-has (λ f. notNow (SetState f) s ≡ false → awaited (SetState f) .could (numberOf (SetState f) (granted (SetState f) s)) ≡ true) (λ m now. idle-could (s .mode) (r .mode)) (run-could 0x80 s) (run-could 0x00 s) f e now
-could-shown AskState s e r eight now = box-has (λ t m. oneOf (stateShown (pick t run idle) m) (idleShown ++ runShown) ≡ true) refl refl refl refl (s .running) (s .mode) (r .mode)
-could-shown (SetFrequency hz) s e r eight now = eq-eqb hz hz refl
-could-shown AskFrequency s e r eight now = r .frequency
-could-shown AskFrequencyRange s e r eight now = refl
-could-shown (SetGain g) s e r eight now = eq-eqb (coded 8 g) (coded 8 g) refl
-could-shown AskGain s e r eight now = r .gain
-could-shown (SetClock hz) s e r eight now = eq-eqb hz hz refl
-could-shown AskClock s e r eight now = r .clock
-could-shown (SetRate hz) s e r eight now = eq-eqb (rateOf (nearestOf hz)) (rateOf (nearestOf hz)) refl
-could-shown AskRate s e r eight now = lt-ltb 0 (dOf (rateOf (s .divisor))) (rw (d-of-rate (s .divisor) (r .divisor)) (some-d (s .divisor) (r .divisor)))
-could-shown (SetPacketSize n) s e r eight now = eq-eqb n n refl
-could-shown AskPacketSize s e r eight now = r .size
+could-shown AskName s e r now = refl
+could-shown AskSerial s e r now = serial-could (s .serial) (r .serial)
+could-shown AskInterface s e r now = refl
+could-shown (AskVersion id) s e r now = eq-eqb (number (getD versionTable id [])) (number (getD versionTable id [])) refl
+could-shown AskStatus s e r now = status-could (s .running)
+could-shown (SetState f) s e r now = state-has (λ f. notNow (SetState f) s ≡ false → awaited (SetState f) .could (numberOf (SetState f) (granted (SetState f) s)) ≡ true) (λ m now. idle-could (s .mode) (r .mode)) (run-could 0x80 s) (run-could 0x00 s) f e now
+could-shown AskState s e r now = box-has (λ t m. oneOf (stateShown (pick t run idle) m) (idleShown ++ runShown) ≡ true) refl refl refl refl (s .running) (s .mode) (r .mode)
+could-shown (SetFrequency hz) s e r now = eq-eqb hz hz refl
+could-shown AskFrequency s e r now = r .frequency
+could-shown AskFrequencyRange s e r now = refl
+could-shown (SetGain g) s e r now = eq-eqb (coded 8 g) (coded 8 g) refl
+could-shown AskGain s e r now = r .gain
+could-shown (SetClock hz) s e r now = eq-eqb hz hz refl
+could-shown AskClock s e r now = r .clock
+could-shown (SetRate hz) s e r now = eq-eqb (rateOf (nearestOf hz)) (rateOf (nearestOf hz)) refl
+could-shown AskRate s e r now = lt-ltb 0 (dOf (rateOf (s .divisor))) (rw (d-of-rate (s .divisor) (r .divisor)) (some-d (s .divisor) (r .divisor)))
+could-shown (SetPacketSize n) s e r now = eq-eqb n n refl
+could-shown AskPacketSize s e r now = r .size
 
 -- and it says what the box says
 says-shown : (w : Wish) (s : Settings) → Ranges s → awaited w .says (numberOf w s) ≡ saysOf w s
@@ -230,7 +238,7 @@ says-shown AskPacketSize s r = refl
 
 -- ---- what a valid box says is read
 
-module _ (w : Wish) (s : Settings) (e : allowed w ≡ true) (valid : inRange s ≡ true) (eight : length (s .serial) ≡ 8) where
+module _ (w : Wish) (s : Settings) (e : allowed w ≡ true) (valid : inRange s ≡ true) where
   -- where the box cannot grant the wish now
   refused-nak : notNow w s ≡ true → replyOf s (asMessage w) ≡ nak
   unfolding replyOf
@@ -243,15 +251,12 @@ module _ (w : Wish) (s : Settings) (e : allowed w ≡ true) (valid : inRange s �
     granted-valid : inRange (granted w s) ≡ true
     granted-valid = rw after at (message-keeps s (asMessage w) valid)
 
-    granted-eight : length (granted w s .serial) ≡ 8
-    granted-eight = ap (λ (t : Settings). length (t .serial)) (sym after) ∙ ap length (serial-kept s (asMessage w)) ∙ eight
-
     reply-shown : replyOf s (asMessage w) ≡ replyBytes w (numberOf w (granted w s))
     unfolding replyOf replyBytes
     reply-shown =
         rw (code-of-wish w s e, now, row-of-wish w, after)
         (reply-around w (granted w s)
-        ∙ ap (around w) (shown-number w (granted w s) e (ranges (granted w s) granted-valid) granted-eight)
+        ∙ ap (around w) (shown-number w (granted w s) e (ranges (granted w s) granted-valid))
         ∙ framed-laid (replyLayout w (numberOf w (granted w s))))
 
   -- what the box says is accepted
@@ -263,7 +268,7 @@ module _ (w : Wish) (s : Settings) (e : allowed w ≡ true) (valid : inRange s �
       go false now =
           rw (reply-shown now)
           (or-right (isNak (replyBytes w (numberOf w (granted w s)))) (isReply w (replyBytes w (numberOf w (granted w s))))
-          (reply-is-reply w (numberOf w (granted w s)) e (could-shown w s e (ranges s valid) eight now)))
+          (reply-is-reply w (numberOf w (granted w s)) e (could-shown w s e (ranges s valid) now)))
 
   -- and read as what it says
   read-as-said : toldOf w (replyOf s (asMessage w)) ≡ told (saidBy w s)
@@ -273,7 +278,7 @@ module _ (w : Wish) (s : Settings) (e : allowed w ≡ true) (valid : inRange s �
       go true later = rw (refused-nak later) (sym (read-nak w nak e refl))
       go false now =
           rw (reply-shown now)
-          (sym (reply-read w (numberOf w (granted w s)) e (could-shown w s e (ranges s valid) eight now))
+          (sym (reply-read w (numberOf w (granted w s)) e (could-shown w s e (ranges s valid) now))
           ∙ ap told (says-shown w (granted w s) (ranges (granted w s) (granted-valid now))))
 
 pub box-reply-is-read : ReadAsSaid
@@ -338,9 +343,6 @@ box-valid AskRate n e h = rw (d-of-found n (ltb-true 0 (dOf n) h) .0)
 box-valid (SetPacketSize m) n e h = refl
 box-valid AskPacketSize n e h = rw h
 
-box-eight : (w : Wish) (n : ℕ) → length (boxWith w n .serial) ≡ 8
-box-eight = by-wish (λ w. (n : ℕ) → length (boxWith w n .serial) ≡ 8) (λ n. refl) (λ n. refl) (λ n. refl) (λ id n. refl) (λ n. refl) (λ f n. refl) (λ n. refl) (λ hz n. refl) (λ n. refl) (λ n. refl) (λ g n. refl) (λ n. refl) (λ hz n. refl) (λ n. refl) (λ hz n. refl) (λ n. refl) (λ m n. refl) (λ n. refl)
-
 box-now : (w : Wish) (n : ℕ) → notNow w (boxWith w n) ≡ false
 box-now = by-wish (λ w. (n : ℕ) → notNow w (boxWith w n) ≡ false) (λ n. refl) (λ n. refl) (λ n. refl) (λ id n. refl) (λ n. refl) (λ f n. refl) (λ n. refl) (λ hz n. refl) (λ n. refl) (λ n. refl) (λ g n. refl) (λ n. refl) (λ hz n. refl) (λ n. refl) (λ hz n. refl) (λ n. refl) (λ m n. refl) (λ n. refl)
 
@@ -374,8 +376,7 @@ read-has-box w bs e h =
     record {
       settings = s;
       valid = valid;
-      eight = box-eight w n;
-      gives = reply-shown w s e valid (box-eight w n) (box-now w n) ∙ ap (replyBytes w) (box-shows w n e could) ∙ sym (is-reply-bytes w bs h .1);
+      gives = reply-shown w s e valid (box-now w n) ∙ ap (replyBytes w) (box-shows w n e could) ∙ sym (is-reply-bytes w bs h .1);
     }
 
 pub exactly : Exactly
@@ -390,4 +391,4 @@ exactly w bs e = (into, from)
     from (inl is) = accepted-code w bs e (or-left (isNak bs) (isReply w bs) (eq-same bs nak is))
     from (inr g) =
         subst (λ (l : List ℕ). readCode w l ≡ 1) (g .gives)
-        (accepted-code w (replyOf (g .settings) (asMessage w)) e (box-reply-accepted w (g .settings) e (g .valid) (g .eight)))
+        (accepted-code w (replyOf (g .settings) (asMessage w)) e (box-reply-accepted w (g .settings) e (g .valid)))

@@ -38,8 +38,8 @@ abbrev pub nameBytes : List ℕ
 nameBytes = name .value (freshOf []) []
 
 -- 0002 serial: eight characters and a zero byte
-abbrev pub isSerial : ℕ → Bool
-isSerial n = allSerial (bytes 8 n) && ltb n (256 ^ 8)
+abbrev pub holdsSerial : ℕ → Bool
+holdsSerial n = allSerial (bytes 8 n) && ltb n (256 ^ 8)
 
 -- 0005 status: 0B idle, 0C running
 abbrev pub isStatus : ℕ → Bool
@@ -78,7 +78,7 @@ isRate hz = ltb 0 (dOf hz)
 -- the achieved rate of its D.
 abbrev pub awaited : Wish → Awaited
 awaited AskName = value 7 (λ n. eqb n (number nameBytes)) (λ n. Name)
-awaited AskSerial = value 9 isSerial Serial
+awaited AskSerial = value 9 holdsSerial Serial
 awaited AskInterface = value 2 (λ n. eqb n interfaceNumber) Interface
 awaited (AskVersion id) = value 2 (λ n. eqb n (versionNumber id)) (Version id)
 awaited AskStatus = value 1 isStatus (λ n. Status (eqb n (statusByte true)))

@@ -5,7 +5,6 @@ use mathlib.Core.Path.{_≡_}
 use mathlib.Core.Bool.{true}
 use mathlib.Core.List.{List}
 use mathlib.Core.Logic.{_⊎_, _↔_}
-use lib.ListN.{length}
 use Rattle.wire.specs.Codes as Code
 use Rattle.wire.specs.Header.{nak}
 use Rattle.items.specs.declared.Settings.{Settings}
@@ -20,7 +19,6 @@ use Rattle.replies.specs.Saying.{saidBy}
 pub record Given (w : Wish) (bs : List ℕ) : Type 0 where
   pub settings : Settings
   pub valid : inRange settings ≡ true
-  pub eight : length (settings .serial) ≡ 8
   pub gives : replyOf settings (asMessage w) ≡ bs
 
 -- of a wish that the writer does not refuse, NAK is accepted, what a valid box gives, and nothing else
@@ -30,4 +28,4 @@ Exactly = (w : Wish) (bs : List ℕ) → allowed w ≡ true → (readCode w bs �
 -- and what a valid box gives is read as what it says
 abbrev pub ReadAsSaid : Type 0
 ReadAsSaid =
-    (w : Wish) (s : Settings) → allowed w ≡ true → inRange s ≡ true → length (s .serial) ≡ 8 → toldOf w (replyOf s (asMessage w)) ≡ told (saidBy w s)
+    (w : Wish) (s : Settings) → allowed w ≡ true → inRange s ≡ true → toldOf w (replyOf s (asMessage w)) ≡ told (saidBy w s)

@@ -5,7 +5,7 @@ ghost use Prim.Native.Nat.{_^_, _<_};
 ghost use Rattle.wire.specs.Number.{field};
 ghost use Rattle.wire.specs.Signed.{signed};
 ghost use Rattle.wishes.specs.Wishes.{allowed};
-ghost use Rattle.replies.specs.Awaited.{awaited, isSerial, isStatus, isState, stateCould, saysState, versionNumber, replyLayout, replyBytes, valueAt};
+ghost use Rattle.replies.specs.Awaited.{awaited, holdsSerial, isStatus, isState, stateCould, saysState, versionNumber, replyLayout, replyBytes, valueAt};
 ghost use Rattle.replies.specs.declared.Reply.the-variants.{State};
 ghost use Rattle.replies.specs.Reading.{same, isNak, told, toldOf};
 use layouts::Layout;
@@ -71,7 +71,7 @@ fn version_number(id: u8) -> u64
 
 // The eight low bytes of the number are A-Z, 0-9.
 fn is_serial(n: u64) -> bool
-    ensures { λ r. ⌜ r ≡ isSerial n ⌝ }
+    ensures { λ r. ⌜ r ≡ holdsSerial n ⌝ }
 {
     let mut rest = n;
     let mut i: usize = 0;

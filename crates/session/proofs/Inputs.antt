@@ -4,13 +4,15 @@
 use Prim.Native.Nat.{ℕ, zero, suc}
 use native.Mathlib.Nat.{le-refl}
 use mathlib.Core.Path.{_≡_, refl, sym, ap, _∙_}
+use mathlib.Core.Bool.{true}
 use mathlib.Core.List.{List, [], _∷_, _++_, append-nil, append-assoc}
 use lib.ListN.{length, drop}
 use Rattle.station.specs.declared.Station.{Station}
+use Rattle.station.specs.Station.{valid}
 use Rattle.station.specs.Feeding.{feedingOf}
 use Rattle.station.specs.Serving.{Served, unserved, noting, called, calling, Piece, serving, joined, roomy}
 use Rattle.station.proofs.Serving.{cuts-do-not-matter}
-use Rattle.session.specs.Session.{Sound, piece, pieces, handed, handedAll, following}
+use Rattle.session.specs.Session.{pieces, handed, handedAll, following}
 
 -- replies noted before stay, and change nothing else: in one call, in a piece, in all of them
 noting-follows : (before replies : List (List ℕ)) (reply : List ℕ) → noting (before ++ replies) reply ≡ before ++ noting replies reply
@@ -49,9 +51,9 @@ all-roomy [] = tt
 all-roomy (p ∷ ps) = (λ calls. le-refl 64, all-roomy ps)
 
 -- the same input in other pieces: the same replies, and the same box
-pub pieces-do-not-matter : (s : Station) (ps qs : List (List ℕ)) → Sound s → joined (pieces ps) ≡ joined (pieces qs)
+pub pieces-do-not-matter : (s : Station) (ps qs : List (List ℕ)) → valid s ≡ true → joined (pieces ps) ≡ joined (pieces qs)
     → handedAll s ps ≡ handedAll s qs
-pieces-do-not-matter s ps qs g e =
+pieces-do-not-matter s ps qs v e =
     handed-all s ps
-    ∙ cuts-do-not-matter s (pieces ps) (pieces qs) (g .valid) (g .whole) (all-roomy ps) (all-roomy qs) e
+    ∙ cuts-do-not-matter s (pieces ps) (pieces qs) v (all-roomy ps) (all-roomy qs) e
     ∙ sym (handed-all s qs)

@@ -4,15 +4,17 @@ use Prim.Native.Nat.{ℕ, zero, suc, _+_, _-_, _≤_, _<_}
 use native.Mathlib.Nat.{le-refl}
 use native.Mathlib.Omega.{arith}
 use mathlib.Core.Path.{_≡_, refl, sym, ap, _∙_}
+use mathlib.Core.Bool.{true}
 use mathlib.Core.List.{List, [], _∷_}
 use lib.ListN.{length, take, drop, length-drop}
 use lib.Seq.{drop-drop, take-all}
 use Rattle.station.specs.declared.Station.{Station}
 use Rattle.station.specs.declared.Fed.{Fed}
+use Rattle.station.specs.Station.{valid}
 use Rattle.station.specs.Feeding.{feedingOf}
 use Rattle.station.specs.Serving.{Served, called, calling, serving}
-use Rattle.session.specs.Session.{Sound, piece, handed, HandedOver}
-use Rattle.session.proofs.Calls.{Good, call-good}
+use Rattle.station.proofs.Calls.{feeding-within, feeding-keeps, feeding-some}
+use Rattle.session.specs.Session.{piece, handed, HandedOver}
 
 -- handing over goes on with a box and the replies so far, for at most so many calls
 abbrev leading : ℕ → Served → List ℕ → Served
@@ -34,22 +36,22 @@ one-call (suc calls) r (b ∷ bs) some more = let down : suc calls - 1 ≡ calls
 -- the box now, with the bytes before `at` handed over: their replies, and calls enough for the rest
 pub record Going (s : Station) (host : List ℕ) (now : Station) (at : ℕ) : Type 0 where
   pub inside : at ≤ length host
-  pub sound : Sound now
+  pub valid : valid now ≡ true
   pub replies : List (List ℕ)
   pub calls : ℕ
   pub enough : length host - at ≤ calls
   pub left : leading calls (record { station = now; replies = replies }) (drop at host) ≡ handed s host
 
-pub begins : (s : Station) (host : List ℕ) → Sound s → Going s host s 0
+pub begins : (s : Station) (host : List ℕ) → valid s ≡ true → Going s host s 0
 unfolding serving
-begins s host g = record { inside = omega arith; sound = g; replies = []; calls = length host; enough = omega arith; left = refl }
+begins s host v = record { inside = omega arith; valid = v; replies = []; calls = length host; enough = omega arith; left = refl }
 
 pub ends : (s : Station) (host : List ℕ) (now : Station) (at : ℕ) → Going s host now at → length host ≤ at → HandedOver s host now
 ends s host now at g done =
     let all : length (drop at host) ≡ 0 = simp length-drop (omega arith) in
     record {
       box = ap (λ (r : Served). r .station) (sym (none-left (g .calls) _ (drop at host) all) ∙ g .left);
-      sound = g .sound;
+      valid = g .valid;
     }
 
 -- what a call does for it
@@ -64,11 +66,8 @@ module _ (s : Station) (host : List ℕ) (now : Station) (at : ℕ) (g : Going s
   abbrev reached : Served
   reached = record { station = now; replies = g .replies }
 
-  good : Good rest (feedingOf now rest 64)
-  good = call-good now rest (g .sound)
-
   some : 1 ≤ feedingOf now rest 64 .fed .consumed
-  some = good .some (simp length-drop (omega arith))
+  some = feeding-some now rest 64 (g .valid) (le-refl 64) (simp length-drop (omega arith))
 
   turn : Turn s host at (feedingOf now rest 64 .fed)
   turn =
@@ -76,8 +75,8 @@ module _ (s : Station) (host : List ℕ) (now : Station) (at : ℕ) (g : Going s
         some = some;
         going =
             record {
-              inside = omega (arith, good .most, length-drop at host);
-              sound = good .sound;
+              inside = omega (arith, feeding-within now rest 64 .consumed, length-drop at host);
+              valid = feeding-keeps now rest 64 (g .valid);
               replies = called 64 reached rest .replies;
               calls = g .calls - 1;
               enough = omega (arith, some, g .enough);

@@ -5,12 +5,7 @@ use mathlib.Core.Bool.{true}
 use mathlib.Core.List.{List, [], _∷_, _++_}
 use Rattle.station.specs.declared.Station.{Station}
 use Rattle.station.specs.Station.{valid}
-use Rattle.station.specs.Serving.{Served, unserved, Piece, serving, Whole}
-
--- a box that the cutting claims hold for
-pub record Sound (s : Station) : Type 0 where
-  pub valid : valid s ≡ true
-  pub whole : Whole s
+use Rattle.station.specs.Serving.{Served, unserved, Piece, serving}
 
 -- a piece as it was read; each call has 64 bytes of room for its reply
 abbrev pub piece : List ℕ → Piece
@@ -23,7 +18,7 @@ handed s host = serving (unserved s) (piece host ∷ [])
 -- what the program promises of the box that a piece leaves
 pub record HandedOver (s : Station) (host : List ℕ) (after : Station) : Type 0 where
   pub box : after ≡ handed s host .station
-  pub sound : Sound after
+  pub valid : valid after ≡ true
 
 -- the replies before, and then these
 abbrev pub following : List (List ℕ) → Served → Served

@@ -6,8 +6,10 @@ use libc::STDOUT_FILENO;
 use station::Fed;
 use station::Station;
 ghost use mathlib.Core.Path.{_≡_};
+ghost use mathlib.Core.Bool.{true};
+ghost use Rattle.station.specs.Station.{valid};
 ghost use Rattle.station.specs.Feeding.{feedingOf};
-ghost use Rattle.session.specs.Session.{Sound, HandedOver};
+ghost use Rattle.session.specs.Session.{HandedOver};
 
 // Writes the reply of a box to some bytes of the host, in one write. Box and bytes are there for the contract alone, which
 // says whose reply it is. That it could not be written is said on standard error.
@@ -21,7 +23,6 @@ fn write_reply(s: Station, host: &[u8], reply: &[u8])
 
 // One call of feeding on what is left of a piece, and its reply.
 fn feed_once(s: Station, host: &[u8]) -> Fed
-    requires { ⌜ Sound s ⌝ }
     ensures { λ r. ⌜ r ≡ feedingOf s (now (host .entry)) 64 .fed ⌝ }
 {
     let mut reply = [0u8; 64];
@@ -33,7 +34,7 @@ fn feed_once(s: Station, host: &[u8]) -> Fed
 
 // Hands a piece over by calling again until its bytes are used up.
 fn feed_piece(s: Station, piece: &[u8]) -> Station
-    requires { ⌜ Sound s ⌝ }
+    requires { ⌜ valid s ≡ true ⌝ }
     ensures { λ r. ⌜ HandedOver s (now (piece .entry)) r ⌝ }
 {
     let mut now = s;
@@ -58,7 +59,7 @@ fn read_failed() {
 // Reads pieces as they come, until the input ends or a read fails. A proved loop has to end, and nothing says that the input does. So
 // the loop counts its turns down, from a number that no run uses up.
 fn serve(s: Station, buf: &mut [u8])
-    requires { ⌜ Sound s ⌝ }
+    requires { ⌜ valid s ≡ true ⌝ }
 {
     let mut now = s;
     let mut turns = u64::MAX;

@@ -18,7 +18,8 @@ use Rattle.answers.specs.Replies.{answerOf, replied}
 use Rattle.answers.specs.Replies.{refused as refusedAnswer}
 use Rattle.station.specs.declared.Station.{Station}
 use Rattle.station.specs.declared.Fed.{Fed}
-use Rattle.station.specs.Feeding.{messageIn, refused, answered, answering}
+use Rattle.station.specs.Feeding.{messageIn, refused, answered}
+use Rattle.station.specs.Inside.{answering}
 use Rattle.wire.proofs.Checks.{not-given}
 
 -- the header split into type and length is the message's

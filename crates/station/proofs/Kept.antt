@@ -5,7 +5,7 @@ use mathlib.Core.Path.{_≡_, refl, _∙_}
 use mathlib.Core.Bool.{Bool, true, false, _&&_, _||_}
 use mathlib.Core.List.{List}
 use lib.Dec.{eqb, leb}
-use lib.ListN.{getD}
+use lib.ListN.{length, getD}
 use borrow.Author.Tests.{ne-eqb, eqb-true, not-false}
 use Rattle.wire.specs.Choice.{pick}
 use Rattle.wire.specs.Number.{field}
@@ -16,11 +16,11 @@ use Rattle.tuning.specs.Bands.{inBands}
 use Rattle.tuning.specs.Word.{isClock}
 use Rattle.packets.specs.Numbers.{most}
 use Rattle.items.specs.declared.Settings.{Settings}
-use Rattle.items.specs.Settings.{inRange, isMode, isGain, isSize, allSerial, withRunning, withCount, withMode}
-use Rattle.items.specs.Items.{Item, items, frequency, gain, clock, rate, packetSize, state, stateAfter, mayState, runByte, modeByte, idle, run}
+use Rattle.items.specs.Settings.{inRange, isMode, isGain, isSize, allSerial, isSerial, withRunning, withCount, withMode}
+use Rattle.items.specs.Items.{Item, items, frequency, gain, clock, rate, packetSize, stateAfter, mayState, runByte, modeByte, idle, run}
 use Rattle.wire.specs.Header.{typeSet}
 use Rattle.items.specs.Answer.{Message, itemIn, valueAllowed, codeOf, settingsAfter, row, parameters}
-use Rattle.items.proofs.Rows.{allHave, found}
+use Rattle.items.proofs.Rows.{allHave, _then_, found}
 use Rattle.items.proofs.Judging.{passed}
 
 -- every setting lies within its range, one by one
@@ -32,7 +32,7 @@ pub record Ranges (s : Settings) : Type 0 where
   pub mode : isMode (s .mode) ≡ true
   pub gain : isGain (s .gain) ≡ true
   pub size : isSize (s .size) ≡ true
-  pub serial : allSerial (s .serial) ≡ true
+  pub serial : isSerial (s .serial) ≡ true
 
 -- eight tests that all hold, one by one
 eight : (a b c d e f g h : Bool) → (a && b && c && d && e && f && g && h) ≡ true
@@ -59,13 +59,17 @@ unfolding inRange
 ranges s h =
     let t =
     eight (inBands (s .frequency)) (leb (s .count) most) (isClock (s .clock)) (isD (s .divisor)) (isMode (s .mode)) (isGain (s .gain))
-    (isSize (s .size)) (allSerial (s .serial)) h in
+    (isSize (s .size)) (isSerial (s .serial)) h in
     record
     { frequency = t .0; count = t .1; clock = t .2; divisor = t .3; mode = t .4; gain = t .5; size = t .6; serial = t .7 }
 
 pub in-range : (s : Settings) → Ranges s → inRange s ≡ true
 unfolding inRange
 in-range s r = rw (r .frequency, r .count, r .clock, r .divisor, r .mode, r .gain, r .size, r .serial)
+
+-- a serial of a valid box has eight bytes
+pub serial-long : (s : Settings) → inRange s ≡ true → length (s .serial) ≡ 8
+serial-long s h = eqb-true (length (s .serial)) 8 (and-left (eqb (length (s .serial)) 8) (allSerial (s .serial)) (ranges s h .serial))
 
 -- ---- an item keeps every setting in its range
 
@@ -100,37 +104,19 @@ stays : (s : Settings) (p : List ℕ) → Ranges s → true ≡ true → Ranges 
 stays s p r t = r
 
 items-keep : allHave Keeps items
-items-keep = (
-  stays,
-  (
-    stays,
-    (
-      stays,
-      (
-        stays,
-        (
-          stays,
-          (
-            state-keeps,
-            (
-              frequency-keeps,
-              (
-                gain-keeps,
-                (
-                  clock-keeps,
-                  (
-                    rate-keeps,
-                    (size-keeps, tt),
-                  ),
-                ),
-              ),
-            ),
-          ),
-        ),
-      ),
-    ),
-  ),
-)
+items-keep =
+    stays
+    then stays
+    then stays
+    then stays
+    then stays
+    then state-keeps
+    then frequency-keeps
+    then gain-keeps
+    then clock-keeps
+    then rate-keeps
+    then size-keeps
+    then tt
 
 -- an accepted set has a value that is allowed
 settable-if : (s : Settings) (m : Message) → codeOf s m ≡ 1 → eqb (m .type) typeSet ≡ true → row m .settable (parameters m) ≡ true
@@ -166,55 +152,3 @@ message-keeps s m h = go (eqb (codeOf s m) 1 && eqb (m .type) typeSet) refl
         (settable-if s m (eqb-true (codeOf s m) 1 (and-left (eqb (codeOf s m) 1) (eqb (m .type) typeSet) q))
         (and-right (eqb (codeOf s m) 1) (eqb (m .type) typeSet) q))))
     go false q = rw (left-alone s m q) h
-
--- no message changes the serial
-abbrev SerialStays : Item → Type 0
-SerialStays i = (s : Settings) (p : List ℕ) → i .stored s p .serial ≡ s .serial
-
-state-serial : SerialStays state
-state-serial s p = go (eqb (runByte p) idle) (s .running)
-  where
-    go : (i w : Bool) → pick i (withRunning false s) (pick w s (withCount 0 (withMode (modeByte p) (withRunning true s)))) .serial ≡ s .serial
-    go true w = refl
-    go false true = refl
-    go false false = refl
-
-same-serial : (s : Settings) (p : List ℕ) → s .serial ≡ s .serial
-same-serial s p = refl
-
-pub serial-kept : (s : Settings) (m : Message) → settingsAfter s m .serial ≡ s .serial
-serial-kept s m = go (eqb (codeOf s m) 1 && eqb (m .type) typeSet) refl
-  where
-    rows : allHave SerialStays items
-    rows = (
-      same-serial,
-      (
-        same-serial,
-        (
-          same-serial,
-          (
-            same-serial,
-            (
-              same-serial,
-              (
-                state-serial,
-                (
-                  same-serial,
-                  (
-                    same-serial,
-                    (
-                      same-serial,
-                      (same-serial, (same-serial, tt)),
-                    ),
-                  ),
-                ),
-              ),
-            ),
-          ),
-        ),
-      ),
-    )
-
-    go : (b : Bool) → (eqb (codeOf s m) 1 && eqb (m .type) typeSet) ≡ b → settingsAfter s m .serial ≡ s .serial
-    go true q = rw (accepted-set s m q) (found SerialStays same-serial rows (itemIn m) s (parameters m))
-    go false q = rw (left-alone s m q)

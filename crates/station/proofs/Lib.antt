@@ -4,4 +4,5 @@ pub mod Valid
 pub mod Opened
 pub mod Words
 pub mod Answers
+pub mod Calls
 pub mod Serving

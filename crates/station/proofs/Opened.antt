@@ -19,8 +19,8 @@ use Rattle.items.specs.Answer.{Message, codeOf, settingsAfter, replyOf}
 use Rattle.items.proofs.TenBytes.{heldMessage, Same, ten-decide}
 use Rattle.station.specs.declared.Station.{Station}
 use Rattle.station.specs.Station.{valid}
-use Rattle.station.specs.Feeding.{Feeding, feedingOf, refused, waiting, answering}
-use Rattle.station.specs.Inside.{opened}
+use Rattle.station.specs.Feeding.{Feeding, feedingOf, refused, waiting}
+use Rattle.station.specs.Inside.{opened, answering}
 use Rattle.station.proofs.Valid.{valid-store, feeding-open, feeding-done}
 
 -- the header is in the first ten

@@ -21,8 +21,8 @@ use Rattle.items.specs.Answer.{replyOf, settingsAfter}
 use Rattle.station.specs.declared.Station.{Station}
 use Rattle.station.specs.Station.{valid}
 use Rattle.station.specs.Feeding.{messageIn, feedingOf}
-use Rattle.station.specs.Serving.{Served, unserved, noting, called, calling, Piece, serving, joined, roomy, Whole}
-use Rattle.station.proofs.Kept.{message-keeps, serial-kept}
+use Rattle.station.specs.Serving.{Served, unserved, noting, called, calling, Piece, serving, joined, roomy}
+use Rattle.station.proofs.Kept.{message-keeps}
 use Rattle.station.proofs.Short.{reply-short}
 use Rattle.station.proofs.Valid.{valid-settings, valid-store, valid-both, feeding-answered, feeding-waiting}
 
@@ -41,11 +41,10 @@ answer x t =
 abbrev view : Stream Told → Served
 view r = record { station = record { settings = r .state .settings; store = r .store }; replies = r .state .replies }
 
--- a valid box, with a whole serial
+-- a valid box
 record Good (r : Stream Told) : Type 0 where
   ranged : inRange (r .state .settings) ≡ true
   left : couldBeLeft (r .store) ≡ true
-  serial : length (r .state .settings .serial) ≡ 8
 
 good-valid : (r : Stream Told) → Good r → valid (view r .station) ≡ true
 good-valid r g = valid-both (r .state .settings) (r .store) (g .ranged) (g .left)
@@ -63,9 +62,8 @@ next-good r host g = go (taken (r .store) host .finished) refl
         record {
           ranged = message-keeps (r .state .settings) (messageIn (taken (r .store) host .store)) (g .ranged);
           left = between-left;
-          serial = ap length (serial-kept (r .state .settings) (messageIn (taken (r .store) host .store))) ∙ g .serial;
         }
-    go false f = record { ranged = g .ranged; left = taken-left 0 (r .store) host (g .left) f; serial = g .serial }
+    go false f = record { ranged = g .ranged; left = taken-left 0 (r .store) host (g .left) f }
 
 -- a call of feeding is a call of the stream, and consumes what that takes
 next-view : (room : ℕ) (r : Stream Told) (host : List ℕ) → 64 ≤ room → Good r
@@ -78,7 +76,7 @@ next-view room r host enough g = go (taken (r .store) host .finished) refl
         × (feedingOf (view r .station) host room .fed .consumed ≡ taken (r .store) host .count)
     go true f =
         rw (feeding-answered (r .state .settings) (r .store) host room (good-valid r g) (told 0 (r .store) host ∙ f)
-        (le-trans (reply-short (r .state .settings) (messageIn (taken (r .store) host .store)) (g .serial)) enough))
+        (le-trans (reply-short (r .state .settings) (messageIn (taken (r .store) host .store)) (g .ranged)) enough))
         (refl, refl)
     go false f =
         rw (feeding-waiting (r .state .settings) (r .store) host room (good-valid r g) (told 0 (r .store) host ∙ f))
@@ -115,15 +113,14 @@ joined-hosts [] = refl
 joined-hosts (p ∷ ps) = ap (λ (l : List ℕ). p .host ++ l) (joined-hosts ps)
 
 -- "Cutting the host's bytes differently gives the same replies and settings."
-pub cuts-do-not-matter : (s : Station) (ps qs : List Piece) → valid s ≡ true → Whole s → roomy ps → roomy qs → joined ps ≡ joined qs
+pub cuts-do-not-matter : (s : Station) (ps qs : List Piece) → valid s ≡ true → roomy ps → roomy qs → joined ps ≡ joined qs
     → serving (unserved s) ps ≡ serving (unserved s) qs
-cuts-do-not-matter s ps qs v w enough-p enough-q e =
+cuts-do-not-matter s ps qs v enough-p enough-q e =
     let r : Stream Told = record { store = s .store; state = record { settings = s .settings; replies = [] } } in
     let g : Good r =
     record {
       ranged = valid-settings (s .settings) (s .store) v;
       left = valid-store (s .settings) (s .store) v;
-      serial = w .serial;
     } in
     serving-view r ps enough-p g
     ∙ ap view (same-stream answer r (hosts ps) (hosts qs) (g .left) (joined-hosts ps ∙ e ∙ sym (joined-hosts qs)))

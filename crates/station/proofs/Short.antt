@@ -1,9 +1,9 @@
--- A reply has at most 64 bytes, whatever the message.
+-- A reply of a valid box has at most 64 bytes, whatever the message.
 -- Assumes nothing.
-use Prim.Native.Nat.{ℕ, zero, suc, _+_, _≤_}
+use Prim.Native.Nat.{ℕ, zero, suc, _≤_}
 use native.Mathlib.Nat.{le-refl}
 use native.Mathlib.Omega.{arith}
-use mathlib.Core.Path.{_≡_, ap, _∙_}
+use mathlib.Core.Path.{_≡_}
 use mathlib.Core.Bool.{Bool, true, false}
 use mathlib.Core.List.{List, [], _∷_, _++_}
 use lib.Dec.{eqb, lit≤}
@@ -11,10 +11,11 @@ use lib.ListN.{length, getD, take, length-append, length-take}
 use Rattle.wire.specs.Choice.{pick}
 use Rattle.wire.specs.Header.{nak, typeRange, typeReply, typeRangeReply}
 use Rattle.items.specs.declared.Settings.{Settings}
+use Rattle.items.specs.Settings.{inRange}
 use Rattle.items.specs.Items.{Item, items, rowOf, versionTable}
 use Rattle.items.specs.Answer.{Message, itemIn, codeOf, settingsAfter, row, parameters, replyBody, rangeBody, framed, replyTo, replyOf}
-use Rattle.items.proofs.Rows.{allHave, found}
-use Rattle.station.proofs.Kept.{serial-kept}
+use Rattle.items.proofs.Rows.{allHave, _then_, found}
+use Rattle.station.proofs.Kept.{serial-long, message-keeps}
 
 -- an item's value and what it echoes are short
 abbrev Small : Item → Type 0
@@ -31,37 +32,19 @@ serial-small : (s : Settings) → length (s .serial) ≡ 8 → length (s .serial
 serial-small s h = simp length-append (omega arith)
 
 all-small : allHave Small items
-all-small = (
-  (lit≤ tt, λ s p l. lit≤ tt),
-  (
-    (lit≤ tt, λ s p l. serial-small s l),
-    (
-      (lit≤ tt, λ s p l. lit≤ tt),
-      (
-        (lit≤ tt, λ s p l. version-small (getD p 0 0)),
-        (
-          (lit≤ tt, λ s p l. lit≤ tt),
-          (
-            (lit≤ tt, λ s p l. lit≤ tt),
-            (
-              (lit≤ tt, λ s p l. lit≤ tt),
-              (
-                (lit≤ tt, λ s p l. lit≤ tt),
-                (
-                  (lit≤ tt, λ s p l. lit≤ tt),
-                  (
-                    (lit≤ tt, λ s p l. lit≤ tt),
-                    ((lit≤ tt, λ s p l. lit≤ tt), tt),
-                  ),
-                ),
-              ),
-            ),
-          ),
-        ),
-      ),
-    ),
-  ),
-)
+all-small =
+    (lit≤ tt, λ s p l. lit≤ tt)
+    then (lit≤ tt, λ s p l. serial-small s l)
+    then (lit≤ tt, λ s p l. lit≤ tt)
+    then (lit≤ tt, λ s p l. version-small (getD p 0 0))
+    then (lit≤ tt, λ s p l. lit≤ tt)
+    then (lit≤ tt, λ s p l. lit≤ tt)
+    then (lit≤ tt, λ s p l. lit≤ tt)
+    then (lit≤ tt, λ s p l. lit≤ tt)
+    then (lit≤ tt, λ s p l. lit≤ tt)
+    then (lit≤ tt, λ s p l. lit≤ tt)
+    then (lit≤ tt, λ s p l. lit≤ tt)
+    then tt
 
 row-small : (code : ℕ) → Small (rowOf code)
 row-small code = found Small (lit≤ tt, λ s p l. lit≤ tt) all-small code
@@ -76,12 +59,13 @@ reply-small i kind s p h l = go (eqb kind typeRange)
     go true = simp length-append (omega (arith, echo-small 1 p (le-refl 1)))
     go false = simp length-append (omega (arith, echo-small (i .echoed) p (h .0), h .1 s p l))
 
-pub reply-short : (s : Settings) (m : Message) → length (s .serial) ≡ 8 → length (replyOf s m) ≤ 64
+pub reply-short : (s : Settings) (m : Message) → inRange s ≡ true → length (replyOf s m) ≤ 64
 unfolding replyOf
-reply-short s m l = go (eqb (codeOf s m) 1) (eqb (codeOf s m) 2)
+reply-short s m h = go (eqb (codeOf s m) 1) (eqb (codeOf s m) 2)
   where
     go : (a b : Bool) → length (pick a (replyTo (row m) (m .type) (settingsAfter s m) (parameters m)) (pick b [] nak)) ≤ 64
     go true b =
-        reply-small (row m) (m .type) (settingsAfter s m) (parameters m) (row-small (itemIn m)) (ap length (serial-kept s m) ∙ l)
+        reply-small (row m) (m .type) (settingsAfter s m) (parameters m) (row-small (itemIn m))
+        (serial-long (settingsAfter s m) (message-keeps s m h))
     go false true = lit≤ tt
     go false false = lit≤ tt

@@ -1,12 +1,15 @@
 -- A valid box is settings in their ranges and a store that could be left; and what feeding a valid box comes to.
 -- Assumes nothing.
 use Prim.Native.Nat.{ℕ, _≤_}
-use mathlib.Core.Path.{_≡_, sym, ap, _∙_}
-use mathlib.Core.Bool.{true, false}
+use mathlib.Core.Path.{_≡_, refl, sym, ap, _∙_}
+use mathlib.Core.Bool.{Bool, true, false, not}
 use mathlib.Core.List.{List}
+use native.Mathlib.Omega.{arith}
+use lib.Dec.{ltb}
 use lib.ListN.{length}
-use borrow.Author.Tests.{le-ltb}
-use Rattle.wire.proofs.Laws.{and-left, and-right, and-both}
+use borrow.Author.Tests.{le-ltb, ltb-false, not-true, not-false}
+use Rattle.wire.specs.Choice.{pick}
+use Rattle.wire.proofs.Laws.{and-left, and-right, and-both, pick-keeps}
 use Rattle.framing.specs.declared.Store.{Store}
 use Rattle.framing.specs.Framing.{Taking, taken, finished, couldBeLeft}
 use Rattle.framing.proofs.Cutting.{told}
@@ -15,7 +18,8 @@ use Rattle.items.specs.Settings.{inRange}
 use Rattle.items.specs.Answer.{replyOf}
 use Rattle.station.specs.declared.Station.{Station}
 use Rattle.station.specs.Station.{valid}
-use Rattle.station.specs.Feeding.{messageIn, feedingOf, refused, answered, answering, waiting}
+use Rattle.station.specs.Feeding.{Feeding, messageIn, feedingOf, refused, answered, waiting}
+use Rattle.station.specs.Inside.{answering}
 
 abbrev pub box : Settings → Store → Station
 box s t = record { settings = s; store = t }
@@ -41,7 +45,7 @@ feeding-answered s t host room v f r = rw (v, f, le-ltb room (length (replyOf s 
 pub feeding-waiting : (s : Settings) (t : Store) (host : List ℕ) (room : ℕ) → valid (box s t) ≡ true
     → finished (taken t host .store) ≡ false → feedingOf (box s t) host room ≡ waiting s (taken t host)
 unfolding feedingOf
-feeding-waiting s t host room v f = rw (v, f)
+feeding-waiting s t host room v f = rw (v, f, le-ltb room 0 (omega arith))
 
 -- ---- the three ways that a call of feeding goes, by what the framing took
 
@@ -56,8 +60,36 @@ module _ (s : Station) (host : List ℕ) (room : ℕ) where
 
     pub feeding-open : t .finished ≡ false → waiting (s .settings) t ≡ feedingOf s host room
     unfolding feedingOf
-    feeding-open f = rw (v, sym ends ∙ f, e)
+    feeding-open f = rw (v, sym ends ∙ f, e, le-ltb room 0 (omega arith))
 
     pub feeding-done : t .finished ≡ true → answering s t room ≡ feedingOf s host room
     unfolding feedingOf
     feeding-done f = rw (v, sym ends ∙ f, e)
+
+-- ---- every way that a call of feeding goes
+
+-- the reply that a call owes for the message that it finishes
+abbrev reply : Station → List ℕ → List ℕ
+reply s host = replyOf (s .settings) (messageIn (taken (s .store) host .store))
+
+module _ (P : Feeding → Type 0) (s : Station) (host : List ℕ) (room : ℕ) where
+  -- what holds of each way that it can go holds of the call
+  pub each-way :
+      (valid s ≡ false → P (refused 21 s))
+      → (valid s ≡ true → P (refused 20 s))
+      → (valid s ≡ true → taken (s .store) host .finished ≡ false → P (waiting (s .settings) (taken (s .store) host)))
+      → (valid s ≡ true → taken (s .store) host .finished ≡ true → length (reply s host) ≤ room → P (answered (s .settings) (taken (s .store) host)))
+      → P (feedingOf s host room)
+  unfolding feedingOf
+  each-way broken short wait done =
+      pick-keeps P (not (valid s)) _ _ (λ v. broken (not-true (valid s) v))
+      (λ v. by-end (not-false (valid s) v) (finished (taken (s .store) host .store)) refl)
+    where
+      by-end : valid s ≡ true → (d : Bool) → finished (taken (s .store) host .store) ≡ d
+          → let f = pick d (answered (s .settings) (taken (s .store) host)) (waiting (s .settings) (taken (s .store) host)) in
+          P (pick (ltb room (length (f .bytes))) (refused 20 s) f)
+      by-end v true f =
+          pick-keeps P (ltb room (length (reply s host))) _ _ (λ l. short v)
+          (λ l. done v (sym (told 0 (s .store) host) ∙ f) (ltb-false room (length (reply s host)) l))
+      by-end v false f =
+          pick-keeps P (ltb room 0) _ _ (λ l. short v) (λ l. wait v (sym (told 0 (s .store) host) ∙ f))

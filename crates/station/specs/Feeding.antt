@@ -1,10 +1,10 @@
 -- One call of feeding: the box, the host's bytes, and how much room there is for a reply.
 use Prim.Native.Nat.{ℕ}
 use mathlib.Core.Bool.{not}
-use mathlib.Core.List.{List, []}
+use mathlib.Core.List.{List, [], _∷_}
 use lib.Dec.{ltb}
 use lib.ListN.{length}
-use Rattle.wire.specs.Choice.{pick}
+use Rattle.wire.specs.Choice.{pick, Check, check, firstRow}
 use Rattle.wire.specs.Codes as Code
 use Rattle.wire.specs.Header.{lengthIn, typeIn}
 use Rattle.framing.specs.Framing.{Taking, taken, finished, headerIn, between}
@@ -50,15 +50,19 @@ answered s t =
       bytes = replyOf s (messageIn (t .store));
     }
 
--- where there is room: "lent buffer shorter than what this call would write" is 20
-abbrev pub answering : Station → Taking → ℕ → Feeding
-answering s t room =
-    pick (ltb room (length (replyOf (s .settings) (messageIn (t .store))))) (refused Code.noRoom s) (answered (s .settings) t)
+-- what the bytes taken come to: a message that is finished is answered, any other waits
+abbrev pub comesTo : Settings → Taking → Feeding
+comesTo s t = pick (finished (t .store)) (answered s t) (waiting s t)
 
--- what the taken bytes come to
-abbrev pub fedBy : Station → Taking → ℕ → Feeding
-fedBy s t room = pick (not (finished (t .store))) (waiting (s .settings) t) (answering s t room)
+-- "Orders: feeding 21, 20." 20: "lent buffer shorter than what this call would write"
+abbrev pub feedChecks : Station → Taking → ℕ → List Check
+feedChecks s t room =
+    check Code.broken (not (valid s))
+    ∷ check Code.noRoom (ltb room (length (comesTo (s .settings) t .bytes)))
+    ∷ []
 
--- "Orders: feeding 21, 20."
+-- the first check that holds refuses the call
 unfoldable pub feedingOf : Station → List ℕ → ℕ → Feeding
-feedingOf s host room = pick (not (valid s)) (refused Code.broken s) (fedBy s (taken (s .store) host) room)
+feedingOf s host room =
+    firstRow (λ c. c .holds) (λ c. refused (c .code) s) (comesTo (s .settings) (taken (s .store) host))
+    (feedChecks s (taken (s .store) host) room)

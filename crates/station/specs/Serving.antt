@@ -2,7 +2,6 @@
 -- the replies are noted in order. "Cutting claims hold for a valid box and reply buffers of 64 bytes or more, calling
 -- again until the bytes are used up."
 use Prim.Native.Nat.{ℕ, zero, suc, _≤_}
-use mathlib.Core.Path.{_≡_}
 use mathlib.Core.List.{List, [], _∷_, _++_}
 use lib.ListN.{length, drop}
 use Rattle.station.specs.declared.Station.{Station}
@@ -57,8 +56,3 @@ joined (p ∷ ps) = p .host ++ joined ps
 abbrev pub roomy : List Piece → Type 0
 roomy [] = Unit {0}
 roomy (p ∷ ps) = ((calls : ℕ) → 64 ≤ p .rooms calls) × roomy ps
-
--- what the type of a box says of its two arrays
-pub record Whole (s : Station) : Type 0 where
-  pub serial : length (s .settings .serial) ≡ 8
-  pub held : length (s .store .held) ≡ 64

@@ -2,8 +2,8 @@
 ghost use mathlib.Core.Path.{_≡_};
 ghost use lib.Seq.{sets};
 ghost use Rattle.framing.specs.Framing.{between};
-ghost use Rattle.station.specs.Feeding.{feedingOf, answering};
-ghost use Rattle.station.specs.Inside.{opened};
+ghost use Rattle.station.specs.Feeding.{feedingOf};
+ghost use Rattle.station.specs.Inside.{opened, answering};
 ghost use Rattle.station.specs.Feeding.{refused as refusedBy, waiting as waitingWith};
 use crate::Fed;
 use crate::Station;

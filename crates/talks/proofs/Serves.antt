@@ -2,46 +2,22 @@
 -- whole.
 use Prim.Native.Nat.{ℕ, zero, suc, _+_, _-_, _≤_, _<_}
 use mathlib.Core.Path.{_≡_, refl, ap, _∙_}
-use mathlib.Core.Bool.{not}
 use mathlib.Core.List.{List, [], _++_}
 use native.Mathlib.Nat.{lt-irrefl}
 use native.Mathlib.Omega.{arith}
-use borrow.Author.Tests.{eq-eqb, ne-eqb, lt-ltb, le-ltb, ltb-false}
-use lib.Dec.{eqb, ltb}
+use borrow.Author.Tests.{eq-eqb, ne-eqb, lt-ltb, le-ltb}
+use lib.Dec.{eqb}
 use lib.ListN.{length, drop, length-append, length-drop}
 use lib.Seq.{sets, length-sets, drop-drop}
-use Rattle.wire.proofs.Laws.{pick-keeps, pick-same}
+use Rattle.wire.proofs.Laws.{pick-same}
 use Rattle.wire.proofs.Stores.{sets-append}
-use Rattle.framing.specs.Framing.{Taking, taken, finished}
-use Rattle.framing.proofs.Cutting.{count-most}
-use Rattle.items.specs.Answer.{replyOf}
 use Rattle.station.specs.declared.Fed.{Fed}
 use Rattle.station.specs.declared.Station.{Station}
 use Rattle.station.specs.declared.Began.{Began}
-use Rattle.station.specs.Station.{valid, freshBox, sessionSerial}
-use Rattle.station.specs.Feeding.{Feeding, feedingOf, refused, waiting, answered, answering, fedBy, messageIn}
+use Rattle.station.specs.Station.{freshBox, sessionSerial}
+use Rattle.station.specs.Feeding.{Feeding, feedingOf}
+use Rattle.station.proofs.Calls.{Within, feeding-within}
 use Rattle.talks.specs.Serving.{served, serveRun}
-
-pub record Within (host : List ℕ) (room : ℕ) (f : Feeding) : Type 0 where
-  pub consumed : f .fed .consumed ≤ length host
-  pub wrote : f .fed .wrote ≡ length (f .bytes)
-  pub fits : length (f .bytes) ≤ room
-
-refused-within : (code : ℕ) (s : Station) (host : List ℕ) (room : ℕ) → Within host room (refused code s)
-refused-within code s host room = record { consumed = omega arith; wrote = refl; fits = omega arith }
-
-answering-within : (s : Station) (t : Taking) (host : List ℕ) (room : ℕ) → t .count ≤ length host → Within host room (answering s t room)
-answering-within s t host room most =
-    pick-keeps (Within host room) (ltb room (length (replyOf (s .settings) (messageIn (t .store))))) (refused 20 s) (answered (s .settings) t) (λ short. refused-within 20 s host room) (λ enough. record { consumed = most; wrote = refl; fits = ltb-false room (length (replyOf (s .settings) (messageIn (t .store)))) enough })
-
-fed-within : (s : Station) (t : Taking) (host : List ℕ) (room : ℕ) → t .count ≤ length host → Within host room (fedBy s t room)
-fed-within s t host room most =
-    pick-keeps (Within host room) (not (finished (t .store))) (waiting (s .settings) t) (answering s t room) (λ more. record { consumed = most; wrote = refl; fits = omega arith }) (λ done. answering-within s t host room most)
-
-pub feeding-within : (s : Station) (host : List ℕ) (room : ℕ) → Within host room (feedingOf s host room)
-unfolding feedingOf
-feeding-within s host room =
-    pick-keeps (Within host room) (not (valid s)) (refused 21 s) (fedBy s (taken (s .store) host) room) (λ broken. refused-within 21 s host room) (λ whole. fed-within s (taken (s .store) host) host room (omega (arith, count-most 0 (s .store) host)))
 
 -- nothing more is served: no call is left, no byte, or no room
 pub none-left : (left room : ℕ) (s : Station) (host : List ℕ) → left ≤ 0 → served left room s host ≡ []

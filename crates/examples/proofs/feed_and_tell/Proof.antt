@@ -6,18 +6,14 @@ use lib.ListN.{length}
 use lib.Seq.{length-take-le}
 use borrow.Author.Needs.{needs}
 use Rattle.station.specs.declared.Fed.{Fed}
-use Rattle.examples.proofs.Fits.{wrote-fits}
+use Rattle.station.proofs.Calls.{feeding-within}
 use Rattle.examples.proofs.feed_and_tell.Statement.{statement}
 use Rattle.examples.proofs.feed_and_tell.Tie as tie
 
 wrote : (c : tie.After-feed) → c .feed .result .wrote ≤ length (c .feed .last .1 .1 .0)
 wrote c =
-    omega (
-      arith,
-      c .feed .kept .1 .1 .0,
-      ap (λ (r : Fed). r .wrote) (c .feed .ensures .0),
-      wrote-fits (c .before .before .before .args .s) (c .before .before .before .args .message .now) 64,
-    )
+    let f = feeding-within (c .before .before .before .args .s) (c .before .before .before .args .message .now) 64 in
+    omega (arith, c .feed .kept .1 .1 .0, ap (λ (r : Fed). r .wrote) (c .feed .ensures .0), f .wrote, f .fits)
 
 slice-aggregate-feed : tie.Need-slice-aggregate-feed
 slice-aggregate-feed c = search needs

@@ -26,7 +26,7 @@ part-feed-once-end : tie.Need-part-feed-once-end Inv-loop μ-loop
 part-feed-once-end c = search needs
 
 feed-once-requires : tie.Need-feed-once-requires Inv-loop μ-loop
-feed-once-requires c κs = c .before .before .loop .inv .sound
+feed-once-requires c κs = search needs
 
 -- what the call did
 turn : (c : tie.After-feed-once Inv-loop μ-loop)

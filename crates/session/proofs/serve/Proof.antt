@@ -1,13 +1,14 @@
--- The measure is the number of turns that are left. Reading keeps the buffer's length, and a piece keeps the box sound.
+-- The measure is the number of turns that are left. Reading keeps the buffer's length, and a piece leaves the box valid.
 use mathlib.Core.Path.{_≡_}
 use lib.ListN.{length}
-use Rattle.session.specs.Session.{Sound}
+use mathlib.Core.Bool.{true}
+use Rattle.station.specs.Station.{valid}
 use borrow.Author.Needs.{needs}
 use Rattle.session.proofs.serve.Statement.{statement}
 use Rattle.session.proofs.serve.Tie as tie
 
 abbrev Inv-loop : tie.InvT-loop
-Inv-loop buf₀ now₀ turns₀ buf now turns = (length buf ≡ length buf₀) × Sound now
+Inv-loop buf₀ now₀ turns₀ buf now turns = (length buf ≡ length buf₀) × (valid now ≡ true)
 
 abbrev μ-loop : tie.MeasureT-loop
 μ-loop buf₀ now₀ turns₀ buf now turns = turns

@@ -10,7 +10,8 @@ use Rattle.wire.proofs.Stores.{part-sets, rest-part, rest-long}
 use Rattle.station.specs.declared.Fed.{Fed}
 use lib.ListN.{length, drop, length-drop}
 use Rattle.station.specs.Feeding.{Feeding, feedingOf}
-use Rattle.talks.proofs.Serves.{Within, feeding-within, Going, none-left, none-more, no-room, begins, ends, turns}
+use Rattle.station.proofs.Calls.{Within, feeding-within}
+use Rattle.talks.proofs.Serves.{Going, none-left, none-more, no-room, begins, ends, turns}
 use Rattle.talks.proofs.skvornela_serve.Statement.{statement}
 use Rattle.talks.proofs.skvornela_serve.Tie as tie
 

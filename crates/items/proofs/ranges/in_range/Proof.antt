@@ -1,5 +1,7 @@
 -- The eight tests are the definition's, one for one.
-use mathlib.Core.Path.{refl}
+use mathlib.Core.Path.{_≡_, refl}
+use lib.ListN.{length}
+use borrow.Author.Tests.{eq-eqb}
 use Rattle.items.specs.Settings.{inRange}
 use borrow.Author.Needs.{needs}
 use Rattle.items.proofs.ranges.in_range.Statement.{statement}
@@ -26,6 +28,12 @@ is-size-requires c κs = search needs
 all-serial-requires : tie.Need-all-serial-requires
 all-serial-requires c κs = search needs
 
+abbrev start : tie.After-all-serial → tie.Start
+start c = c .before .before .before .before .before .before .before .before .before
+
+long : (c : tie.Start) → length (c .args .s .serial) ≡ 8
+long c = search needs
+
 returns : tie.Need-returns
 unfolding inRange
 returns c =
@@ -37,6 +45,7 @@ returns c =
       c .before .before .is-gain .ensures,
       c .before .is-size .ensures,
       c .all-serial .ensures,
+      eq-eqb (length (start c .args .s .serial)) 8 (long (start c)),
     )
     refl
 
