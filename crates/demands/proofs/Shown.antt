@@ -1,7 +1,7 @@
 -- Demand 2 of items' definitions: after an accepted set a request shows the value set, and every other item is as it was.
 -- What is to be shown of an item is shown of each line of the table, and holds of the line that a message names.
 -- Assumes nothing.
-use Prim.Native.Nat.{ℕ, zero, suc, _+_, _%_, _≤_, _<_}
+use Prim.Native.Nat.{ℕ, _+_, _%_, _≤_, _<_}
 use native.Mathlib.Omega.{arith}
 use mathlib.Core.Path.{_≡_, refl, sym, ap, _∙_}
 use mathlib.Core.Bool.{Bool, true, false, _&&_, _||_, not}
@@ -16,7 +16,8 @@ use Rattle.wire.specs.Number.{bytes, field}
 use Rattle.wire.specs.Header.{typeSet, typeRequest, typeRange}
 use Rattle.wire.proofs.Numbers.{bytes-number}
 use Rattle.rates.proofs.Rates.{nearest-d}
-use Rattle.framing.specs.Framing.{allBytes}
+use Rattle.wire.specs.Lists.{allBytes}
+use Rattle.wire.proofs.Lists.{bytes-take, bytes-drop, byte-at}
 use Rattle.items.specs.declared.Settings.{Settings}
 use Rattle.items.specs.Settings.{withRunning, withCount, withMode, isMode}
 use Rattle.items.specs.Items.{Offer, total, dash, Item, items, noItem, rowOf, runByte, modeByte, idle, run, frequency, gain, clock, rate, packetSize, state, status, listed}
@@ -92,30 +93,15 @@ others-unchanged a b t s p q = found-at Leaves (λ i j t s p q. refl) leave a b 
 
 -- ---- a request shows the value set
 
-all-take : (n : ℕ) (bs : List ℕ) → allBytes bs → allBytes (take n bs)
-all-take zero bs h = tt
-all-take (suc n) [] h = tt
-all-take (suc n) (b ∷ bs) h = (h .0, all-take n bs (h .1))
-
-all-drop : (n : ℕ) (bs : List ℕ) → allBytes bs → allBytes (drop n bs)
-all-drop zero bs h = h
-all-drop (suc n) [] h = tt
-all-drop (suc n) (b ∷ bs) h = all-drop n bs (h .1)
-
-all-below : (bs : List ℕ) → allBytes bs → (k : ℕ) → getD bs k 0 < 256
-all-below [] h k = omega arith
-all-below (b ∷ bs) h zero = h .0
-all-below (b ∷ bs) h (suc k) = all-below bs (h .1) k
-
 -- a field of a message, written as a number and shown again, is the bytes that were sent
 field-shown : (at n : ℕ) (p : List ℕ) → at + n ≤ length p → allBytes p → bytes n (field at n p) ≡ take n (drop at p)
 field-shown at n p room h =
     let long : length (take n (drop at p)) ≡ n = length-take-le n (drop at p) (rw length-drop (omega arith)) in
-    rw long at (bytes-number (take n (drop at p)) (all-below (take n (drop at p)) (all-take n (drop at p) (all-drop at p h))))
+    rw long at (bytes-number (take n (drop at p)) (byte-at (take n (drop at p)) (bytes-take n (drop at p) (bytes-drop at p h))))
 
 byte-shown : (at : ℕ) (p : List ℕ) → at < length p → allBytes p → bytes 1 (getD p at 0) ≡ take 1 (drop at p)
 byte-shown at p room h =
-    let small : getD p at 0 % 256 ≡ getD p at 0 = omega (arith, all-below p h at) in
+    let small : getD p at 0 % 256 ≡ getD p at 0 = omega (arith, byte-at p h at) in
     rw (drop-cons p at 0 room, small)
 
 -- what an item shows after a set that was allowed
@@ -221,7 +207,7 @@ pub has-value-set : (s : Settings) (m : Message) → codeOf s m ≡ 1 → m .typ
 has-value-set s m h kind held q =
     rw (stores s m h kind)
     (found-at Shows (λ code size long. absurd (true-not-false (sym long))) show (itemIn m) (m .size) (rw kind at (has-length s m h)) s
-    (parameters m) (rw length-drop (omega (arith, held .whole))) (all-drop 4 (m .held) (held .areBytes)) (rw kind at (has-value s m h))
+    (parameters m) (rw length-drop (omega (arith, held .whole))) (bytes-drop 4 (m .held) (held .areBytes)) (rw kind at (has-value s m h))
     (rw kind at (is-free s m h)) q)
 
 -- "is echoed": the reply to an accepted set has the value set

@@ -1,7 +1,7 @@
 -- Demand 2 of the box: it is fed a whole set and, after any calls that leave its item, a whole request. The messages are
 -- answered as in Shown.antt, and feeding and cutting in between leave what the item shows.
 -- Assumes nothing.
-use Prim.Native.Nat.{ℕ, zero, suc, _+_, _-_, _≤_, _<_, max}
+use Prim.Native.Nat.{ℕ, _+_, _-_, _≤_, _<_, max}
 use native.Mathlib.Nat.{le-trans}
 use native.Mathlib.Omega.{arith}
 use mathlib.Core.Path.{_≡_, refl, sym, ap, _∙_}
@@ -15,7 +15,8 @@ use Rattle.wire.specs.Choice.{pick}
 use Rattle.wire.specs.Number.{number}
 use Rattle.wire.specs.Header.{lengthIn, typeIn, typeSet, typeRequest, typeData}
 use Rattle.framing.specs.Framing.{Taking}
-use Rattle.framing.specs.Framing.{allBytes, totalOf, headerIn, between, finished, taking, taken, couldBeLeft}
+use Rattle.framing.specs.Framing.{totalOf, headerIn, between, finished, taking, taken, couldBeLeft}
+use Rattle.wire.proofs.Lists.{bytes-append, bytes-zero}
 use Rattle.framing.proofs.Cutting.{told}
 use Rattle.items.proofs.Rows.{found-at}
 use Rattle.items.specs.declared.Settings.{Settings}
@@ -36,14 +37,6 @@ use Rattle.demands.proofs.Shown.{Same, message-leaves, asked-alike, ask
 
 -- ---- one whole message, fed in one call to a box between messages
 
-all-append : (a b : List ℕ) → allBytes a → allBytes b → allBytes (a ++ b)
-all-append [] b h k = k
-all-append (x ∷ a) b h k = (h .0, all-append a b (h .1) k)
-
-all-zero : (n : ℕ) → allBytes (replicate n 0)
-all-zero zero = tt
-all-zero (suc n) = (lit≤ tt, all-zero n)
-
 -- a header announces at least its length
 length-announced : (kind size : ℕ) → size < 8192 → size ≤ totalOf kind size
 length-announced kind size h = go (leb typeData kind && eqb size 0)
@@ -61,7 +54,7 @@ module _ (m : List ℕ) (one : OneMessage m) where
         whole =
             rw room
             (omega (arith, length-announced (typeIn (headerIn m)) (lengthIn (headerIn m)) (omega arith), one .announces, one .most));
-        areBytes = all-append m (replicate (64 - length m) 0) (one .areBytes) (all-zero (64 - length m));
+        areBytes = bytes-append m (replicate (64 - length m) 0) (one .areBytes) (bytes-zero (64 - length m));
       }
 
   pub took : taken between m ≡ tookAll m

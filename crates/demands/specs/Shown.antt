@@ -11,7 +11,8 @@ use Rattle.wire.specs.Choice.{pick, firstRow}
 use Rattle.wire.specs.Codes as Code
 use Rattle.wire.specs.Number.{bytes, field}
 use Rattle.wire.specs.Header.{lengthIn, typeIn, nak, typeSet, typeRequest, typeReply}
-use Rattle.framing.specs.Framing.{allBytes, between, taken, headerIn, announced}
+use Rattle.framing.specs.Framing.{between, taken, headerIn, announced}
+use Rattle.wire.specs.Lists.{allBytes}
 use Rattle.rates.specs.Rate.{nearestOf, rateOf}
 use Rattle.items.specs.declared.Settings.{Settings}
 use Rattle.items.specs.Items.{status, state, idle, run, runByte, modeByte, stateBytes}

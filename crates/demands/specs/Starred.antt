@@ -1,14 +1,15 @@
 -- The judged examples of document 01 that are marked to be proved, as one table in the page's order. What a message does
 -- is asked of a fresh box, fed in one call with 64 bytes of room.
 use Prim.Native.Nat.{ℕ}
-use mathlib.Core.Bool.{Bool, true, false, _&&_}
+use mathlib.Core.Bool.{Bool, true, _&&_}
 use mathlib.Core.List.{List, [], _∷_}
 use lib.Dec.{eqb}
-use lib.IntN.{ℤ, pos, negsuc}
+use lib.IntN.{ℤ, negsuc}
 use lib.ListN.{replicate}
 use Rattle.wire.specs.Number.{field}
 use Rattle.wire.specs.Header.{nak}
-use Rattle.wire.specs.Signed.{signed}
+use Rattle.wire.specs.Lists.{same}
+use Rattle.wire.specs.Signed.{signed, sameInteger}
 use Rattle.rates.specs.Rate.{nearestOf, rateOf, mayAsk}
 use Rattle.tuning.specs.Word.{wordOf}
 use Rattle.packets.specs.Numbers.{numberAt, stepOf}
@@ -27,18 +28,6 @@ does message = feedingOf asked message 64
 
 abbrev pub settingsBy : List ℕ → Settings
 settingsBy message = does message .fed .station .settings
-
-abbrev pub sameBytes : List ℕ → List ℕ → Bool
-sameBytes [] [] = true
-sameBytes [] (b ∷ bs) = false
-sameBytes (a ∷ rest) [] = false
-sameBytes (a ∷ rest) (b ∷ bs) = eqb a b && sameBytes rest bs
-
-abbrev pub sameInteger : ℤ → ℤ → Bool
-sameInteger (pos a) (pos b) = eqb a b
-sameInteger (pos a) (negsuc b) = false
-sameInteger (negsuc a) (pos b) = false
-sameInteger (negsuc a) (negsuc b) = eqb a b
 
 pub data Example : Type 0 where
   -- a message gives a reply
@@ -65,17 +54,17 @@ pub data Example : Type 0 where
   packs : ℕ → ℤ → List ℕ → Example
 
 abbrev pub holds : Example → Bool
-holds (gives message reply) = eqb (does message .fed .code) 1 && sameBytes (does message .bytes) reply
-holds (tunes message hz) = sameBytes (does message .bytes) message && eqb (settingsBy message .frequency) hz
+holds (gives message reply) = eqb (does message .fed .code) 1 && same (does message .bytes) reply
+holds (tunes message hz) = same (does message .bytes) message && eqb (settingsBy message .frequency) hz
 holds (hasWord hz clock word) = eqb (wordOf hz clock) word
 holds (asksFor message hz) = eqb (field 5 5 message) hz
-holds (unanswered message) = eqb (does message .fed .code) 2 && sameBytes (does message .bytes) []
-holds (getsCode message code) = eqb (does message .fed .code) code && sameBytes (does message .bytes) nak
-holds (gains message db) = sameBytes (does message .bytes) message && sameInteger (signed 8 (settingsBy message .gain)) db
+holds (unanswered message) = eqb (does message .fed .code) 2 && same (does message .bytes) []
+holds (getsCode message code) = eqb (does message .fed .code) code && same (does message .bytes) nak
+holds (gains message db) = same (does message .bytes) message && sameInteger (signed 8 (settingsBy message .gain)) db
 holds (givesRate hz d achieved) = mayAsk hz && eqb (nearestOf hz) d && eqb (rateOf d) achieved
 holds (hasNumber position number) = eqb (numberAt position) number
 holds (steps s t step) = eqb (stepOf s t) step
-holds (packs bits z packed) = sameBytes (sampleBytes bits z) packed
+holds (packs bits z packed) = same (sampleBytes bits z) packed
 
 abbrev pub starred : List Example
 starred =

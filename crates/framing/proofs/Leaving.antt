@@ -12,10 +12,12 @@ use borrow.Author.Tests.{eqb-true, eq-eqb, not-true}
 use lib.Dec.{eqb}
 use lib.ListN.{length, take, drop, replicate, length-set, length-append, length-take, length-replicate}
 use lib.Seq.{sets, sets-eq, drop-set-lt, length-take-le}
+use Rattle.wire.specs.Lists.{allBytes}
 use Rattle.wire.proofs.Laws.{and-left, and-right}
+use Rattle.wire.proofs.Lists.{bytes-append, bytes-take, bytes-zero}
 use Rattle.wire.proofs.Stores.{sets-append, sets-out}
 use Rattle.framing.specs.declared.Store.{Store}
-use Rattle.framing.specs.Framing.{announcedBy, announced, between, pushed, pushedAll, finished, unfinishedAll, allBytes, Left, zeros, couldBeLeft}
+use Rattle.framing.specs.Framing.{announcedBy, announced, between, pushed, pushedAll, finished, unfinishedAll, Left, zeros, couldBeLeft}
 use Rattle.framing.proofs.Headers.{headless, short-of, open-total, header-settled}
 use Rattle.framing.proofs.Runs.{after, pushed-all}
 
@@ -73,19 +75,6 @@ pub left-tested : (s : Store) → Left s → couldBeLeft s ≡ true
 left-tested s l = rw (← l .leaves) (all-left between (l .message) between-left (l .unfinished))
 
 -- ---- the test holds, so some bytes leave it: those held, and zeros for those past the 64th
-
-bytes-append : (a b : List ℕ) → allBytes a → allBytes b → allBytes (a ++ b)
-bytes-append [] b p q = q
-bytes-append (x ∷ a) b p q = (p .0, bytes-append a b (p .1) q)
-
-bytes-take : (n : ℕ) (l : List ℕ) → allBytes l → allBytes (take n l)
-bytes-take zero l p = tt
-bytes-take (suc n) [] p = tt
-bytes-take (suc n) (x ∷ l) p = (p .0, bytes-take n l (p .1))
-
-bytes-zero : (n : ℕ) → allBytes (replicate n 0)
-bytes-zero zero = tt
-bytes-zero (suc n) = (omega arith, bytes-zero n)
 
 -- a list of zeros is as many zeros
 zeros-replicate : (l : List ℕ) → zeros l ≡ true → replicate (length l) 0 ≡ l

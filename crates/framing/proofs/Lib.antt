@@ -1,7 +1,6 @@
 pub mod Totals
 pub mod Headers
 pub mod Runs
-pub mod Keeping
 pub mod Zeros
 pub mod Leaving
 pub mod Cutting

@@ -11,7 +11,8 @@ use lib.ListN.{length, drop, length-drop}
 use Rattle.wire.specs.Choice.{pick}
 use Rattle.framing.specs.declared.Store.{Store}
 use Rattle.framing.specs.Framing.{Taking, pushed, finished, couldBeLeft, taken}
-use Rattle.framing.specs.Stream.{Stream, answered, waiting, called, calling, handing, eating, eaten, joined, listed}
+use Rattle.framing.specs.Stream.{Stream, answered, waiting, called, calling, handing, eating, eaten, listed}
+use Rattle.wire.specs.Lists.{joined}
 use Rattle.framing.proofs.Cutting.{added, taking-none, taking-on, count-added, taken-left}
 use Rattle.framing.proofs.Leaving.{left-open, between-left, pushed-left}
 use Rattle.framing.proofs.Runs.{stops}

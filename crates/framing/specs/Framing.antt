@@ -1,11 +1,12 @@
 -- Feeding the box: which bytes make a message, and what is kept of one that is not finished.
-use Prim.Native.Nat.{ℕ, suc, _+_, _≤_, max}
+use Prim.Native.Nat.{ℕ, _+_, max}
 use mathlib.Core.Path.{_≡_}
 use mathlib.Core.Bool.{Bool, true, false, _&&_, not}
 use mathlib.Core.List.{List, [], _∷_, _++_}
 use lib.Dec.{leb, eqb}
 use lib.ListN.{length, set, take, drop, replicate}
 use Rattle.wire.specs.Choice.{pick}
+use Rattle.wire.specs.Lists.{allBytes}
 use Rattle.wire.specs.Number.{field}
 use Rattle.wire.specs.Header.{lengthIn, typeIn, typeData}
 use Rattle.framing.specs.declared.Store.{Store}
@@ -68,11 +69,6 @@ pushedAll s (b ∷ bs) = pushedAll (pushed s b) bs
 abbrev pub unfinishedAll : Store → List ℕ → Type 0
 unfinishedAll s [] = Unit {0}
 unfinishedAll s (b ∷ bs) = (finished (pushed s b) ≡ false) × unfinishedAll (pushed s b) bs
-
--- each is a byte
-abbrev pub allBytes : List ℕ → Type 0
-allBytes [] = Unit {0}
-allBytes (b ∷ bs) = (suc b ≤ 256) × allBytes bs
 
 -- "Its unfinished message must also be one that some bytes could have left."
 pub record Left (s : Store) : Type 0 where

@@ -45,11 +45,6 @@ module _ {X : Type 0} (answer : X → Store → X) where
   eaten r [] = r
   eaten r (b ∷ bs) = eaten (eating r b) bs
 
--- the bytes of the pieces
-abbrev pub joined : List (List ℕ) → List ℕ
-joined [] = []
-joined (p ∷ ps) = p ++ joined ps
-
 -- the finished messages themselves, in order: each is added to those before it
 abbrev pub listed : List Store → Store → List Store
 listed before s = before ++ s ∷ []

@@ -13,6 +13,8 @@ use Rattle.wire.specs.Choice.{pick, anyOf, firstRow}
 use Rattle.wire.specs.Number.{bytes, field}
 use Rattle.wire.specs.Header.{headerOf, lengthIn, typeData}
 use Rattle.wire.proofs.Laws.{and-left, and-right}
+use Rattle.wire.specs.Lists.{same}
+use Rattle.wire.proofs.Lists.{same-eq}
 use Rattle.packets.specs.declared.Form.{Form}
 use Rattle.packets.specs.Forms.{Row, forms, formOf, sameForm, totalOf, noForm, listed, formFor, formWithHeader, wholeOf, isPacket}
 
@@ -34,19 +36,13 @@ abbrev pub everyRow : (Row → Bool) → List Row → Bool
 everyRow t [] = true
 everyRow t (r ∷ rs) = t r && everyRow t rs
 
-abbrev sameBytes : List ℕ → List ℕ → Bool
-sameBytes [] [] = true
-sameBytes [] (b ∷ bs) = false
-sameBytes (x ∷ xs) [] = false
-sameBytes (x ∷ xs) (b ∷ bs) = eqb x b && sameBytes xs bs
-
 -- The row's total is that of its width and pair count.
 abbrev pub totalAgrees : Row → Bool
 totalAgrees r = eqb (r .total) (totalOf (formOf r))
 
 -- The row's header is that of a data item of its total, which fits 13 bits.
 abbrev pub headerAgrees : Row → Bool
-headerAgrees r = sameBytes (r .header) (bytes 2 (headerOf typeData (r .total))) && ltb (r .total) 8_192
+headerAgrees r = same (r .header) (bytes 2 (headerOf typeData (r .total))) && ltb (r .total) 8_192
 
 abbrev pub rowAgrees : Row → Bool
 rowAgrees r = totalAgrees r && headerAgrees r
@@ -61,21 +57,12 @@ pub record Agrees (r : Row) : Type 0 where
   pub number : field 0 2 (r .header) ≡ headerOf typeData (r .total)
   pub holds : lengthIn (field 0 2 (r .header)) ≡ r .total
 
-same-bytes : (xs ys : List ℕ) → sameBytes xs ys ≡ true → xs ≡ ys
-same-bytes [] [] h = refl
-same-bytes [] (y ∷ ys) h = cc
-same-bytes (x ∷ xs) [] h = cc
-same-bytes (x ∷ xs) (y ∷ ys) h =
-    let head : x ≡ y = eqb-true x y (and-left (eqb x y) (sameBytes xs ys) h) in
-    let tail : xs ≡ ys = same-bytes xs ys (and-right (eqb x y) (sameBytes xs ys) h) in
-    cc
-
 pub row-agrees : (r : Row) → rowAgrees r ≡ true → Agrees r
 row-agrees r h =
     let hs : headerAgrees r ≡ true = and-right (totalAgrees r) (headerAgrees r) h in
     let sent : List ℕ = bytes 2 (headerOf typeData (r .total)) in
-    let header : r .header ≡ bytes 2 (headerOf typeData (r .total)) = same-bytes _ _ (and-left (sameBytes (r .header) sent) (ltb (r .total) 8_192) hs) in
-    let short : r .total < 8_192 = ltb-true _ _ (and-right (sameBytes (r .header) sent) (ltb (r .total) 8_192) hs) in
+    let header : r .header ≡ bytes 2 (headerOf typeData (r .total)) = same-eq _ _ (and-left (same (r .header) sent) (ltb (r .total) 8_192) hs) in
+    let short : r .total < 8_192 = ltb-true _ _ (and-right (same (r .header) sent) (ltb (r .total) 8_192) hs) in
     let number : field 0 2 (r .header) ≡ headerOf typeData (r .total) = ap (field 0 2) header ∙ omega arith in
     record {
       total = eqb-true _ _ (and-left (totalAgrees r) (headerAgrees r) h);

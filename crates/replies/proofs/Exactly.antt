@@ -39,7 +39,7 @@ use Rattle.replies.specs.Awaited.{awaited, holdsSerial, idleShown, runSh
 use Rattle.replies.specs.Reading.{isReply, isNak, readCode, told, toldOf}
 use Rattle.replies.specs.Saying.{saysOf, saidBy}
 use Rattle.replies.specs.Exactly.{ReadAsSaid, Given, Exactly}
-use Rattle.replies.proofs.Same.{same-eq, eq-same}
+use Rattle.wire.proofs.Lists.{same-eq, eq-same}
 use Rattle.replies.proofs.Answers.{read-nak}
 use Rattle.replies.proofs.Recognised.{version-has, reply-read, reply-is-reply, is-reply-bytes, code-accepted, accepted-code}
 

@@ -1,4 +1,3 @@
-pub mod Same
 pub mod Tags
 pub mod Bytes
 pub mod Recognised

@@ -1,5 +1,5 @@
 -- A reply with a value that a valid box could give is read as that value.
-use Prim.Native.Nat.{ℕ, zero, suc, _+_, _^_, _≤_, _<_}
+use Prim.Native.Nat.{ℕ, zero, suc, _^_, _≤_, _<_}
 use mathlib.Core.Path.{_≡_, refl, sym, ap, subst, _∙_}
 use mathlib.Core.Bool.{Bool, true, false, _||_, not}
 use mathlib.Core.List.{List, [], _∷_, _++_}
@@ -28,9 +28,10 @@ use Rattle.wishes.specs.declared.Wish.the-variants.{AskName, AskSerial, AskInte
 use Rattle.wishes.specs.Wishes.{allowed}
 use Rattle.wishes.proofs.Allowed.{one-has, state-has, bands-high, gain-below, value-fits}
 use Rattle.replies.specs.Awaited.{awaited, idleShown, runShown, stateShown, nameBytes, replyLayout, replyBytes, numberIn}
-use Rattle.replies.specs.Reading.{same, isNak, isReply, readCode, told, toldOf}
+use Rattle.replies.specs.Reading.{isNak, isReply, readCode, told, toldOf}
+use Rattle.wire.specs.Lists.{same}
 use Rattle.replies.proofs.Answers.{read-reply}
-use Rattle.replies.proofs.Same.{same-eq, same-refl, ne-same}
+use Rattle.wire.proofs.Lists.{same-eq, same-refl, ne-same}
 
 -- what holds of each version's id
 pub version-has : (P : ℕ → Type 0) → P 0 → P 1 → P 2 → P 3 → (id : ℕ) → leb id 3 ≡ true → P id

@@ -21,8 +21,9 @@ use Rattle.wishes.specs.declared.Wish.{Wish}
 use Rattle.wishes.specs.declared.Wish.the-variants.{AskName, AskSerial, AskInterface, AskVersion, AskStatus, SetState, AskState, SetFrequency, AskFrequency, AskFrequencyRange, SetGain, AskGain, SetClock, AskClock, SetRate, AskRate, SetPacketSize, AskPacketSize}
 use Rattle.wishes.specs.Wishes.{asking, allowed}
 use Rattle.replies.specs.Awaited.{awaited, replyType, replyLayout, replyBytes, valueAt, numberIn}
-use Rattle.replies.specs.Reading.{same, isReply}
-use Rattle.replies.proofs.Same.{same-eq, eq-same}
+use Rattle.replies.specs.Reading.{isReply}
+use Rattle.wire.specs.Lists.{same}
+use Rattle.wire.proofs.Lists.{same-eq, eq-same}
 use Rattle.replies.proofs.Recognised.{could-fits, is-reply-bytes}
 
 -- a value that has eight bytes at most

@@ -1,12 +1,13 @@
 -- Reading a reply to a wish.
 use Prim.Native.Nat.{ℕ}
-use mathlib.Core.Bool.{Bool, true, false, _&&_, _||_, not}
+use mathlib.Core.Bool.{Bool, _&&_, _||_, not}
 use mathlib.Core.List.{List, [], _∷_, map}
 use lib.Dec.{eqb}
 use lib.IntN.{ℤ, pos}
 use Rattle.wire.specs.Choice.{pick, Check, check, firstOf}
 use Rattle.wire.specs.Codes as Code
 use Rattle.wire.specs.Header.{nak}
+use Rattle.wire.specs.Lists.{same}
 use Rattle.tuning.specs.Bands.{Band, bands}
 use Rattle.items.specs.Items.{name, serial, interface, versions, statusByte, status, state, frequency, gain, clock, rate, packetSize}
 use Rattle.wishes.specs.declared.Wish.{Wish}
@@ -14,13 +15,6 @@ use Rattle.wishes.specs.Wishes.{allowed}
 use Rattle.replies.specs.declared.Reply.{Reply}
 use Rattle.replies.specs.declared.Reply.the-variants.{Nak, Name, Serial, Interface, Version, Status, State, Frequency, FrequencyRange, Gain, Clock, Rate, PacketSize, NotAllowed, NotAReply}
 use Rattle.replies.specs.Awaited.{awaited, replyBytes, numberIn, nameBytes}
-
--- two lists of bytes are the same
-abbrev pub same : List ℕ → List ℕ → Bool
-same [] [] = true
-same [] (b ∷ bs) = false
-same (a ∷ l) [] = false
-same (a ∷ l) (b ∷ bs) = eqb a b && same l bs
 
 abbrev pub isNak : List ℕ → Bool
 isNak bs = same bs nak

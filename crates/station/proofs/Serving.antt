@@ -8,6 +8,7 @@ use mathlib.Core.Bool.{Bool, true, false}
 use mathlib.Core.List.{List, [], _∷_, _++_}
 use lib.ListN.{length, drop}
 use Rattle.wire.specs.Choice.{pick}
+use Rattle.wire.specs.Lists.{joined as joinedBytes}
 use Rattle.framing.specs.declared.Store.{Store}
 use Rattle.framing.specs.Framing.{taken, finished, couldBeLeft}
 use Rattle.framing.specs.Stream as stream
@@ -108,7 +109,7 @@ serving-view r (p ∷ ps) enough g =
     ap (λ (x : Served). serving x ps) (here .0)
     ∙ serving-view (stream.calling answer (length (p .host)) r (p .host)) ps (enough .1) (here .1)
 
-joined-hosts : (ps : List Piece) → stream.joined (hosts ps) ≡ joined ps
+joined-hosts : (ps : List Piece) → joinedBytes (hosts ps) ≡ joined ps
 joined-hosts [] = refl
 joined-hosts (p ∷ ps) = ap (λ (l : List ℕ). p .host ++ l) (joined-hosts ps)
 

@@ -1,6 +1,7 @@
 -- Laws of a table of codes: "Each code is given exactly on its condition, earlier ones absent."
 use Prim.Native.Nat.{ℕ, _<_}
 use mathlib.Core.Path.{_≡_, refl}
+use mathlib.Core.Logic.{_↔_}
 use mathlib.Core.Bool.{Bool, true, false, _&&_, not}
 use mathlib.Core.List.{List, [], _∷_, _++_}
 use borrow.Author.Tests.{eqb-false, ltb-true, not-true}
@@ -90,3 +91,28 @@ given-below k (c ∷ cs) n b less =
     pick-keeps (λ (m : ℕ). m < k) (c .holds) (c .code) (firstOf cs n)
     (λ e. ltb-true (c .code) k (and-left (ltb (c .code) k) (below k cs) b))
     (λ e. given-below k cs n (and-right (ltb (c .code) k) (below k cs) b) less)
+
+-- "Each code is given exactly on its condition, earlier ones absent": of a list whose codes differ, and a code other than the
+-- one that is given where none holds.
+pub given-exactly : (before : List Check) (c : Check) (after : List Check) (n : ℕ)
+    → differ (c .code) before ≡ true → differ (c .code) after ≡ true → (n ≡ c .code → ⊥)
+    → (firstOf (before ++ c ∷ after) n ≡ c .code) ↔ (Absent before × (c .holds ≡ true))
+given-exactly before c after n earlier later other = (into before earlier, from before)
+  where
+    here : (b : Bool) → c .holds ≡ b → pick b (c .code) (firstOf after n) ≡ c .code → c .holds ≡ true
+    here true q e = q
+    here false q e = absurd (not-given after n (c .code) later other e)
+
+    into : (ds : List Check) → differ (c .code) ds ≡ true → firstOf (ds ++ c ∷ after) n ≡ c .code → Absent ds × (c .holds ≡ true)
+    into [] d e = (tt, here (c .holds) refl e)
+    into (b ∷ ds) d e = go (b .holds) refl e (into ds (others-later (c .code) b ds d))
+      where
+        go : (h : Bool) → b .holds ≡ h → pick h (b .code) (firstOf (ds ++ c ∷ after) n) ≡ c .code
+            → (firstOf (ds ++ c ∷ after) n ≡ c .code → Absent ds × (c .holds ≡ true))
+            → Absent (b ∷ ds) × (c .holds ≡ true)
+        go true q e more = absurd (other-first (c .code) b ds d e)
+        go false q e more = let r = more e in ((q, r .0), r .1)
+
+    from : (ds : List Check) → Absent ds × (c .holds ≡ true) → firstOf (ds ++ c ∷ after) n ≡ c .code
+    from [] r = rw (r .1) refl
+    from (b ∷ ds) r = rw (r .0 .0) (from ds (r .0 .1, r .1))

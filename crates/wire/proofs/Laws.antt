@@ -18,6 +18,10 @@ true-not-false e =
     let z : _≡_ {A = ℕ} 0 1 = ap (λ (b : Bool). pick b 0 1) e in
     omega arith
 
+-- a test that both holds and fails proves anything
+pub never {ℓ} : {X : Type ℓ} → false ≡ true → X
+never e = absurd (true-not-false (sym e))
+
 pub test-true : (t : Bool) → T t → t ≡ true
 test-true true h = refl
 test-true false h = absurd h

@@ -7,3 +7,4 @@ pub mod Checks
 pub mod Halves
 pub mod Writes
 pub mod Firm
+pub mod Lists

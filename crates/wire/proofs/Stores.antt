@@ -1,11 +1,13 @@
 -- Laws of `sets`, the run of stores that the contracts speak of.
-use Prim.Native.Nat.{ℕ, suc, _+_, _-_, _≤_}
+use Prim.Native.Nat.{ℕ, suc, _+_, _-_, _≤_, _<_, min}
 use mathlib.Core.Path.{_≡_, refl, sym, ap, _∙_}
 use mathlib.Core.List.{List, [], _∷_, _++_, append-assoc, append-nil}
 use native.Mathlib.Nat.{add-zero, add-suc, le-refl}
+use native.Mathlib.Decide.{decLt}
+use native.Mathlib.Numerals.{add-one}
 use native.Mathlib.Omega.{arith}
-use lib.ListN.{length, set, take, drop, length-take, length-drop, take-append-drop, drop-of-length-le}
-use lib.Seq.{sets, sets-eq, set-out, take-set-le, drop-set-lt, drop-set-add, take-all, take-append-seam, drop-at, length-take-le}
+use lib.ListN.{length, getD, set, take, drop, length-take, length-drop, take-append-drop, drop-of-length-le}
+use lib.Seq.{sets, drop-cons, sets-eq, set-out, take-set-le, drop-set-lt, drop-set-add, take-all, take-append-seam, drop-at, length-take-le}
 use borrow.Rule.Slice.PartMut.{midOf, putMid}
 
 module _ {A : Type 0} where
@@ -68,3 +70,18 @@ rest-part i l = take-all (length l - i) (drop i l) (simp length-drop (le-refl _)
 
 pub rest-long : (i : ℕ) (l : List ℕ) → length (take (length l - i) (drop i l)) ≡ length l - i
 rest-long i l = simp (length-take, length-drop) (omega arith)
+
+-- ---- bytes copied one by one: those that are left to copy, stored from here on, give the whole
+
+pub copy-turn : (l w vs : List ℕ) (at i b : ℕ) → i < length vs → b ≡ getD vs i 0 → sets l (at + i) (drop i vs) ≡ w
+    → sets (set l (at + i) b) (at + (i + 1)) (drop (i + 1) vs) ≡ w
+copy-turn l w vs at i b more is so =
+    let next : at + (i + 1) ≡ suc (at + i) = omega arith in
+    rw (next, add-one, is) (rw (drop-cons vs i 0 more) at so)
+
+pub copy-end : (l w vs : List ℕ) (at i : ℕ) → min (length vs) (length l - at) ≤ i → sets l (at + i) (drop i vs) ≡ w → l ≡ w
+copy-end l w vs at i done so =
+    elim (decLt i (length vs)) [
+      | yes m ↦ sym (sets-out l (at + i) (drop i vs) (omega arith)) ∙ so
+      | no m ↦ let none : length vs ≤ i = omega arith in rw (drop-of-length-le vs none) at so
+    ]

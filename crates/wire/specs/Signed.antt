@@ -1,7 +1,7 @@
 -- Signed numbers in k bits, as two's complement.
 use Prim.Native.Nat.{ℕ, suc, _-_, _^_}
-use mathlib.Core.Bool.{Bool}
-use lib.Dec.{ltb}
+use mathlib.Core.Bool.{Bool, false}
+use lib.Dec.{eqb, ltb}
 use lib.IntN.{ℤ, pos, negsuc}
 use Rattle.wire.specs.Choice.{pick}
 
@@ -13,3 +13,10 @@ coded k (negsuc n) = 2 ^ k - suc n
 -- the number that k bits stand for: below the half it is itself, from the half on it lies 2 ^ k lower
 abbrev pub signed : ℕ → ℕ → ℤ
 signed k n = pick (ltb n (2 ^ (k - 1))) (pos n) (negsuc (2 ^ k - suc n))
+
+-- two signed numbers are the same
+abbrev pub sameInteger : ℤ → ℤ → Bool
+sameInteger (pos a) (pos b) = eqb a b
+sameInteger (pos a) (negsuc b) = false
+sameInteger (negsuc a) (pos b) = false
+sameInteger (negsuc a) (negsuc b) = eqb a b

@@ -7,7 +7,7 @@ use native.Mathlib.Omega.{arith}
 use borrow.Author.Needs.{needs}
 use lib.ListN.{length, take, drop, length-set}
 use lib.Seq.{sets, length-take-le, getD-take}
-use Rattle.framing.proofs.Keeping.{keep-turn, keep-end}
+use Rattle.wire.proofs.Stores.{copy-turn, copy-end}
 use Rattle.framing.proofs.keep.Statement.{statement}
 use Rattle.framing.proofs.keep.Tie as tie
 
@@ -52,14 +52,14 @@ loop-again c =
     let there : l .i < length (take (a .count) (a .host .now)) = omega (arith, length-take-le (a .count) (a .host .now) (omega arith)) in (
       omega arith,
       simp length-set (l .inv .1),
-      keep-turn (l .held) _ (take (a .count) (a .host .now)) (a .at) (l .i) _ there (sym (getD-take (a .count) (a .host .now) (l .i) 0 inside)) (l .inv .2),
+      copy-turn (l .held) _ (take (a .count) (a .host .now)) (a .at) (l .i) _ there (sym (getD-take (a .count) (a .host .now) (l .i) 0 inside)) (l .inv .2),
     )
 
 returns : tie.Need-returns Inv-loop μ-loop
 returns c =
     let a = c .before .before .before .before .before .args in
     let l = c .before .loop in
-    keep-end (l .held) _ (take (a .count) (a .host .now)) (a .at) (l .i) (omega (arith, length-take-le (a .count) (a .host .now) (omega arith))) (l .inv .2)
+    copy-end (l .held) _ (take (a .count) (a .host .now)) (a .at) (l .i) (omega (arith, length-take-le (a .count) (a .host .now) (omega arith))) (l .inv .2)
 
 pub keep-spec : {M : Type 1} → statement M
 keep-spec =

@@ -9,8 +9,8 @@ use borrow.Author.Needs.{needs}
 use Rattle.layouts.specs.declared.Layout.{Layout}
 use Rattle.layouts.proofs.Writing.{Put}
 use Rattle.replies.specs.Awaited.{replyLayout}
-use Rattle.replies.specs.Reading.{same}
-use Rattle.replies.proofs.Same.{same-test}
+use Rattle.wire.specs.Lists.{same}
+use Rattle.wire.proofs.Lists.{same-test}
 use Rattle.replies.proofs.Values.{written-few, written-reply}
 use Rattle.replies.proofs.gives.Statement.{statement}
 use Rattle.replies.proofs.gives.Tie as tie

@@ -1,7 +1,7 @@
 -- The same two bytes.
 use borrow.Author.Needs.{needs}
 use Rattle.wire.specs.Header.{nak}
-use Rattle.replies.proofs.Same.{same-test}
+use Rattle.wire.proofs.Lists.{same-test}
 use Rattle.replies.proofs.is_nak.Statement.{statement}
 use Rattle.replies.proofs.is_nak.Tie as tie
 

@@ -8,7 +8,8 @@ use borrow.Author.Needs.{needs}
 use borrow.Author.Tests.{not-true, not-false}
 use Rattle.wire.specs.Number.{field}
 use Rattle.replies.specs.Awaited.{awaited, replyBytes, valueAt, numberIn}
-use Rattle.replies.specs.Reading.{same, isReply, told}
+use Rattle.replies.specs.Reading.{isReply, told}
+use Rattle.wire.specs.Lists.{same}
 use Rattle.replies.proofs.Answers.{read-none, read-reply}
 use Rattle.replies.proofs.Values.{word-in, word-fits, not-given, given-could}
 use Rattle.replies.proofs.read_value.Statement.{statement}

@@ -5,7 +5,7 @@ use native.Mathlib.Nat.{add-zero}
 use native.Mathlib.Omega.{arith}
 use lib.ListN.{length, take, drop, length-set}
 use lib.Seq.{sets}
-use Rattle.framing.proofs.Keeping.{keep-turn, keep-end}
+use Rattle.wire.proofs.Stores.{copy-turn, copy-end}
 use Rattle.boxdoor.proofs.Parts.{length-part, part-at}
 use Rattle.boxdoor.proofs.states.paste.Statement.{statement}
 use Rattle.boxdoor.proofs.states.paste.Tie as tie
@@ -46,7 +46,7 @@ loop-again c =
     let there : l .i < length (take (a .n) (drop (a .from) (a .src .now))) = omega (arith, length-part (a .from) (a .n) (a .src .now) (omega arith)) in (
       omega arith,
       simp length-set (l .inv .1),
-      keep-turn (l .dst) _ (take (a .n) (drop (a .from) (a .src .now))) (a .to) (l .i) _ there (part-at (a .from) (a .n) (l .i) (a .src .now) inside) (l .inv .2),
+      copy-turn (l .dst) _ (take (a .n) (drop (a .from) (a .src .now))) (a .to) (l .i) _ there (part-at (a .from) (a .n) (l .i) (a .src .now) inside) (l .inv .2),
     )
 
 same-length : tie.Need-same-length Inv-loop μ-loop
@@ -56,7 +56,7 @@ returns : tie.Need-returns Inv-loop μ-loop
 returns c =
     let a = c .before .before .args in
     let l = c .before .loop in
-    keep-end (l .dst) _ (take (a .n) (drop (a .from) (a .src .now))) (a .to) (l .i) (omega (arith, length-part (a .from) (a .n) (a .src .now) (omega arith))) (l .inv .2)
+    copy-end (l .dst) _ (take (a .n) (drop (a .from) (a .src .now))) (a .to) (l .i) (omega (arith, length-part (a .from) (a .n) (a .src .now) (omega arith))) (l .inv .2)
 
 pub paste-spec : {M : Type 1} → statement M
 paste-spec =
