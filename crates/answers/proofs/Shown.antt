@@ -12,19 +12,19 @@ use Rattle.wire.specs.Header.{typeReply}
 use Rattle.wire.proofs.Numbers.{length-bytes}
 use Rattle.layouts.specs.Layouts.{laid}
 use Rattle.items.specs.declared.Settings.{Settings}
-use Rattle.items.specs.Items.{Item, noItem, rowOf}
+use Rattle.items.specs.Items.{echoes, Item, noItem, rowOf}
 use Rattle.items.specs.Answer.{framed, replyBody}
 use Rattle.answers.specs.Inside.{plainly, echoing}
 
-module _ (i : Item) (item width value : ℕ) (s : Settings) (echo : ℕ) (code : i .code ≡ item) (shown : i .value s (echo ∷ []) ≡ bytes width value) where
+module _ (i : Item) (item width value : ℕ) (s : Settings) (echo : ℕ) (code : i .code ≡ item) (shown : i .rule .value s (echo ∷ []) ≡ bytes width value) where
   -- without an echoed byte
-  pub shows-plainly : i .echoed ≡ 0 → laid (plainly item width value) ≡ framed typeReply (replyBody i s (echo ∷ []))
+  pub shows-plainly : echoes (i .echoed) ≡ 0 → laid (plainly item width value) ≡ framed typeReply (replyBody i s (echo ∷ []))
   shows-plainly none =
       let size : 4 + width ≡ 2 + suc (suc (length (bytes width value))) = omega (arith, length-bytes width value) in
       rw (none, shown, code, ← size) refl
 
   -- with one
-  pub shows-echoing : i .echoed ≡ 1 → laid (echoing item echo width value) ≡ framed typeReply (replyBody i s (echo ∷ []))
+  pub shows-echoing : echoes (i .echoed) ≡ 1 → laid (echoing item echo width value) ≡ framed typeReply (replyBody i s (echo ∷ []))
   shows-echoing one =
       let size : 5 + width ≡ 2 + suc (suc (suc (length (bytes width value)))) = omega (arith, length-bytes width value) in
       rw (one, shown, code, ← size) refl

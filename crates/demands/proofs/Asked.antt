@@ -1,7 +1,6 @@
 -- Demand 2: what the harvester asks is what the box understands, and what the box says is what the harvester reads.
 -- Assumes nothing.
 use Prim.Native.Nat.{ℕ, _-_, _≤_}
-use native.Mathlib.Nat.{le-trans}
 use native.Mathlib.Omega.{arith}
 use borrow.Author.Tests.{lt-leb, not-false}
 use mathlib.Core.Path.{_≡_, refl, sym, ap, _∙_}
@@ -13,9 +12,7 @@ use Rattle.wire.specs.Number.{bytes, field}
 use Rattle.wire.specs.Header.{headerOf, typeIn, lengthIn, typeData}
 use Rattle.wire.proofs.Checks.{absent}
 use Rattle.wire.proofs.Headers.{length-header, type-header, header-below}
-use Rattle.framing.specs.Framing.{Taking}
-use Rattle.framing.specs.Framing.{taken, finished, between, announced, headerIn, totalOf}
-use Rattle.framing.proofs.Cutting.{told}
+use Rattle.framing.specs.Framing.{taken, between, announced, headerIn, totalOf}
 use Rattle.framing.proofs.Leaving.{between-left}
 use Rattle.layouts.specs.declared.Layout.{Layout}
 use Rattle.layouts.specs.Layouts.{sizeOf, laid}
@@ -23,9 +20,8 @@ use Rattle.layouts.proofs.Sizes.{least, length-laid}
 use Rattle.items.specs.declared.Settings.{Settings}
 use Rattle.items.specs.Settings.{inRange}
 use Rattle.items.specs.Answer.{Message, codeOf, settingsAfter, replyOf}
-use Rattle.station.specs.Feeding.{Feeding, feedingOf, messageIn, answered}
-use Rattle.station.proofs.Short.{reply-short}
-use Rattle.station.proofs.Valid.{valid-both, feeding-answered}
+use Rattle.station.specs.Feeding.{Feeding, feedingOf, messageIn}
+use Rattle.station.proofs.Valid.{valid-both}
 use Rattle.wishes.specs.declared.Wish.{Wish}
 use Rattle.wishes.specs.Wishes.{asking, layoutOf, messageOf, asMessage, allowed}
 use Rattle.wishes.specs.Writing.{writeChecks, writeCode, bytesWritten}
@@ -35,7 +31,7 @@ use Rattle.replies.specs.Reading.{toldOf}
 use Rattle.replies.proofs.Exactly.{box-reply-is-read}
 use Rattle.demands.specs.Shown.{resting}
 use Rattle.demands.specs.Asked.{Understands, WhatIsAskedIsUnderstood}
-use Rattle.demands.proofs.OneMessage.{holding, tookAll, one-message}
+use Rattle.demands.proofs.OneMessage.{holding, tookAll, one-message, whole-fed}
 
 -- ---- a message has its true length in its header
 
@@ -97,10 +93,7 @@ understands w s room e v enough =
     fed : feedingOf (resting s) (messageOf w) room
         ≡ record { fed = record { code = codeOf s (asMessage w); consumed = length (messageOf w); wrote = length (replyOf s (asMessage w)); station = resting (settingsAfter s (asMessage w)) }; bytes = replyOf s (asMessage w) }
     fed =
-        let t : taken between (messageOf w) ≡ tookAll (messageOf w) = wish-taken w in
-        feeding-answered s between (messageOf w) room (valid-both s between v between-left) (told 0 between (messageOf w) ∙ ap (λ (k : Taking). k .finished) t)
-        (le-trans (reply-short s (messageIn (taken between (messageOf w) .store)) v) enough)
-        ∙ ap (answered s) t
+        whole-fed (messageOf w) s room (wish-taken w) (valid-both s between v between-left) enough
         ∙ ap (λ (m : Message). record { fed = record { code = codeOf s m; consumed = length (messageOf w); wrote = length (replyOf s m); station = resting (settingsAfter s m) }; bytes = replyOf s m }) (wish-held w)
 
 -- the writer accepts exactly what is allowed, and writes its message

@@ -8,17 +8,14 @@ use mathlib.Core.Path.{_≡_, refl, ap, _∙_}
 use mathlib.Core.Bool.{true}
 use mathlib.Core.List.{List, [], _∷_}
 use lib.ListN.{length, drop, drop-of-length-le}
-use Rattle.framing.specs.Framing.{Taking, between, taken}
-use Rattle.framing.proofs.Cutting.{told}
+use Rattle.framing.specs.Framing.{between, taken}
 use Rattle.items.specs.declared.Settings.{Settings}
 use Rattle.station.specs.Station.{valid}
-use Rattle.station.specs.Feeding.{messageIn, feedingOf}
+use Rattle.station.specs.Feeding.{Feeding, feedingOf}
 use Rattle.station.specs.Serving.{Served, unserved, called, calling, Piece, serving, joined, roomy}
 use Rattle.station.proofs.Serving.{cuts-do-not-matter}
-use Rattle.station.proofs.Short.{reply-short}
-use Rattle.station.proofs.Valid.{valid-settings, feeding-answered}
 use Rattle.demands.specs.Shown.{resting}
-use Rattle.demands.proofs.OneMessage.{tookAll}
+use Rattle.demands.proofs.OneMessage.{tookAll, whole-fed}
 
 -- a piece that has all of some bytes
 abbrev pub whole : List ℕ → Piece
@@ -42,10 +39,7 @@ called-once r (b ∷ bs) some all =
 module _ (s : Settings) (v : valid (resting s) ≡ true) where
   -- a whole message is consumed by the call that answers it
   message-consumed : (m : List ℕ) → taken between m ≡ tookAll m → feedingOf (resting s) m 64 .fed .consumed ≡ length m
-  message-consumed m took =
-      rw (feeding-answered s between m 64 v (told 0 between m ∙ ap (λ (t : Taking). t .finished) took)
-      (reply-short s (messageIn (taken between m .store)) (valid-settings s between v)))
-      (ap (λ (t : Taking). t .count) took)
+  message-consumed m took = ap (λ (f : Feeding). f .fed .consumed) (whole-fed m s 64 took v (le-refl 64))
 
   -- so that call is all of its piece's serving
   pub message-served : (m : List ℕ) (replies : List (List ℕ)) (rest : List Piece) → taken between m ≡ tookAll m → 1 ≤ length m

@@ -2,7 +2,7 @@
 -- message and then zeros.
 -- Assumes nothing.
 use Prim.Native.Nat.{ℕ, suc, _+_, _-_, _≤_, _<_}
-use native.Mathlib.Nat.{le-refl}
+use native.Mathlib.Nat.{le-refl, le-trans}
 use native.Mathlib.Decide.{decLe}
 use native.Mathlib.Omega.{arith}
 use borrow.Author.Tests.{le-leb, lt-leb}
@@ -13,10 +13,15 @@ use lib.ListN.{length, replicate, length-append}
 use lib.Seq.{set-at, take-append-le, append-snoc}
 use Rattle.wire.specs.Number.{number}
 use Rattle.wire.specs.Header.{lengthIn, typeIn}
-use Rattle.framing.proofs.Cutting.{taking-on}
+use Rattle.framing.proofs.Cutting.{told, taking-on}
 use Rattle.framing.specs.declared.Store.{Store}
-use Rattle.framing.specs.Framing.{Taking}
-use Rattle.framing.specs.Framing.{taking, taken, pushed, finished, announced, totalOf, between}
+use Rattle.framing.specs.Framing.{Taking, taking, taken, pushed, finished, announced, totalOf, between}
+use Rattle.items.specs.declared.Settings.{Settings}
+use Rattle.station.specs.Station.{valid}
+use Rattle.station.specs.Feeding.{messageIn, answered, feedingOf}
+use Rattle.station.proofs.Short.{reply-short}
+use Rattle.station.proofs.Valid.{valid-settings, feeding-answered}
+use Rattle.demands.specs.Shown.{resting}
 
 -- what is held of a message's first bytes
 abbrev pub holding : List ℕ → Store
@@ -81,3 +86,11 @@ taking-rest p (b ∷ q) e two most =
 -- One whole message, in one call.
 pub one-message : (m : List ℕ) → announced m ≡ length m → 2 ≤ length m → length m ≤ 64 → taken between m ≡ tookAll m
 one-message m e two most = taking-rest [] m e two most
+
+-- and a valid box answers it
+pub whole-fed : (m : List ℕ) (s : Settings) (room : ℕ) → taken between m ≡ tookAll m → valid (resting s) ≡ true → 64 ≤ room
+    → feedingOf (resting s) m room ≡ answered s (tookAll m)
+whole-fed m s room took v enough =
+    feeding-answered s between m room v (told 0 between m ∙ ap (λ (t : Taking). t .finished) took)
+    (le-trans (reply-short s (messageIn (taken between m .store)) (valid-settings s between v)) enough)
+    ∙ ap (answered s) took

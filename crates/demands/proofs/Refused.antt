@@ -18,6 +18,7 @@ use Rattle.packets.specs.Numbers.{numberIn}
 use Rattle.reader.specs.Reading.{positionAfter, readCode, readingOf, heardAt, unheard}
 use Rattle.station.specs.declared.Station.{Station}
 use Rattle.station.specs.Feeding.{messageIn, feedingOf}
+use Rattle.station.proofs.Kept.{refused-leaves}
 use Rattle.station.proofs.Valid.{each-way}
 use Rattle.cutting.specs.Cutting as cutting
 use Rattle.cutting.specs.Cutting.{cutCode, cutFrom, cuttingOf}
@@ -35,8 +36,7 @@ unfolding replyOf
 refused-reply s m r = rw (ne-eqb (codeOf s m) 1 (λ e. omega arith), ne-eqb (codeOf s m) 2 (λ e. omega arith)) refl
 
 refused-kept : (s : Settings) (m : Message) → 10 ≤ codeOf s m → settingsAfter s m ≡ s
-unfolding settingsAfter
-refused-kept s m r = rw (ne-eqb (codeOf s m) 1 (λ e. omega arith)) refl
+refused-kept s m r = refused-leaves s m (λ e. omega arith)
 
 -- ---- feeding
 

@@ -4,14 +4,14 @@
 use Prim.Native.Nat.{ℕ, _+_, _%_, _≤_, _<_}
 use native.Mathlib.Omega.{arith}
 use mathlib.Core.Path.{_≡_, refl, sym, ap, _∙_}
-use mathlib.Core.Bool.{Bool, true, false, _&&_, _||_, not}
+use mathlib.Core.Bool.{Bool, true, false, _&&_}
 use mathlib.Core.List.{List, [], _∷_}
 use lib.Dec.{eqb}
 use lib.ListN.{length, getD, take, drop, length-drop}
 use lib.Seq.{drop-cons, length-take-le}
-use borrow.Author.Tests.{eqb-true, not-false}
+use borrow.Author.Tests.{eqb-true, eq-eqb, not-false}
 use Rattle.wire.specs.Choice.{pick, within}
-use Rattle.wire.proofs.Laws.{true-not-false, and-not-right, pick-same, within-low, within-high}
+use Rattle.wire.proofs.Laws.{true-not-false, never, and-left, and-both, and-not-right, pick-same, within-low, within-high}
 use Rattle.wire.specs.Number.{bytes, field}
 use Rattle.wire.specs.Header.{typeSet, typeRequest, typeRange}
 use Rattle.wire.proofs.Numbers.{bytes-number}
@@ -20,16 +20,15 @@ use Rattle.wire.specs.Lists.{allBytes}
 use Rattle.wire.proofs.Lists.{bytes-take, bytes-drop, byte-at}
 use Rattle.items.specs.declared.Settings.{Settings}
 use Rattle.items.specs.Settings.{withRunning, withCount, withMode, isMode}
-use Rattle.items.specs.Items.{Offer, total, dash, Item, items, noItem, rowOf, runByte, modeByte, idle, run, frequency, gain, clock, rate, packetSize, state, status, listed}
+use Rattle.items.specs.Items.{stateBytes, Offer, total, dash, Item, items, noItem, rowOf, runByte, modeByte, idle, run, frequency, gain, clock, rate, packetSize, state, status, listed}
 use Rattle.items.specs.Table.{offerFor, offered, isDash, isTotal}
-use Rattle.items.specs.Answer.{Message, itemIn, row, parameters, valueAllowed, refusedRunning, itemCode, codeOf, settingsAfter, replyOf}
+use Rattle.items.specs.Answer.{Message, itemIn, row, parameters, itemCode, codeOf, settingsAfter, replyOf}
 use Rattle.items.proofs.Classes.{fitting, unnamed}
-use Rattle.items.proofs.Judging.{by-item}
-use Rattle.station.specs.Feeding.{answered}
+use Rattle.items.proofs.Judging.{by-item, is-listed, has-length, has-value, is-free}
+use Rattle.items.proofs.States.{state-ways}
 use Rattle.items.proofs.Rows.{Each, _then_, found-at, row-code}
-use Rattle.items.proofs.Judging.{passed}
-use Rattle.station.proofs.Kept.{left-alone}
-use Rattle.demands.specs.Shown.{shownBy, valueSet, Held, showing, touches, changes, afterAll, noneChanges}
+use Rattle.station.proofs.Kept.{left-alone, accepted-set}
+use Rattle.demands.specs.Shown.{OthersUnchanged, shownBy, valueSet, Held, showing, touches, changes, afterAll, noneChanges}
 
 -- ---- every other item is as it was
 
@@ -39,16 +38,16 @@ no-such x y e = absurd (true-not-false e)
 
 -- what an item shows is the same in both settings
 abbrev pub Same : Item → Settings → Settings → Type 0
-Same b s t = (q : List ℕ) → b .value t q ≡ b .value s q
+Same b s t = (q : List ℕ) → b .rule .value t q ≡ b .rule .value s q
 
 -- a set of the item `a`, whose code is `i`, leaves what every item shows that it does not touch
 abbrev Leaves : ℕ → Item → Type 0
-Leaves i a = (j : ℕ) → touches i j ≡ false → (s : Settings) (p : List ℕ) → Same (rowOf j) s (a .stored s p)
+Leaves i a = (j : ℕ) → touches i j ≡ false → (s : Settings) (p : List ℕ) → Same (rowOf j) s (a .rule .stored s p)
 
 -- so it does if it leaves each line of the table that it does not touch
 leaves-each : (i : ℕ) (a : Item)
-    → Each (λ j b. touches i j ≡ false → (s : Settings) (p : List ℕ) → Same b s (a .stored s p)) items → Leaves i a
-leaves-each i a = found-at (λ j b. touches i j ≡ false → (s : Settings) (p : List ℕ) → Same b s (a .stored s p)) (λ j t s p q. refl)
+    → Each (λ j b. touches i j ≡ false → (s : Settings) (p : List ℕ) → Same b s (a .rule .stored s p)) items → Leaves i a
+leaves-each i a = found-at (λ j b. touches i j ≡ false → (s : Settings) (p : List ℕ) → Same b s (a .rule .stored s p)) (λ j t s p q. refl)
 
 -- The state: an item that shows the same once the box is idle and once it runs, whatever the mode and the count.
 abbrev Steady : Item → Type 0
@@ -60,13 +59,9 @@ steady : (j : ℕ) → touches 0x0018 j ≡ false → Steady (rowOf j)
 steady = found-at (λ j b. touches 0x0018 j ≡ false → Steady b) (λ j t. ((λ s q. refl), (λ s mode q. refl))) (search no-such depth 30)
 
 state-leaves : Leaves 0x0018 state
-state-leaves j t s p = go (eqb (runByte p) idle) (s .running) (steady j t)
-  where
-    go : (i w : Bool) → Steady (rowOf j)
-        → Same (rowOf j) s (pick i (withRunning false s) (pick w s (withCount 0 (withMode (modeByte p) (withRunning true s)))))
-    go true w h = h .0 s
-    go false true h = λ q. refl
-    go false false h = h .1 s (modeByte p)
+state-leaves j t s p =
+    let h = steady j t in
+    state-ways (Same (rowOf j) s) (runByte p) (modeByte p) s (λ i. h .0 s) (λ i w q. refl) (λ i w. h .1 s (modeByte p))
 
 -- The table of pairs: what an item that is not touched shows of the settings stored computes to what it shows of those
 -- before. The first five items are never set.
@@ -85,10 +80,7 @@ leave =
     then (leaves-each 0x00C4 packetSize (search no-such depth 30))
     then tt
 
--- Other items are unchanged: a set of one item, whatever its parameters, leaves the value of every other, but for the status
--- where the state is set
-pub others-unchanged : (a b : ℕ) → touches a b ≡ false → (s : Settings) (p q : List ℕ)
-    → rowOf b .value (rowOf a .stored s p) q ≡ rowOf b .value s q
+pub others-unchanged : OthersUnchanged
 others-unchanged a b t s p q = found-at Leaves (λ i j t s p q. refl) leave a b t s p q
 
 -- ---- a request shows the value set
@@ -107,33 +99,34 @@ byte-shown at p room h =
 -- what an item shows after a set that was allowed
 abbrev Shows : ℕ → Item → Type 0
 Shows code i =
-    (size : ℕ) → isTotal (i .set) size ≡ true → (s : Settings) (p : List ℕ) → size ≤ 4 + length p → allBytes p → i .settable p ≡ true
-    → s .running && i .locked s p ≡ false → (q : List ℕ) → i .value (i .stored s p) q ≡ shownBy code s p
+    (size : ℕ) → isTotal (i .set) size ≡ true → (s : Settings) (p : List ℕ) → size ≤ 4 + length p → allBytes p → i .rule .settable p ≡ true
+    → s .running && i .rule .locked s p ≡ false → (q : List ℕ) → i .rule .value (i .rule .stored s p) q ≡ shownBy code s p
 
 -- a run that is accepted while running has the mode that the box has
 state-shows : Shows 0x0018 state
 unfolding shownBy
 state-shows size long s p room b may free q =
-    go (eqb (runByte p) idle) (s .running) (eqb (runByte p) run) (eqb (modeByte p) (s .mode)) refl refl may free
+    state-ways (λ (t : Settings). state .rule .value t q ≡ pick (eqb (runByte p) idle) (stateBytes idle (s .mode)) (stateBytes run (modeByte p)))
+    (runByte p) (modeByte p) s
+    (λ i. rw i)
+    (λ i w. rw (i, w, same-mode i w))
+    (λ i w. rw i)
   where
-    go : (i w r same : Bool) → s .running ≡ w → eqb (modeByte p) (s .mode) ≡ same
-        → i || (r && eqb (getD p 0 0) 0x80 && isMode (modeByte p)) ≡ true → w && (r && not same) ≡ false
-        → state .value (pick i (withRunning false s) (pick w s (withCount 0 (withMode (modeByte p) (withRunning true s))))) q
-        ≡ pick i (0x80 ∷ idle ∷ s .mode ∷ 0x00 ∷ []) (0x80 ∷ run ∷ modeByte p ∷ 0x00 ∷ [])
-    go true w r same running mode may free = refl
-    go false true true true running mode may free = rw (running, eqb-true (modeByte p) (s .mode) mode)
-    go false true true false running mode may free = no-such _ _ free
-    go false true false same running mode may free = no-such _ _ (sym may)
-    go false false r same running mode may free = refl
+    runs : eqb (runByte p) idle ≡ false → eqb (runByte p) run ≡ true
+    runs i =
+        and-left (eqb (runByte p) run) (eqb (getD p 0 0) 0x80) (and-left (eqb (runByte p) run && eqb (getD p 0 0) 0x80) (isMode (modeByte p)) (rw i at may))
+
+    same-mode : eqb (runByte p) idle ≡ false → s .running ≡ true → s .mode ≡ modeByte p
+    same-mode i w = sym (eqb-true (modeByte p) (s .mode) (not-false (eqb (modeByte p) (s .mode)) (rw (w, runs i) at free)))
 
 show : Each Shows items
 unfolding shownBy
 show =
-    (λ size long. absurd (true-not-false (sym long)))
-    then (λ size long. absurd (true-not-false (sym long)))
-    then (λ size long. absurd (true-not-false (sym long)))
-    then (λ size long. absurd (true-not-false (sym long)))
-    then (λ size long. absurd (true-not-false (sym long)))
+    (λ size long. never long)
+    then (λ size long. never long)
+    then (λ size long. never long)
+    then (λ size long. never long)
+    then (λ size long. never long)
     then state-shows
     then (λ size long s p room b may free q. field-shown 1 5 p (omega (arith, eqb-true size 10 long)) b)
     then (λ size long s p room b may free q. byte-shown 1 p (omega (arith, eqb-true size 6 long)) b)
@@ -142,26 +135,11 @@ show =
     then (λ size long s p room b may free q. byte-shown 0 p (omega (arith, eqb-true size 5 long)) b)
     then tt
 
--- ---- what an accepted message passed
-
-module _ (s : Settings) (m : Message) (h : codeOf s m ≡ 1) where
-  is-listed : listed (itemIn m) ≡ true
-  is-listed = not-false _ (passed s m h .1 .1 .1 .0)
-
-  has-length : isTotal (offered (row m) (m .type)) (m .size) ≡ true
-  has-length = not-false _ (passed s m h .1 .1 .1 .1 .1 .0)
-
-  has-value : valueAllowed (row m) (m .type) (parameters m) ≡ true
-  has-value = not-false _ (passed s m h .1 .1 .1 .1 .1 .1 .1 .0)
-
-  is-free : refusedRunning (row m) (m .type) s (parameters m) ≡ false
-  is-free = passed s m h .1 .1 .1 .1 .1 .1 .1 .1 .0
-
 -- ---- replies
 
 -- an accepted message that asks for no range is answered with the value that its item has then
 answers : (s : Settings) (m : Message) → codeOf s m ≡ 1 → eqb (m .type) typeRange ≡ false
-    → replyOf s m ≡ showing m (row m .value (settingsAfter s m) (parameters m))
+    → replyOf s m ≡ showing m (row m .rule .value (settingsAfter s m) (parameters m))
 unfolding replyOf
 answers s m h kind = rw (h, kind, row-code (itemIn m) (is-listed s m h))
 
@@ -176,9 +154,9 @@ unfolding codeOf
 asked-alike s t q kind = rw kind
 
 -- and its reply shows the value that its item has
-pub asked-shows : (s : Settings) (q : Message) → q .type ≡ typeRequest → codeOf s q ≡ 1 → replyOf s q ≡ showing q (row q .value s (parameters q))
+pub asked-shows : (s : Settings) (q : Message) → q .type ≡ typeRequest → codeOf s q ≡ 1 → replyOf s q ≡ showing q (row q .rule .value s (parameters q))
 asked-shows s q kind h =
-    answers s q h (rw kind refl) ∙ ap (λ (t : Settings). showing q (row q .value t (parameters q))) (asked-leaves s q kind)
+    answers s q h (rw kind refl) ∙ ap (λ (t : Settings). showing q (row q .rule .value t (parameters q))) (asked-leaves s q kind)
 
 -- ---- messages
 
@@ -188,7 +166,7 @@ unfolding settingsAfter
 message-leaves asked s m h q = go (eqb (codeOf s m) 1 && eqb (m .type) typeSet) h
   where
     go : (b : Bool) → b && touches (itemIn m) asked ≡ false
-        → rowOf asked .value (pick b (row m .stored s (parameters m)) s) q ≡ rowOf asked .value s q
+        → rowOf asked .rule .value (pick b (row m .rule .stored s (parameters m)) s) q ≡ rowOf asked .rule .value s q
     go true t = others-unchanged (itemIn m) asked t s (parameters m) q
     go false t = refl
 
@@ -197,16 +175,15 @@ messages-leave asked s [] h q = refl
 messages-leave asked s (m ∷ ms) h q = messages-leave asked (settingsAfter s m) ms (h .1) q ∙ message-leaves asked s m (h .0) q
 
 -- an accepted set stores
-stores : (s : Settings) (m : Message) → codeOf s m ≡ 1 → m .type ≡ typeSet → settingsAfter s m ≡ row m .stored s (parameters m)
-unfolding settingsAfter
-stores s m h kind = rw (h, kind)
+stores : (s : Settings) (m : Message) → codeOf s m ≡ 1 → m .type ≡ typeSet → settingsAfter s m ≡ row m .rule .stored s (parameters m)
+stores s m h kind = accepted-set s m (and-both (eqb (codeOf s m) 1) (eqb (m .type) typeSet) (eq-eqb _ _ h) (eq-eqb _ _ kind))
 
 -- after it, its item has the value set
 pub has-value-set : (s : Settings) (m : Message) → codeOf s m ≡ 1 → m .type ≡ typeSet → Held m
-    → (q : List ℕ) → row m .value (settingsAfter s m) q ≡ valueSet s m
+    → (q : List ℕ) → row m .rule .value (settingsAfter s m) q ≡ valueSet s m
 has-value-set s m h kind held q =
     rw (stores s m h kind)
-    (found-at Shows (λ code size long. absurd (true-not-false (sym long))) show (itemIn m) (m .size) (rw kind at (has-length s m h)) s
+    (found-at Shows (λ code size long. never long) show (itemIn m) (m .size) (rw kind at (has-length s m h)) s
     (parameters m) (rw length-drop (omega (arith, held .whole))) (bytes-drop 4 (m .held) (held .areBytes)) (rw kind at (has-value s m h))
     (rw kind at (is-free s m h)) q)
 
@@ -249,18 +226,12 @@ same-answer s ms q asked none = answered-alike s (afterAll s ms) q asked (messag
 -- The one exception: after an accepted set of the state, and any messages that do not change what the status shows, an
 -- accepted request of the status shows it, "0B idle, 0C running".
 status-value : (s : Settings) (m : Message) → codeOf s m ≡ 1 → m .type ≡ typeSet → itemIn m ≡ state .code
-    → (q : List ℕ) → rowOf (status .code) .value (settingsAfter s m) q ≡ pick (eqb (runByte (parameters m)) idle) 0x0B 0x0C ∷ []
+    → (q : List ℕ) → rowOf (status .code) .rule .value (settingsAfter s m) q ≡ pick (eqb (runByte (parameters m)) idle) 0x0B 0x0C ∷ []
 unfolding rowOf
 status-value s m h kind item q =
-    rw (stores s m h kind ∙ ap (λ (code : ℕ). rowOf code .stored s (parameters m)) item)
-    (go (eqb (runByte (parameters m)) idle) (s .running) refl)
-  where
-    go : (i w : Bool) → s .running ≡ w
-        → status .value (pick i (withRunning false s) (pick w s (withCount 0 (withMode (modeByte (parameters m)) (withRunning true s))))) q
-        ≡ pick i 0x0B 0x0C ∷ []
-    go true w running = refl
-    go false true running = rw running
-    go false false running = refl
+    rw (stores s m h kind ∙ ap (λ (code : ℕ). rowOf code .rule .stored s (parameters m)) item)
+    (state-ways (λ (t : Settings). status .rule .value t q ≡ pick (eqb (runByte (parameters m)) idle) 0x0B 0x0C ∷ [])
+    (runByte (parameters m)) (modeByte (parameters m)) s (λ i. rw i) (λ i w. rw (i, w)) (λ i w. rw i))
 
 pub status-shows : (s : Settings) (m : Message) (ms : List Message) (q : Message)
     → codeOf s m ≡ 1 → m .type ≡ typeSet → itemIn m ≡ state .code
@@ -282,7 +253,7 @@ fits dash = true
 -- what is offered has a length of the table
 total-fits : (o : Offer) (size : ℕ) → fits o ≡ true → isTotal o size ≡ true → (4 ≤ size) × (size ≤ 64) × (isDash o ≡ false)
 total-fits (total n) size f t = rw (eqb-true size n t) (within-low 4 64 n f, within-high 4 64 n f, refl)
-total-fits dash size f t = absurd (true-not-false (sym t))
+total-fits dash size f t = never t
 
 -- and is a set, a request or a range request
 offer-kind : (a b c : Offer) (kind size : ℕ) → isTotal (offerFor a b c kind) size ≡ true → kind ≤ 2
@@ -293,7 +264,7 @@ offer-kind a b c kind size = go (eqb kind typeSet) (eqb kind typeRequest) (eqb k
     go true r g p q u t = omega (arith, eqb-true kind typeSet p)
     go false true g p q u t = omega (arith, eqb-true kind typeRequest q)
     go false false true p q u t = omega (arith, eqb-true kind typeRange u)
-    go false false false p q u t = absurd (true-not-false (sym t))
+    go false false false p q u t = never t
 
 offer-fits : (a b c : Offer) (kind : ℕ) → fits a ≡ true → fits b ≡ true → fits c ≡ true → fits (offerFor a b c kind) ≡ true
 offer-fits a b c kind p q u = go (eqb kind typeSet) (eqb kind typeRequest) (eqb kind typeRange)

@@ -2,7 +2,6 @@
 -- answered as in Shown.antt, and feeding and cutting in between leave what the item shows.
 -- Assumes nothing.
 use Prim.Native.Nat.{ℕ, _+_, _-_, _≤_, _<_, max}
-use native.Mathlib.Nat.{le-trans}
 use native.Mathlib.Omega.{arith}
 use mathlib.Core.Path.{_≡_, refl, sym, ap, _∙_}
 use mathlib.Core.Bool.{Bool, true, false, _&&_}
@@ -13,11 +12,9 @@ use lib.ListN.{length, getD, replicate, length-append, length-replicate}
 use lib.Seq.{take-append-le}
 use Rattle.wire.specs.Choice.{pick}
 use Rattle.wire.specs.Number.{number}
-use Rattle.wire.specs.Header.{lengthIn, typeIn, typeSet, typeRequest, typeData}
-use Rattle.framing.specs.Framing.{Taking}
-use Rattle.framing.specs.Framing.{totalOf, headerIn, between, finished, taking, taken, couldBeLeft}
+use Rattle.wire.specs.Header.{lengthIn, typeIn, typeData}
+use Rattle.framing.specs.Framing.{totalOf, headerIn, between, taking, taken, couldBeLeft}
 use Rattle.wire.proofs.Lists.{bytes-append, bytes-zero}
-use Rattle.framing.proofs.Cutting.{told}
 use Rattle.items.proofs.Rows.{found-at}
 use Rattle.items.specs.declared.Settings.{Settings}
 use Rattle.items.specs.Settings.{inRange, freshOf, withCount}
@@ -26,13 +23,12 @@ use Rattle.items.specs.Answer.{Message, itemIn, row, parameters, codeOf, settin
 use Rattle.station.specs.declared.Station.{Station}
 use Rattle.station.specs.Station.{valid}
 use Rattle.station.specs.Feeding.{messageIn, Feeding, feedingOf}
-use Rattle.station.proofs.Short.{reply-short}
-use Rattle.station.proofs.Valid.{valid-settings, feeding-answered, each-way}
+use Rattle.station.proofs.Valid.{each-way}
 use Rattle.cutting.specs.Cutting.{cutCode, cutFrom, cuttingOf}
 use Rattle.demands.proofs.Reached.{cutting-keeps}
-use Rattle.demands.proofs.OneMessage.{tookAll, one-message}
+use Rattle.demands.proofs.OneMessage.{tookAll, one-message, whole-fed}
 use Rattle.station.proofs.Calls.{feeding-keeps}
-use Rattle.demands.specs.Shown.{shownBy, valueSet, Held, showing, OneMessage, messageOf, resting, repliesWith, ShowsSets, finishedBy, naksAll, echoesOnly, Undisturbed, still, fed, cut}
+use Rattle.demands.specs.Shown.{shownBy, valueSet, Held, showing, OneMessage, messageOf, resting, repliesWith, ShowsSets, finishedBy, naksAll, echoesOnly, Undisturbed, still, fed, cut, FedSetShowsLater, FedSameAnswer}
 use Rattle.demands.proofs.Shown.{Same, message-leaves, asked-alike, asked-shows, answered-alike, has-value-set, set-replies}
 
 -- ---- one whole message, fed in one call to a box between messages
@@ -60,10 +56,9 @@ module _ (m : List ℕ) (one : OneMessage m) where
   pub took : taken between m ≡ tookAll m
   took = one-message m (one .announces) (one .least) (one .most)
 
-  is-message : messageIn (taken between m .store) ≡ messageOf m
+  is-message : messageIn (tookAll m .store) ≡ messageOf m
   is-message =
-      ap (λ (t : Taking). messageIn (t .store)) took
-      ∙ ap (λ (bs : List ℕ). record { type = typeIn (number bs); size = lengthIn (number bs); held = m ++ replicate (64 - length m) 0 })
+      ap (λ (bs : List ℕ). record { type = typeIn (number bs); size = lengthIn (number bs); held = m ++ replicate (64 - length m) 0 })
       (take-append-le 2 m (replicate (64 - length m) 0) (one .least))
 
   -- a valid box answers it
@@ -72,8 +67,7 @@ module _ (m : List ℕ) (one : OneMessage m) where
       × (feedingOf (resting s) m room .fed .station ≡ resting (settingsAfter s (messageOf m)))
       × (feedingOf (resting s) m room .bytes ≡ replyOf s (messageOf m))
   message-fed s room v enough =
-      rw (feeding-answered s between m room v (told 0 between m ∙ ap (λ (t : Taking). t .finished) took)
-      (le-trans (reply-short s (messageIn (taken between m .store)) (valid-settings s between v)) enough))
+      rw (whole-fed m s room took v enough)
       (ap (codeOf s) is-message, ap (λ (x : Message). resting (settingsAfter s x)) is-message, ap (replyOf s) is-message)
 
 -- ---- the calls in between
@@ -112,39 +106,32 @@ kept asked s t (still u) = record { same = λ q. refl; stays = λ v. v }
 kept asked s t (fed b u host room rest calm) =
     let k = kept asked b u rest in
     record {
-      same = λ q. feeding-by (λ x. rowOf asked .value x q ≡ rowOf asked .value (u .settings) q) u host room refl
+      same = λ q. feeding-by (λ x. rowOf asked .rule .value x q ≡ rowOf asked .rule .value (u .settings) q) u host room refl
           (λ code. message-leaves asked (u .settings) (finishedBy u host) (rw code at calm) q) ∙ k .same q;
       stays = λ v. feeding-keeps u host room (k .stays v);
     }
 kept asked s t (cut b u samples room rest) =
     let k = kept asked b u rest in
     record {
-      same = λ q. cutting-by (λ x. rowOf asked .value x q ≡ rowOf asked .value (u .settings) q) u samples room refl
+      same = λ q. cutting-by (λ x. rowOf asked .rule .value x q ≡ rowOf asked .rule .value (u .settings) q) u samples room refl
           (count-leaves asked (u .settings) (u .settings .count + 1) q) ∙ k .same q;
       stays = λ v. cutting-keeps u samples room (k .stays v);
     }
 
--- Demand 2, of the box: a whole set that is accepted is fed in one call; then any calls of feeding and cutting, none of
--- which changes what its item shows; then, between messages, a whole request of it. The reply shows the value set.
-pub fed-set-shows-later : (s : Settings) (m : List ℕ) (room : ℕ) (t : Settings) (q : List ℕ) (later : ℕ)
-    → valid (resting s) ≡ true → 64 ≤ room → 64 ≤ later
-    → OneMessage m → messageOf m .type ≡ typeSet → codeOf s (messageOf m) ≡ 1
-    → Undisturbed (itemIn (messageOf m)) (feedingOf (resting s) m room .fed .station) (resting t)
-    → OneMessage q → messageOf q .type ≡ typeRequest → itemIn (messageOf q) ≡ itemIn (messageOf m) → codeOf s (messageOf q) ≡ 1
-    → repliesWith (feedingOf (resting t) q later) (showing (messageOf q) (valueSet s (messageOf m)))
+pub fed-set-shows-later : FedSetShowsLater
 fed-set-shows-later s m room t q later v enough more one kind h calm two asked same answered =
     let f = message-fed m one s room v enough in
     let k = kept (itemIn (messageOf m)) (feedingOf (resting s) m room .fed .station) (resting t) calm in
     let g = message-fed q two t later (k .stays (feeding-keeps (resting s) m room v)) more in
     let now : codeOf t (messageOf q) ≡ 1 = asked-alike s t (messageOf q) asked ∙ answered in
-    let value : row (messageOf m) .value t (parameters (messageOf q)) ≡ valueSet s (messageOf m) =
+    let value : row (messageOf m) .rule .value t (parameters (messageOf q)) ≡ valueSet s (messageOf m) =
     k .same (parameters (messageOf q))
-    ∙ ap (λ (b : Station). row (messageOf m) .value (b .settings) (parameters (messageOf q))) (f .1)
+    ∙ ap (λ (b : Station). row (messageOf m) .rule .value (b .settings) (parameters (messageOf q))) (f .1)
     ∙ has-value-set s (messageOf m) h kind (held-whole m one) (parameters (messageOf q)) in (
       g .0 ∙ now,
       g .2
           ∙ asked-shows t (messageOf q) asked now
-          ∙ ap (showing (messageOf q)) (ap (λ (code : ℕ). rowOf code .value t (parameters (messageOf q))) same ∙ value),
+          ∙ ap (showing (messageOf q)) (ap (λ (code : ℕ). rowOf code .rule .value t (parameters (messageOf q))) same ∙ value),
     )
 
 -- The same at once: the whole set in one call, and the whole request in the next.
@@ -157,11 +144,7 @@ fed-set-shows s m room q later v enough more one kind h two asked same answered 
           (rw (f .1) (still (resting (settingsAfter s (messageOf m))))) two asked same answered),
     )
 
--- And other items are unchanged: after any calls, none of which changes what it shows, a whole request is answered as before.
-pub fed-same-answer : (s t : Settings) (q : List ℕ) (room later : ℕ)
-    → valid (resting s) ≡ true → 64 ≤ room → 64 ≤ later
-    → OneMessage q → messageOf q .type ≡ typeRequest → Undisturbed (itemIn (messageOf q)) (resting s) (resting t)
-    → feedingOf (resting t) q later .bytes ≡ feedingOf (resting s) q room .bytes
+pub fed-same-answer : FedSameAnswer
 fed-same-answer s t q room later v enough more one asked calm =
     let k = kept (itemIn (messageOf q)) (resting s) (resting t) calm in
     message-fed q one t later (k .stays v) more .2

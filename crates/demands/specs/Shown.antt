@@ -15,7 +15,7 @@ use Rattle.framing.specs.Framing.{between, taken, headerIn, announced}
 use Rattle.wire.specs.Lists.{allBytes}
 use Rattle.rates.specs.Rate.{nearestOf, rateOf}
 use Rattle.items.specs.declared.Settings.{Settings}
-use Rattle.items.specs.Items.{status, state, idle, run, runByte, modeByte, stateBytes}
+use Rattle.items.specs.Items.{echoes, status, state, idle, run, runByte, modeByte, stateBytes, frequency, gain, clock, rate, packetSize, rowOf}
 use Rattle.items.specs.Answer.{Message, itemIn, row, parameters, codeOf, settingsAfter, framed}
 use Rattle.station.specs.declared.Station.{Station}
 use Rattle.station.specs.Station.{valid}
@@ -46,12 +46,12 @@ stateShown s p =
 
 abbrev pub lines : List Line
 lines =
-    line 0x0018 stateShown
-    ∷ line 0x0020 (sent 1 5)
-    ∷ line 0x0038 (sent 1 1)
-    ∷ line 0x00B0 (sent 1 4)
-    ∷ line 0x00B8 achieved
-    ∷ line 0x00C4 (sent 0 1)
+    line (state .code) stateShown
+    ∷ line (frequency .code) (sent 1 5)
+    ∷ line (gain .code) (sent 1 1)
+    ∷ line (clock .code) (sent 1 4)
+    ∷ line (rate .code) achieved
+    ∷ line (packetSize .code) (sent 0 1)
     ∷ []
 
 -- what a request of an item shows after an accepted set of it with these parameters
@@ -69,7 +69,7 @@ pub record Held (m : Message) : Type 0 where
 
 -- the reply to a set or a request, with this value: "the channel byte or id is echoed"
 abbrev pub showing : Message → List ℕ → List ℕ
-showing q value = framed typeReply (bytes 2 (itemIn q) ++ take (row q .echoed) (parameters q) ++ value)
+showing q value = framed typeReply (bytes 2 (itemIn q) ++ take (echoes (row q .echoed)) (parameters q) ++ value)
 
 -- A set of the first item can change what a request of the second shows: if it is the same item, and if it is the state,
 -- which the status shows too ("0B idle, 0C running").
@@ -79,6 +79,13 @@ touches set asked = eqb set asked || (eqb set (state .code) && eqb asked (status
 -- the message is an accepted set, and of an item that can change what `asked` shows
 abbrev pub changes : ℕ → Settings → Message → Bool
 changes asked s m = eqb (codeOf s m) Code.done && eqb (m .type) typeSet && touches (itemIn m) asked
+
+-- Other items are unchanged: a set of one item, whatever its parameters, leaves the value of every other, but for the status
+-- where the state is set.
+abbrev pub OthersUnchanged : Type 0
+OthersUnchanged =
+    (a b : ℕ) → touches a b ≡ false → (s : Settings) (p q : List ℕ)
+    → rowOf b .rule .value (rowOf a .rule .stored s p) q ≡ rowOf b .rule .value s q
 
 -- the settings after one message after the other
 abbrev pub afterAll : Settings → List Message → Settings
@@ -157,3 +164,22 @@ pub data Undisturbed (asked : ℕ) : Station → Station → Type 0 where
   fed : (s t : Station) (host : List ℕ) (room : ℕ) → Undisturbed asked s t → disturbs asked t host room ≡ false
       → Undisturbed asked s (feedingOf t host room .fed .station)
   cut : (s t : Station) (samples : List ℤ) (room : ℕ) → Undisturbed asked s t → Undisturbed asked s (cuttingOf t samples room .cut .station)
+
+-- Demand 2, of the box: a whole set that is accepted is fed in one call; then any calls of feeding and cutting, none of
+-- which changes what its item shows; then, between messages, a whole request of it. The reply shows the value set.
+abbrev pub FedSetShowsLater : Type 0
+FedSetShowsLater =
+    (s : Settings) (m : List ℕ) (room : ℕ) (t : Settings) (q : List ℕ) (later : ℕ)
+    → valid (resting s) ≡ true → 64 ≤ room → 64 ≤ later
+    → OneMessage m → messageOf m .type ≡ typeSet → codeOf s (messageOf m) ≡ Code.done
+    → Undisturbed (itemIn (messageOf m)) (feedingOf (resting s) m room .fed .station) (resting t)
+    → OneMessage q → messageOf q .type ≡ typeRequest → itemIn (messageOf q) ≡ itemIn (messageOf m) → codeOf s (messageOf q) ≡ Code.done
+    → repliesWith (feedingOf (resting t) q later) (showing (messageOf q) (valueSet s (messageOf m)))
+
+-- And other items are unchanged: after any calls, none of which changes what it shows, a whole request is answered as before.
+abbrev pub FedSameAnswer : Type 0
+FedSameAnswer =
+    (s t : Settings) (q : List ℕ) (room later : ℕ)
+    → valid (resting s) ≡ true → 64 ≤ room → 64 ≤ later
+    → OneMessage q → messageOf q .type ≡ typeRequest → Undisturbed (itemIn (messageOf q)) (resting s) (resting t)
+    → feedingOf (resting t) q later .bytes ≡ feedingOf (resting s) q room .bytes

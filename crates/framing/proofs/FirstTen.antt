@@ -14,7 +14,8 @@ use lib.ListN.{List·getD-eq-default as getD-past}
 use lib.Seq.{sets, getD-take, getD-drop, getD-set-same, take-all, take-append-le, ext-getD}
 use Rattle.wire.proofs.Laws.{and-left, and-right}
 use Rattle.wire.proofs.Stores.{take-sets}
-use Rattle.framing.specs.Framing.{zeros, firstTen}
+use Rattle.framing.specs.Framing.{zeros}
+use Rattle.framing.specs.Telling.{firstTen}
 
 -- one after the other
 pub ten-bytes : (l : List ℕ)

@@ -13,7 +13,8 @@ use lib.ListN.{length, take}
 use lib.Seq.{sets, length-sets, length-take-le}
 use Rattle.framing.specs.declared.Store.{Store}
 use Rattle.framing.specs.declared.Took.{Took}
-use Rattle.framing.specs.Framing.{taken, firstTen, tookOf, heldAfter}
+use Rattle.framing.specs.Framing.{taken}
+use Rattle.framing.specs.Telling.{firstTen, tookOf, heldAfter}
 use Rattle.framing.specs.Inside.{totalAhead}
 use Rattle.framing.proofs.Runs.{takenRun, taken-ahead}
 use Rattle.framing.proofs.FirstTen.{whole-opening, take-most}

@@ -2,15 +2,14 @@
 use Prim.Native.Nat.{ℕ, _+_, max}
 use mathlib.Core.Path.{_≡_}
 use mathlib.Core.Bool.{Bool, true, false, _&&_, not}
-use mathlib.Core.List.{List, [], _∷_, _++_}
+use mathlib.Core.List.{List, [], _∷_}
 use lib.Dec.{leb, eqb}
-use lib.ListN.{length, set, take, drop, replicate}
+use lib.ListN.{length, set, drop, replicate}
 use Rattle.wire.specs.Choice.{pick}
 use Rattle.wire.specs.Lists.{allBytes}
 use Rattle.wire.specs.Number.{field}
 use Rattle.wire.specs.Header.{lengthIn, typeIn, typeData}
 use Rattle.framing.specs.declared.Store.{Store}
-use Rattle.framing.specs.declared.Took.{Took}
 
 -- How many bytes a message has in all: its length; "lengths 0 and 1 finish after the two header bytes, except length 0 in
 -- types 4 to 7"; "a data item of length 0 means 8,194 bytes in all".
@@ -85,23 +84,3 @@ zeros (b ∷ bs) = eqb b 0 && zeros bs
 -- The same as a test: there are 64 places, those not taken are zero, and the message is not finished.
 unfoldable pub couldBeLeft : Store → Bool
 couldBeLeft s = eqb (length (s .held)) 64 && zeros (drop (s .taken) (s .held)) && not (finished s)
-
--- ---- what a call tells of it
-
--- The first ten of some bytes, zero past their end.
-unfoldable pub firstTen : List ℕ → List ℕ
-firstTen bytes = take 10 (bytes ++ replicate 10 0)
-
--- What a call says of it: the message's first ten bytes for the store.
-abbrev pub tookOf : Taking → Took
-tookOf t =
-    record {
-      opening = firstTen (take (t .store .taken) (t .store .held));
-      count = t .count;
-      taken = t .store .taken;
-      finished = t .finished;
-    }
-
--- What is held after a call: nothing more of a message that came whole.
-abbrev pub heldAfter : Store → List ℕ → List ℕ
-heldAfter s host = pick (eqb (s .taken) 0 && taken s host .finished) (s .held) (taken s host .store .held)

@@ -1,3 +1,4 @@
 pub mod Framing
+pub mod Telling
 pub mod Stream
 pub mod Inside

@@ -4,7 +4,8 @@ ghost use mathlib.Core.Path.{_≡_};
 ghost use Prim.Native.Nat.{_+_, _*_, _-_, _≤_, min};
 ghost use lib.ListN.{length, take, drop, getD};
 ghost use lib.Seq.{sets};
-ghost use Rattle.framing.specs.Framing.{between, totalOf, announcedBy, finished, zeros, couldBeLeft, taken, firstTen, tookOf, heldAfter};
+ghost use Rattle.framing.specs.Framing.{between, totalOf, announcedBy, finished, zeros, couldBeLeft, taken};
+ghost use Rattle.framing.specs.Telling.{firstTen, tookOf, heldAfter};
 ghost use Rattle.framing.specs.Inside.{totalAhead};
 
 // What the box keeps of an unfinished message: its first 64 bytes and how many were taken. Unused places are zero, and

@@ -1,6 +1,7 @@
 -- How the codes of a message's header, of the table and of the item make the message's code.
 use Prim.Native.Nat.{ℕ}
 use mathlib.Core.Path.{_≡_, refl, _∙_}
+use mathlib.Core.Bool.{true, false}
 use mathlib.Core.List.{List, _++_}
 use lib.ListN.{getD}
 use borrow.Author.Tests.{ne-eqb, not-false}
@@ -9,8 +10,8 @@ use Rattle.wire.proofs.Checks.{Absent, absent, first-stops, first-goes-on}
 use Rattle.items.specs.declared.Settings.{Settings}
 use Rattle.items.specs.Items.{listed}
 use Rattle.items.specs.Header.{headerChecks}
-use Rattle.items.specs.Table.{tableChecks}
-use Rattle.items.specs.Answer.{Message, itemIn, row, parameters, itemChecks, itemCode, checks, codeOf, settingsAfter, judgedOf}
+use Rattle.items.specs.Table.{offered, isTotal, tableChecks}
+use Rattle.items.specs.Answer.{Message, itemIn, row, parameters, valueAllowed, refusedRunning, itemChecks, itemCode, checks, codeOf, settingsAfter, judgedOf}
 use Rattle.items.proofs.Rows.{row-code}
 
 -- an accepted message passed every check
@@ -18,9 +19,23 @@ pub passed : (s : Settings) (m : Message) → codeOf s m ≡ 1 → Absent (check
 unfolding codeOf
 passed s m h = absent (checks s m) 1 refl h
 
--- so its item is listed, and its row has its code
-pub accepted-row : (s : Settings) (m : Message) → codeOf s m ≡ 1 → row m .code ≡ itemIn m
-accepted-row s m h = row-code (itemIn m) (not-false (listed (itemIn m)) (passed s m h .1 .1 .1 .0))
+-- one by one
+module _ (s : Settings) (m : Message) (h : codeOf s m ≡ 1) where
+  pub is-listed : listed (itemIn m) ≡ true
+  is-listed = not-false _ (passed s m h .1 .1 .1 .0)
+
+  pub has-length : isTotal (offered (row m) (m .type)) (m .size) ≡ true
+  has-length = not-false _ (passed s m h .1 .1 .1 .1 .1 .0)
+
+  pub has-value : valueAllowed (row m) (m .type) (parameters m) ≡ true
+  has-value = not-false _ (passed s m h .1 .1 .1 .1 .1 .1 .1 .0)
+
+  pub is-free : refusedRunning (row m) (m .type) s (parameters m) ≡ false
+  is-free = passed s m h .1 .1 .1 .1 .1 .1 .1 .1 .0
+
+  -- its row has its code
+  pub accepted-row : row m .code ≡ itemIn m
+  accepted-row = row-code (itemIn m) is-listed
 
 module _ (s : Settings) (m : Message) where
   abbrev Header : List Check

@@ -5,3 +5,4 @@ pub mod Rows
 pub mod Serials
 pub mod Judging
 pub mod TenBytes
+pub mod States

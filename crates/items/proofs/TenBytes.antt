@@ -11,16 +11,16 @@ use Rattle.wire.specs.Choice.{pick, Check, firstOf}
 use Rattle.wire.specs.Header.{nak, typeSet}
 use Rattle.wire.specs.Number.{number}
 use Rattle.items.specs.declared.Settings.{Settings}
-use Rattle.items.specs.Items.{Item, rowOf}
+use Rattle.items.specs.Items.{Item, noItem, rowOf}
 use Rattle.items.specs.Header.{headerChecks}
 use Rattle.items.specs.Table.{tableChecks}
 use Rattle.items.specs.Answer.{Message, itemChecks, replyTo, codeOf, settingsAfter, replyOf}
-use Rattle.items.proofs.Rows.{found}
+use Rattle.items.proofs.Rows.{_then_, found}
 
 -- an item makes the same of two lists of parameters
 record Alike (p q : List ℕ) (i : Item) : Type 0 where
   checked : (kind : ℕ) (s : Settings) → itemChecks i kind s p ≡ itemChecks i kind s q
-  stored : (s : Settings) → i .stored s p ≡ i .stored s q
+  stored : (s : Settings) → i .rule .stored s p ≡ i .rule .stored s q
   replied : (kind : ℕ) (s : Settings) → replyTo i kind s p ≡ replyTo i kind s q
 
 -- none looks past the sixth byte of its parameters
@@ -32,8 +32,23 @@ six-decide (a ∷ b ∷ c ∷ []) long code = absurd (omega arith)
 six-decide (a ∷ b ∷ c ∷ d ∷ []) long code = absurd (omega arith)
 six-decide (a ∷ b ∷ c ∷ d ∷ e ∷ []) long code = absurd (omega arith)
 six-decide (a ∷ b ∷ c ∷ d ∷ e ∷ f ∷ p) long code =
-    found (Alike (a ∷ b ∷ c ∷ d ∷ e ∷ f ∷ []) (a ∷ b ∷ c ∷ d ∷ e ∷ f ∷ p)) record { checked = λ k s. refl; stored = λ s. refl; replied = λ k s. refl }
-    (record { checked = λ k s. refl; stored = λ s. refl; replied = λ k s. refl }, (record { checked = λ k s. refl; stored = λ s. refl; replied = λ k s. refl }, (record { checked = λ k s. refl; stored = λ s. refl; replied = λ k s. refl }, (record { checked = λ k s. refl; stored = λ s. refl; replied = λ k s. refl }, (record { checked = λ k s. refl; stored = λ s. refl; replied = λ k s. refl }, (record { checked = λ k s. refl; stored = λ s. refl; replied = λ k s. refl }, (record { checked = λ k s. refl; stored = λ s. refl; replied = λ k s. refl }, (record { checked = λ k s. refl; stored = λ s. refl; replied = λ k s. refl }, (record { checked = λ k s. refl; stored = λ s. refl; replied = λ k s. refl }, (record { checked = λ k s. refl; stored = λ s. refl; replied = λ k s. refl }, (record { checked = λ k s. refl; stored = λ s. refl; replied = λ k s. refl }, tt))))))))))) code
+    found (Alike (a ∷ b ∷ c ∷ d ∷ e ∷ f ∷ []) (a ∷ b ∷ c ∷ d ∷ e ∷ f ∷ p)) none
+    (record { checked = λ k s. refl; stored = λ s. refl; replied = λ k s. refl }
+    then record { checked = λ k s. refl; stored = λ s. refl; replied = λ k s. refl }
+    then record { checked = λ k s. refl; stored = λ s. refl; replied = λ k s. refl }
+    then record { checked = λ k s. refl; stored = λ s. refl; replied = λ k s. refl }
+    then record { checked = λ k s. refl; stored = λ s. refl; replied = λ k s. refl }
+    then record { checked = λ k s. refl; stored = λ s. refl; replied = λ k s. refl }
+    then record { checked = λ k s. refl; stored = λ s. refl; replied = λ k s. refl }
+    then record { checked = λ k s. refl; stored = λ s. refl; replied = λ k s. refl }
+    then record { checked = λ k s. refl; stored = λ s. refl; replied = λ k s. refl }
+    then record { checked = λ k s. refl; stored = λ s. refl; replied = λ k s. refl }
+    then record { checked = λ k s. refl; stored = λ s. refl; replied = λ k s. refl }
+    then tt)
+    code
+  where
+    none : Alike (a ∷ b ∷ c ∷ d ∷ e ∷ f ∷ []) (a ∷ b ∷ c ∷ d ∷ e ∷ f ∷ p) noItem
+    none = record { checked = λ k s. refl; stored = λ s. refl; replied = λ k s. refl }
 
 -- the message of a type and a length of which these bytes are held
 abbrev pub heldMessage : ℕ → ℕ → List ℕ → Message
@@ -66,7 +81,7 @@ module _ (s : Settings) (type size a b c d : ℕ) (p : List ℕ) (long : 6 ≤ l
   same-after : settingsAfter s short ≡ settingsAfter s full
   unfolding settingsAfter
   same-after =
-      ap (λ (k : ℕ). pick (eqb k 1 && eqb type typeSet) (rowOf item .stored s (take 6 p)) s) same-code
+      ap (λ (k : ℕ). pick (eqb k 1 && eqb type typeSet) (rowOf item .rule .stored s (take 6 p)) s) same-code
       ∙ ap (λ (t : Settings). pick (eqb (codeOf s full) 1 && eqb type typeSet) t s) (same .stored s)
 
   same-reply : replyOf s short ≡ replyOf s full

@@ -11,7 +11,7 @@ use Rattle.wire.specs.Header.{headerOf, nak, typeSet, typeRange, typeReply, typ
 use Rattle.tuning.specs.Bands.{bands, rangeBytes}
 use Rattle.items.specs.declared.Settings.{Settings}
 use Rattle.items.specs.declared.Judged.{Judged}
-use Rattle.items.specs.Items.{Channels, noChannel, anyChannel, zeroAndAll, Item, rowOf}
+use Rattle.items.specs.Items.{Echoed, noByte, anId, anyChannel, zeroAndAll, echoes, Item, rowOf}
 use Rattle.items.specs.Header.{headerChecks}
 use Rattle.items.specs.Table.{tableChecks}
 
@@ -33,23 +33,24 @@ abbrev pub parameters : Message → List ℕ
 parameters m = drop 4 (m .held)
 
 -- "Channel for 0020 and 0038: 00, and on set also FF."
-abbrev pub channelAllowed : Channels → ℕ → ℕ → Bool
-channelAllowed noChannel kind byte = true
+abbrev pub channelAllowed : Echoed → ℕ → ℕ → Bool
+channelAllowed noByte kind byte = true
+channelAllowed anId kind byte = true
 channelAllowed anyChannel kind byte = true
 channelAllowed zeroAndAll kind byte = oneOf byte (pick (eqb kind typeSet) (0x00 ∷ 0xFF ∷ []) (0x00 ∷ []))
 
 -- the value that a set has is allowed, or the id that a request has
 abbrev pub valueAllowed : Item → ℕ → List ℕ → Bool
-valueAllowed i kind p = pick (eqb kind typeSet) (i .settable p) (i .askable p)
+valueAllowed i kind p = pick (eqb kind typeSet) (i .rule .settable p) (i .rule .askable p)
 
 -- a set that is not taken now, since the box is running
 abbrev pub refusedRunning : Item → ℕ → Settings → List ℕ → Bool
-refusedRunning i kind s p = eqb kind typeSet && s .running && i .locked s p
+refusedRunning i kind s p = eqb kind typeSet && s .running && i .rule .locked s p
 
 -- The last three checks, which an item makes of its parameters.
 abbrev pub itemChecks : Item → ℕ → Settings → List ℕ → List Check
 itemChecks i kind s p =
-    check Code.channelNotAllowed (not (channelAllowed (i .channels) kind (getD p 0 0)))
+    check Code.channelNotAllowed (not (channelAllowed (i .echoed) kind (getD p 0 0)))
     ∷ check Code.valueNotAllowed (not (valueAllowed i kind p))
     ∷ check Code.notWhileRunning (refusedRunning i kind s p)
     ∷ []
@@ -71,7 +72,7 @@ codeOf s m = firstOf (checks s m) Code.done
 
 -- the settings after it: an accepted set stores, everything else leaves every setting
 unfoldable pub settingsAfter : Settings → Message → Settings
-settingsAfter s m = pick (eqb (codeOf s m) Code.done && eqb (m .type) typeSet) (row m .stored s (parameters m)) s
+settingsAfter s m = pick (eqb (codeOf s m) Code.done && eqb (m .type) typeSet) (row m .rule .stored s (parameters m)) s
 
 -- both
 abbrev pub judgedOf : Settings → Message → Judged
@@ -79,7 +80,7 @@ judgedOf s m = record { code = codeOf s m; settings = settingsAfter s m }
 
 -- "Replies have the item's set layout with the current value; the channel byte or id is echoed."
 abbrev pub replyBody : Item → Settings → List ℕ → List ℕ
-replyBody i s p = bytes 2 (i .code) ++ take (i .echoed) p ++ i .value s p
+replyBody i s p = bytes 2 (i .code) ++ take (echoes (i .echoed)) p ++ i .rule .value s p
 
 -- "The range reply gives channel, 02, then minimum, maximum, oscillator of each in five bytes."
 abbrev pub rangeBody : Item → List ℕ → List ℕ

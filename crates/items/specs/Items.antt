@@ -3,8 +3,8 @@
 use Prim.Native.Nat.{ℕ, _+_}
 use mathlib.Core.Bool.{Bool, true, false, _&&_, _||_, not}
 use mathlib.Core.List.{List, [], _∷_, _++_}
-use lib.Dec.{eqb, leb}
-use lib.ListN.{getD}
+use lib.Dec.{eqb, ltb}
+use lib.ListN.{length, getD}
 use Rattle.wire.specs.Choice.{pick, anyOf, firstRow}
 use Rattle.wire.specs.Number.{bytes, field}
 use Rattle.rates.specs.Rate.{mayAsk, nearestOf, isD, rateOf}
@@ -18,34 +18,25 @@ pub data Offer : Type 0 where
   total : ℕ → Offer
   dash : Offer
 
--- which channel bytes an item takes as its first parameter
-pub data Channels : Type 0 where
-  -- the item has no channel byte
-  noChannel : Channels
+-- the byte that an item may have before its value, a channel byte or an id: "the channel byte or id is echoed"
+pub data Echoed : Type 0 where
+  noByte : Echoed
+  anId : Echoed
   -- "any channel byte"
-  anyChannel : Channels
+  anyChannel : Echoed
   -- "00, and on set also FF"
-  zeroAndAll : Channels
+  zeroAndAll : Echoed
 
--- One line of the table, and its rule.
-pub record Item : Type 0 where
-  pub code : ℕ
-  pub set : Offer
-  pub request : Offer
-  pub range : Offer
-  pub channels : Channels
-  pub echoed : ℕ
-  pub settable : List ℕ → Bool
-  pub askable : List ℕ → Bool
-  pub locked : Settings → List ℕ → Bool
-  pub stored : Settings → List ℕ → Settings
-  pub value : Settings → List ℕ → List ℕ
+-- how many bytes that is
+abbrev pub echoes : Echoed → ℕ
+echoes noByte = 0
+echoes anId = 1
+echoes anyChannel = 1
+echoes zeroAndAll = 1
 
 -- What the table's last column and the paragraphs below it say of an item. Parameters are the message's bytes from the
 -- fifth on.
 pub record Rule : Type 0 where
-  -- how many parameters, the channel byte or the id, come first in the reply
-  pub echoed : ℕ
   -- a set with these parameters has a value that is allowed; so has a request
   pub settable : List ℕ → Bool
   pub askable : List ℕ → Bool
@@ -55,6 +46,15 @@ pub record Rule : Type 0 where
   pub stored : Settings → List ℕ → Settings
   -- the value's bytes in a reply
   pub value : Settings → List ℕ → List ℕ
+
+-- One line of the table.
+pub record Item : Type 0 where
+  pub code : ℕ
+  pub set : Offer
+  pub request : Offer
+  pub range : Offer
+  pub echoed : Echoed
+  pub rule : Rule
 
 -- what most rules share
 abbrev always : List ℕ → Bool
@@ -69,13 +69,16 @@ unset s p = s
 -- an item that is never set, and is shown by these bytes
 abbrev shown : (Settings → List ℕ → List ℕ) → Rule
 shown value =
-    record { echoed = 0; settable = always; askable = always; locked = never; stored = unset; value = value }
+    record { settable = always; askable = always; locked = never; stored = unset; value = value }
 
 -- ---- the rules
 
 -- name: "NetSDR" and a zero byte
+abbrev pub nameBytes : List ℕ
+nameBytes = 0x4E ∷ 0x65 ∷ 0x74 ∷ 0x53 ∷ 0x44 ∷ 0x52 ∷ 0x00 ∷ []
+
 abbrev nameRule : Rule
-nameRule = shown (λ s p. 0x4E ∷ 0x65 ∷ 0x74 ∷ 0x53 ∷ 0x44 ∷ 0x52 ∷ 0x00 ∷ [])
+nameRule = shown (λ s p. nameBytes)
 
 -- serial: eight characters and a zero byte
 abbrev serialRule : Rule
@@ -93,12 +96,11 @@ abbrev pub versionTable : List (List ℕ)
 versionTable = (0x64 ∷ 0x00 ∷ []) ∷ (0x6B ∷ 0x00 ∷ []) ∷ (0x66 ∷ 0x00 ∷ []) ∷ (0x01 ∷ 0x07 ∷ []) ∷ []
 
 abbrev pub isVersion : ℕ → Bool
-isVersion id = leb id 3
+isVersion id = ltb id (length versionTable)
 
 abbrev versionsRule : Rule
 versionsRule =
     record {
-      echoed = 1;
       settable = always;
       askable = λ p. isVersion (getD p 0 0);
       locked = never;
@@ -153,7 +155,6 @@ stateBytes byte mode = 0x80 ∷ byte ∷ mode ∷ 0x00 ∷ []
 abbrev stateRule : Rule
 stateRule =
     record {
-      echoed = 0;
       settable = mayState;
       askable = always;
       locked = otherMode;
@@ -165,7 +166,6 @@ stateRule =
 abbrev frequencyRule : Rule
 frequencyRule =
     record {
-      echoed = 1;
       settable = λ p. inBands (field 1 5 p);
       askable = always;
       locked = never;
@@ -177,7 +177,6 @@ frequencyRule =
 abbrev gainRule : Rule
 gainRule =
     record {
-      echoed = 1;
       settable = λ p. isGain (getD p 1 0);
       askable = always;
       locked = never;
@@ -189,7 +188,6 @@ gainRule =
 abbrev clockRule : Rule
 clockRule =
     record {
-      echoed = 1;
       settable = λ p. isClock (field 1 4 p);
       askable = always;
       locked = never;
@@ -205,7 +203,6 @@ achievedRate d = pick (isD d) (rateOf d) 0
 abbrev rateRule : Rule
 rateRule =
     record {
-      echoed = 1;
       settable = λ p. mayAsk (field 1 4 p);
       askable = always;
       locked = λ s p. true;
@@ -217,7 +214,6 @@ rateRule =
 abbrev sizeRule : Rule
 sizeRule =
     record {
-      echoed = 0;
       settable = λ p. isSize (getD p 0 0);
       askable = always;
       locked = λ s p. true;
@@ -225,41 +221,29 @@ sizeRule =
       value = λ s p. bytes 1 (s .size);
     }
 
--- ---- the table: item, set, request, range, channel byte, rule
+-- ---- the table: item, set, request, range, channel byte or id, rule
 
-abbrev line : ℕ → Offer → Offer → Offer → Channels → Rule → Item
-line code set request range channels rule =
-    record {
-      code = code;
-      set = set;
-      request = request;
-      range = range;
-      channels = channels;
-      echoed = rule .echoed;
-      settable = rule .settable;
-      askable = rule .askable;
-      locked = rule .locked;
-      stored = rule .stored;
-      value = rule .value;
-    }
+abbrev line : ℕ → Offer → Offer → Offer → Echoed → Rule → Item
+line code set request range echoed rule =
+    record { code = code; set = set; request = request; range = range; echoed = echoed; rule = rule }
 
 abbrev pub name : Item
-name = line 0x0001 dash (total 4) dash noChannel nameRule
+name = line 0x0001 dash (total 4) dash noByte nameRule
 
 abbrev pub serial : Item
-serial = line 0x0002 dash (total 4) dash noChannel serialRule
+serial = line 0x0002 dash (total 4) dash noByte serialRule
 
 abbrev pub interface : Item
-interface = line 0x0003 dash (total 4) dash noChannel interfaceRule
+interface = line 0x0003 dash (total 4) dash noByte interfaceRule
 
 abbrev pub versions : Item
-versions = line 0x0004 dash (total 5) dash noChannel versionsRule
+versions = line 0x0004 dash (total 5) dash anId versionsRule
 
 abbrev pub status : Item
-status = line 0x0005 dash (total 4) dash noChannel statusRule
+status = line 0x0005 dash (total 4) dash noByte statusRule
 
 abbrev pub state : Item
-state = line 0x0018 (total 8) (total 4) dash noChannel stateRule
+state = line 0x0018 (total 8) (total 4) dash noByte stateRule
 
 -- "the only range request, length 5"
 abbrev pub frequency : Item
@@ -275,7 +259,7 @@ abbrev pub rate : Item
 rate = line 0x00B8 (total 9) (total 5) dash anyChannel rateRule
 
 abbrev pub packetSize : Item
-packetSize = line 0x00C4 (total 5) (total 4) dash noChannel sizeRule
+packetSize = line 0x00C4 (total 5) (total 4) dash noByte sizeRule
 
 abbrev pub items : List Item
 items =
@@ -301,7 +285,7 @@ listed code = listedIn items code
 
 -- no item: every kind is a dash
 abbrev pub noItem : Item
-noItem = line 0 dash dash dash noChannel (shown (λ s p. []))
+noItem = line 0 dash dash dash noByte (shown (λ s p. []))
 
 -- the row of an item code
 abbrev pub rowIn : List Item → ℕ → Item

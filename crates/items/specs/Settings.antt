@@ -19,6 +19,7 @@ use Rattle.items.specs.declared.Began.{Began}
 abbrev pub gains : List ℤ
 gains = pos 0 ∷ negsuc 9 ∷ negsuc 19 ∷ negsuc 29 ∷ []
 
+-- as a byte
 abbrev pub isGain : ℕ → Bool
 isGain byte = oneOf byte (map (coded 8) gains)
 
@@ -28,7 +29,7 @@ isMode byte = oneOf byte (0x80 ∷ 0x00 ∷ [])
 
 -- packet size: "0 large, 1 small"
 abbrev pub isSize : ℕ → Bool
-isSize byte = leb byte 1
+isSize byte = oneOf byte (0 ∷ 1 ∷ [])
 
 -- a character of a serial: A-Z, 0-9
 abbrev pub isSerialByte : ℕ → Bool

@@ -106,7 +106,7 @@ pub fn is_gain(byte: u8) -> bool
 pub fn is_size(byte: u8) -> bool
     ensures { λ r. ⌜ r ≡ isSize byte ⌝ }
 {
-    byte <= 1
+    (byte == 0) | (byte == 1)
 }
 
 // A character of a serial: A-Z, 0-9.

@@ -8,20 +8,21 @@ use lib.ListN.{getD}
 use borrow.Author.Tests.{ne-eqb}
 use Rattle.wire.specs.Header.{typeSet, typeRequest}
 use Rattle.items.specs.declared.Settings.{Settings}
-use Rattle.items.specs.Items.{Channels, noChannel, anyChannel, zeroAndAll, Item, versions, name, serial, interface, status, state, clock, rate, packetSize, rowOf}
+use Rattle.items.specs.Items.{Echoed, noByte, anId, anyChannel, zeroAndAll, Item, versions, name, serial, interface, status, state, clock, rate, packetSize, rowOf}
 use Rattle.items.specs.Answer.{Message, channelAllowed, row, parameters, itemCode, codeOf, settingsAfter, judgedOf}
 use Rattle.items.proofs.Rows.{row-has}
 use Rattle.judging.specs.Inside.{askedBy, setBy}
 
 -- a request and a range request have the same channels
-channel-asked : (cs : Channels) (kind byte : ℕ) → (kind ≡ typeSet → ⊥) → channelAllowed cs kind byte ≡ channelAllowed cs typeRequest byte
-channel-asked noChannel kind byte h = refl
+channel-asked : (cs : Echoed) (kind byte : ℕ) → (kind ≡ typeSet → ⊥) → channelAllowed cs kind byte ≡ channelAllowed cs typeRequest byte
+channel-asked noByte kind byte h = refl
+channel-asked anId kind byte h = refl
 channel-asked anyChannel kind byte h = refl
 channel-asked zeroAndAll kind byte h = rw (ne-eqb kind typeSet h)
 
 -- the checks of a request or a range request
 asked-code : (i : Item) (kind : ℕ) (s : Settings) (p : List ℕ) → (kind ≡ typeSet → ⊥) → itemCode i kind s p ≡ askedBy i p
-asked-code i kind s p h = rw (ne-eqb kind typeSet h, channel-asked (i .channels) kind (getD p 0 0) h)
+asked-code i kind s p h = rw (ne-eqb kind typeSet h, channel-asked (i .echoed) kind (getD p 0 0) h)
 
 module _ (s : Settings) (m : Message) where
   -- a set is its item's

@@ -20,11 +20,11 @@ left s to other false value locked h = refl
 
 pub set-by : (i : Item) (s : Settings) (p : List ℕ) {r : Judged} {to : Settings} {channel value locked : Bool}
     → r ≡ decided s to channel value locked
-    → channel ≡ channelAllowed (i .channels) typeSet (getD p 0 0)
-    → value ≡ i .settable p
-    → locked ≡ (s .running && i .locked s p)
-    → (i .settable p ≡ true → to ≡ i .stored s p)
+    → channel ≡ channelAllowed (i .echoed) typeSet (getD p 0 0)
+    → value ≡ i .rule .settable p
+    → locked ≡ (s .running && i .rule .locked s p)
+    → (i .rule .settable p ≡ true → to ≡ i .rule .stored s p)
     → r ≡ setBy i s p
 set-by i s p {to = to} e channel value locked stored =
     e
-    ∙ rw (channel, value, locked) (left s to (i .stored s p) (channelAllowed (i .channels) typeSet (getD p 0 0)) (i .settable p) (s .running && i .locked s p) stored)
+    ∙ rw (channel, value, locked) (left s to (i .rule .stored s p) (channelAllowed (i .echoed) typeSet (getD p 0 0)) (i .rule .settable p) (s .running && i .rule .locked s p) stored)

@@ -17,7 +17,7 @@ use Rattle.items.specs.Answer.{channelAllowed, valueAllowed}
 abbrev pub askedBy : Item → List ℕ → ℕ
 askedBy i p =
     firstOf
-    (check Code.channelNotAllowed (not (channelAllowed (i .channels) typeRequest (getD p 0 0))) ∷ check Code.valueNotAllowed (not (valueAllowed i typeRequest p)) ∷ [])
+    (check Code.channelNotAllowed (not (channelAllowed (i .echoed) typeRequest (getD p 0 0))) ∷ check Code.valueNotAllowed (not (valueAllowed i typeRequest p)) ∷ [])
     Code.done
 
 -- a set that would leave the settings `to`, where the channel byte or the value may not be allowed, or the item locked
@@ -34,5 +34,5 @@ decided s to channel value locked =
 -- a set of an item, with these parameters
 abbrev pub setBy : Item → Settings → List ℕ → Judged
 setBy i s p =
-    decided s (i .stored s p) (channelAllowed (i .channels) typeSet (getD p 0 0)) (i .settable p)
-    (s .running && i .locked s p)
+    decided s (i .rule .stored s p) (channelAllowed (i .echoed) typeSet (getD p 0 0)) (i .rule .settable p)
+    (s .running && i .rule .locked s p)

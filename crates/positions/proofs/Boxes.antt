@@ -71,13 +71,13 @@ abbrev Leaves : Item → Type 0
 Leaves i =
     (s : Settings) (p : List ℕ)
     → s .running ≡ true
-    → i .locked s p ≡ false
-    → i .stored s p .running ≡ true
-    → nextOf (i .stored s p) ≡ nextOf s
+    → i .rule .locked s p ≡ false
+    → i .rule .stored s p .running ≡ true
+    → nextOf (i .rule .stored s p) ≡ nextOf s
 
 -- an item's set that finds the box idle and leaves it running sets the count to 0
 abbrev Starts : Item → Type 0
-Starts i = (s : Settings) (p : List ℕ) → s .running ≡ false → i .stored s p .running ≡ true → i .stored s p .count ≡ 0
+Starts i = (s : Settings) (p : List ℕ) → s .running ≡ false → i .rule .stored s p .running ≡ true → i .rule .stored s p .count ≡ 0
 
 -- idle stops the box, and run while running changes nothing
 state-leaves : Leaves state
@@ -130,12 +130,12 @@ rows-start =
     then tt)
 
 -- an accepted set was not locked
-unlocked : (s : Settings) (m : Message) → codeOf s m ≡ 1 → m .type ≡ typeSet → s .running ≡ true → row m .locked s (parameters m) ≡ false
+unlocked : (s : Settings) (m : Message) → codeOf s m ≡ 1 → m .type ≡ typeSet → s .running ≡ true → row m .rule .locked s (parameters m) ≡ false
 unfolding codeOf
 unlocked s m e t r =
     let clear = absent (checks s m) 1 refl e in
     let free : refusedRunning (row m) (m .type) s (parameters m) ≡ false = clear .1 .1 .1 .1 .1 .1 .1 .1 .0 in
-    and-rest (eqb (m .type) typeSet && s .running) (row m .locked s (parameters m)) free (and-both (eqb (m .type) typeSet) (s .running) (eq-eqb _ _ t) r)
+    and-rest (eqb (m .type) typeSet && s .running) (row m .rule .locked s (parameters m)) free (and-both (eqb (m .type) typeSet) (s .running) (eq-eqb _ _ t) r)
 
 -- one message
 message-leaves : (s : Settings) (m : Message) → s .running ≡ true → settingsAfter s m .running ≡ true → nextOf (settingsAfter s m) ≡ nextOf s
@@ -143,7 +143,7 @@ unfolding settingsAfter
 message-leaves s m r = go (eqb (codeOf s m) 1) refl (eqb (m .type) typeSet) refl
   where
     after : Bool → Settings
-    after b = pick b (row m .stored s (parameters m)) s
+    after b = pick b (row m .rule .stored s (parameters m)) s
 
     go : (b : Bool) → eqb (codeOf s m) 1 ≡ b → (c : Bool) → eqb (m .type) typeSet ≡ c
         → after (eqb (codeOf s m) 1 && eqb (m .type) typeSet) .running ≡ true → nextOf (after (eqb (codeOf s m) 1 && eqb (m .type) typeSet)) ≡ nextOf s
@@ -156,7 +156,7 @@ unfolding settingsAfter
 message-starts s m r = go (eqb (codeOf s m) 1 && eqb (m .type) typeSet)
   where
     after : Bool → Settings
-    after b = pick b (row m .stored s (parameters m)) s
+    after b = pick b (row m .rule .stored s (parameters m)) s
 
     go : (b : Bool) → after b .running ≡ true → after b .count ≡ 0
     go true a = rows-start (itemIn m) s (parameters m) r a

@@ -6,13 +6,13 @@ use mathlib.Core.List.{List, [], _∷_}
 use native.Mathlib.Nat.{le-of-suc-le-suc, not-suc-le-zero, add-zero}
 use native.Mathlib.Decide.{ℕ-discrete}
 use native.Mathlib.Omega.{arith}
-use lib.Dec.{eqb, eqb→eq}
+use lib.Dec.{eqb, ltb, eqb→eq}
 use lib.ListN.{length, getD}
-use borrow.Author.Tests.{eq-eqb, ne-eqb}
-use Rattle.wire.specs.Choice.{pick}
+use borrow.Author.Tests.{eq-eqb, ne-eqb, eqb-true, eqb-false, lt-ltb, ltb-true}
+use Rattle.wire.specs.Choice.{pick, oneOf}
 use Rattle.wire.specs.Halves.{NearestUp}
 use Rattle.wire.proofs.Halves.{half-up}
-use Rattle.wire.proofs.Laws.{true-not-false, test-true, within-low, within-high, is-within, pick-true}
+use Rattle.wire.proofs.Laws.{true-not-false, test-true, within-low, within-high, is-within, pick-true, by-test}
 use Rattle.rates.specs.Rate.{isD, rateOf, mayAsk, nearestOf}
 use Rattle.rates.specs.Table.{ratesFrom, rates, dIn, dOf}
 use Rattle.rates.proofs.Rules.{everywhere, falling}
@@ -156,3 +156,19 @@ d-of-found rate some = go (mayAsk rate) refl
           | yes same ↦ (let its : dOf rate ≡ nearestOf rate = ap dOf (sym same) ∙ d-of-rate (nearestOf rate) is in (rw its is, rw its same))
           | no other ↦ absurd (lt-ne (dOf rate) some (sym (d-of-miss rate (nearestOf rate) (rateOf (nearestOf rate)) (sym (pick-true _ _ _ asked)) (sym (pick-true _ _ _ is)) other)))
         ]
+
+-- a rate has a D exactly where it is one of the table
+found-in : (xs : List ℕ) (d rate : ℕ) → 0 < d → ltb 0 (dIn xs d rate) ≡ oneOf rate xs
+found-in [] d rate some = refl
+found-in (x ∷ xs) d rate some =
+    by-test (eqb rate x)
+    (λ here. rw (eq-eqb x rate (sym (eqb-true rate x here)), here) (lt-ltb 0 d some))
+    (λ other. rw (ne-eqb x rate (λ is. eqb-false rate x other (sym is)), other) (found-in xs (d + 1) rate (omega arith)))
+
+pub rate-listed : (rate : ℕ) → ltb 0 (dOf rate) ≡ oneOf rate rates
+unfolding dOf
+rate-listed rate = found-in rates 10 rate (omega arith)
+
+-- so a rate of the table has a D, and is its achieved rate
+pub listed-d : (rate : ℕ) → oneOf rate rates ≡ true → (isD (dOf rate) ≡ true) × (rateOf (dOf rate) ≡ rate)
+listed-d rate is = d-of-found rate (ltb-true 0 (dOf rate) (rate-listed rate ∙ is))

@@ -17,14 +17,14 @@ use Rattle.wire.proofs.Laws.{and-left, and-right, and-both, or-left, or-right, 
 use Rattle.wire.proofs.Numbers.{bytes-number, number-bytes, number-below}
 use Rattle.rates.specs.Rate.{rateOf, nearestOf, isD}
 use Rattle.rates.specs.Table.{dOf}
-use Rattle.rates.proofs.Rates.{d-of-rate, d-of-found}
+use Rattle.rates.proofs.Rates.{d-of-rate, rate-listed, listed-d}
 use Rattle.tuning.specs.Bands.{bands, rangeBytes}
 use Rattle.layouts.specs.declared.Layout.{Layout}
 use Rattle.layouts.specs.Layouts.{parametersOf, sizeOf, laid}
 use Rattle.layouts.proofs.Sizes.{length-laid}
 use Rattle.items.specs.declared.Settings.{Settings}
 use Rattle.items.specs.Settings.{isMode, isSerialByte, allSerial, isSerial, inRange, freshOf, withFrequency, withClock, withDivisor, withRunning, withMode, withGain, withSize, withCount}
-use Rattle.items.specs.Items.{versionTable, run, idle, achievedRate}
+use Rattle.items.specs.Items.{nameBytes, versionTable, run, idle, achievedRate}
 use Rattle.items.specs.Answer.{settingsAfter, replyOf, replyTo, framed, parameters}
 use Rattle.station.proofs.Kept.{Ranges, ranges, message-keeps}
 use Rattle.wishes.specs.declared.StateFields.{StateFields}
@@ -32,10 +32,11 @@ use Rattle.wishes.specs.declared.Wish.{Wish}
 use Rattle.wishes.specs.declared.Wish.the-variants.{AskName, AskSerial, AskInterface, AskVersion, AskStatus, SetState, AskState, SetFrequency, AskFrequency, AskFrequencyRange, SetGain, AskGain, SetClock, AskClock, SetRate, AskRate, SetPacketSize, AskPacketSize}
 use Rattle.wishes.specs.Wishes.{asking, layoutOf, allowed, granted, notNow, messageOf, asMessage}
 use Rattle.wishes.proofs.Rows.{by-wish}
-use Rattle.wishes.proofs.Allowed.{by-or, one-has, state-has}
+use Rattle.wishes.proofs.Allowed.{state-has}
+use Rattle.wire.proofs.Laws.{by-or, one-has}
 use Rattle.wishes.proofs.Understood.{code-of-wish, row-of-wish, settings-of-wish}
 use Rattle.replies.specs.declared.Reply.the-variants.{Nak, Status, State}
-use Rattle.replies.specs.Awaited.{awaited, holdsSerial, idleShown, runShown, stateShown, saysState, nameBytes, replyType, replyLayout, replyBytes, numberIn}
+use Rattle.replies.specs.Awaited.{awaited, holdsSerial, idleShown, runShown, stateShown, saysState, replyType, replyLayout, replyBytes, numberIn}
 use Rattle.replies.specs.Reading.{isReply, isNak, readCode, told, toldOf}
 use Rattle.replies.specs.Saying.{saysOf, saidBy}
 use Rattle.replies.specs.Exactly.{ReadAsSaid, Given, Exactly}
@@ -48,7 +49,7 @@ use Rattle.replies.proofs.Recognised.{version-has, reply-read, reply-is
 -- the value's bytes in a box's reply
 abbrev shown : Wish → Settings → List ℕ
 shown w s =
-    pick (eqb (asking w .kind) typeRange) (0x02 ∷ rangeBytes bands) (asking w .item .value s (parameters (asMessage w)))
+    pick (eqb (asking w .kind) typeRange) (0x02 ∷ rangeBytes bands) (asking w .item .rule .value s (parameters (asMessage w)))
 
 -- the number that they hold
 abbrev numberOf : Wish → Settings → ℕ
@@ -211,7 +212,8 @@ could-shown AskGain s e r now = r .gain
 could-shown (SetClock hz) s e r now = eq-eqb hz hz refl
 could-shown AskClock s e r now = r .clock
 could-shown (SetRate hz) s e r now = eq-eqb (rateOf (nearestOf hz)) (rateOf (nearestOf hz)) refl
-could-shown AskRate s e r now = lt-ltb 0 (dOf (rateOf (s .divisor))) (rw (d-of-rate (s .divisor) (r .divisor)) (some-d (s .divisor) (r .divisor)))
+could-shown AskRate s e r now =
+    sym (rate-listed (rateOf (s .divisor))) ∙ lt-ltb 0 (dOf (rateOf (s .divisor))) (rw (d-of-rate (s .divisor) (r .divisor)) (some-d (s .divisor) (r .divisor)))
 could-shown (SetPacketSize n) s e r now = eq-eqb n n refl
 could-shown AskPacketSize s e r now = r .size
 
@@ -339,7 +341,7 @@ box-valid AskGain n e h = rw h
 box-valid (SetClock hz) n e h = refl
 box-valid AskClock n e h = rw h
 box-valid (SetRate hz) n e h = refl
-box-valid AskRate n e h = rw (d-of-found n (ltb-true 0 (dOf n) h) .0)
+box-valid AskRate n e h = rw (listed-d n h .0)
 box-valid (SetPacketSize m) n e h = refl
 box-valid AskPacketSize n e h = rw h
 
@@ -363,7 +365,7 @@ box-shows AskGain n e h = refl
 box-shows (SetClock hz) n e h = sym (eqb-true n hz h)
 box-shows AskClock n e h = refl
 box-shows (SetRate hz) n e h = sym (eqb-true n (rateOf (nearestOf hz)) h)
-box-shows AskRate n e h = d-of-found n (ltb-true 0 (dOf n) h) .1
+box-shows AskRate n e h = listed-d n h .1
 box-shows (SetPacketSize m) n e h = sym (eqb-true n m h)
 box-shows AskPacketSize n e h = refl
 

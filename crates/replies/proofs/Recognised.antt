@@ -1,14 +1,14 @@
 -- A reply with a value that a valid box could give is read as that value.
-use Prim.Native.Nat.{ℕ, zero, suc, _^_, _≤_, _<_}
+use Prim.Native.Nat.{ℕ, zero, suc, _^_, _<_}
 use mathlib.Core.Path.{_≡_, refl, sym, ap, subst, _∙_}
 use mathlib.Core.Bool.{Bool, true, false, _||_, not}
 use mathlib.Core.List.{List, [], _∷_, _++_}
 use native.Mathlib.Nat.{lt-of-lt-of-le}
 use native.Mathlib.Omega.{arith}
-use lib.Dec.{eqb, ltb, leb, lit<, lit≤}
+use lib.Dec.{eqb, ltb, lit<, lit≤}
 use lib.ListN.{length, getD, replicate}
 use lib.Seq.{sets}
-use borrow.Author.Tests.{eq-eqb, eqb-true, eqb-false, ltb-true, leb-true}
+use borrow.Author.Tests.{eq-eqb, eqb-true, eqb-false, ltb-true}
 use Rattle.wire.specs.Choice.{pick}
 use Rattle.wire.specs.Number.{number, bytes}
 use Rattle.wire.specs.Signed.{coded}
@@ -16,32 +16,34 @@ use Rattle.wire.specs.Header.{nak, headerOf}
 use Rattle.wire.proofs.Laws.{true-not-false, and-left, and-right, within-high}
 use Rattle.rates.specs.Rate.{rateOf, nearestOf, mayAsk, isD}
 use Rattle.rates.specs.Table.{dOf}
-use Rattle.rates.proofs.Rates.{rate-asked, nearest-d, d-of-found}
+use Rattle.rates.proofs.Rates.{rate-asked, nearest-d, listed-d}
 use Rattle.tuning.specs.Bands.{bands, rangeBytes}
 use Rattle.layouts.specs.Layouts.{laid}
 use Rattle.layouts.proofs.Sizes.{least, length-laid}
 use Rattle.layouts.proofs.Values.{value-read}
-use Rattle.items.specs.Items.{versionTable}
+use Rattle.items.specs.Items.{nameBytes, versionTable, isVersion}
+use Rattle.wire.proofs.Signed.{coded-below}
 use Rattle.items.specs.Settings.{allSerial}
 use Rattle.wishes.specs.declared.Wish.{Wish}
 use Rattle.wishes.specs.declared.Wish.the-variants.{AskName, AskSerial, AskInterface, AskVersion, AskStatus, SetState, AskState, SetFrequency, AskFrequency, AskFrequencyRange, SetGain, AskGain, SetClock, AskClock, SetRate, AskRate, SetPacketSize, AskPacketSize}
 use Rattle.wishes.specs.Wishes.{allowed}
-use Rattle.wishes.proofs.Allowed.{one-has, state-has, bands-high, gain-below, value-fits}
-use Rattle.replies.specs.Awaited.{awaited, idleShown, runShown, stateShown, nameBytes, replyLayout, replyBytes, numberIn}
+use Rattle.wishes.proofs.Allowed.{state-has, bands-high, gain-below, value-fits}
+use Rattle.wire.proofs.Laws.{one-has}
+use Rattle.replies.specs.Awaited.{awaited, idleShown, runShown, stateShown, replyLayout, replyBytes, numberIn}
 use Rattle.replies.specs.Reading.{isNak, isReply, readCode, told, toldOf}
 use Rattle.wire.specs.Lists.{same}
 use Rattle.replies.proofs.Answers.{read-reply}
 use Rattle.wire.proofs.Lists.{same-eq, same-refl, ne-same}
 
 -- what holds of each version's id
-pub version-has : (P : ℕ → Type 0) → P 0 → P 1 → P 2 → P 3 → (id : ℕ) → leb id 3 ≡ true → P id
+pub version-has : (P : ℕ → Type 0) → P 0 → P 1 → P 2 → P 3 → (id : ℕ) → isVersion id ≡ true → P id
 version-has P a b c d zero e = a
 version-has P a b c d (suc zero) e = b
 version-has P a b c d (suc (suc zero)) e = c
 version-has P a b c d (suc (suc (suc zero))) e = d
-version-has P a b c d (suc (suc (suc (suc n)))) e = absurd (over (leb-true (suc (suc (suc (suc n)))) 3 e))
+version-has P a b c d (suc (suc (suc (suc n)))) e = absurd (over (ltb-true (suc (suc (suc (suc n)))) 4 e))
   where
-    over : suc (suc (suc (suc n))) ≤ 3 → ⊥
+    over : suc (suc (suc (suc n))) < 4 → ⊥
     over h = omega arith
 
 rate-below : (hz : ℕ) → mayAsk hz ≡ true → hz < 256 ^ 4
@@ -68,14 +70,14 @@ could-fits AskState n e h = one-has (λ n. n < 256 ^ 4) n (idleShown ++ runShown
 could-fits (SetFrequency hz) n e h = rw (eqb-true n hz h) (value-fits (SetFrequency hz) e)
 could-fits AskFrequency n e h = omega (arith, bands-high n h)
 could-fits AskFrequencyRange n e h = rw (eqb-true n (number (0x02 ∷ rangeBytes bands)) h) (lit< tt)
-could-fits (SetGain g) n e h = rw (eqb-true n (coded 8 g) h) (value-fits (SetGain g) e)
+could-fits (SetGain g) n e h = rw (eqb-true n (coded 8 g) h) (coded-below 8 g (omega arith) (value-fits (SetGain g) e .1))
 could-fits AskGain n e h = gain-below n h
 could-fits (SetClock hz) n e h = rw (eqb-true n hz h) (value-fits (SetClock hz) e)
 could-fits AskClock n e h = omega (arith, within-high 79_992_000 80_008_000 n h)
 could-fits (SetRate hz) n e h = rw (eqb-true n (rateOf (nearestOf hz)) h) (rate-below (rateOf (nearestOf hz)) (rate-asked (nearestOf hz) (nearest-d hz e)))
-could-fits AskRate n e h = let d = d-of-found n (ltb-true 0 (dOf n) h) in rate-below n (subst (λ (r : ℕ). mayAsk r ≡ true) (d .1) (rate-asked (dOf n) (d .0)))
+could-fits AskRate n e h = let d = listed-d n h in rate-below n (subst (λ (r : ℕ). mayAsk r ≡ true) (d .1) (rate-asked (dOf n) (d .0)))
 could-fits (SetPacketSize m) n e h = rw (eqb-true n m h) (value-fits (SetPacketSize m) e)
-could-fits AskPacketSize n e h = omega (arith, leb-true n 1 h)
+could-fits AskPacketSize n e h = one-has (λ n. n < 256) n (0 ∷ 1 ∷ []) (lit< tt, (lit< tt, tt)) h
 
 -- so it is read back
 pub reply-value : (w : Wish) (n : ℕ) → n < 256 ^ awaited w .width → numberIn w (replyBytes w n) ≡ n

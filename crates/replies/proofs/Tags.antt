@@ -16,7 +16,7 @@ use Rattle.wishes.specs.declared.Wish.{Wish}
 use Rattle.wishes.specs.declared.Wish.the-variants.{AskName, AskSerial, AskInterface, AskVersion, AskStatus, SetState, AskState, SetFrequency, AskFrequency, AskFrequencyRange, SetGain, AskGain, SetClock, AskClock, SetRate, AskRate, SetPacketSize, AskPacketSize}
 use Rattle.wishes.specs.Wishes.{layoutOf}
 use Rattle.wishes.proofs.Rows.{by-wish}
-use Rattle.wishes.proofs.Allowed.{each, one-has}
+use Rattle.wire.proofs.Laws.{each, one-has}
 use Rattle.replies.specs.declared.Reply.{Reply}
 use Rattle.replies.specs.declared.Reply.the-variants.{Name, Serial, Interface, Status, Frequency, FrequencyRange, Gain, Clock, Rate, PacketSize, NotAReply}
 use Rattle.replies.specs.Awaited.{awaited, saysState}

@@ -10,13 +10,13 @@ use Rattle.wire.specs.Number.{bytes, number, field}
 use Rattle.wire.specs.Signed.{coded, signed}
 use Rattle.wire.specs.Header.{typeRange, typeReply, typeRangeReply}
 use Rattle.rates.specs.Rate.{rateOf, nearestOf}
-use Rattle.rates.specs.Table.{dOf}
+use Rattle.rates.specs.Table.{rates}
 use Rattle.tuning.specs.Bands.{bands, inBands, rangeBytes}
 use Rattle.tuning.specs.Word.{isClock}
 use Rattle.layouts.specs.declared.Layout.{Layout}
 use Rattle.layouts.specs.Layouts.{laid}
-use Rattle.items.specs.Settings.{isGain, isSize, allSerial, freshOf}
-use Rattle.items.specs.Items.{name, interfaceNumber, versionTable, statusByte, idle, run, stateBytes}
+use Rattle.items.specs.Settings.{isGain, isSize, allSerial}
+use Rattle.items.specs.Items.{nameBytes, interfaceNumber, versionTable, statusByte, idle, run, stateBytes}
 use Rattle.wishes.specs.declared.StateFields.{StateFields}
 use Rattle.wishes.specs.declared.Wish.{Wish}
 use Rattle.wishes.specs.declared.Wish.the-variants.{AskName, AskSerial, AskInterface, AskVersion, AskStatus, SetState, AskState, SetFrequency, AskFrequency, AskFrequencyRange, SetGain, AskGain, SetClock, AskClock, SetRate, AskRate, SetPacketSize, AskPacketSize}
@@ -32,10 +32,6 @@ pub record Awaited : Type 0 where
 
 abbrev pub value : ℕ → (ℕ → Bool) → (ℕ → Reply) → Awaited
 value width could says = record { width = width; could = could; says = says }
-
--- 0001 name: the same in every box
-abbrev pub nameBytes : List ℕ
-nameBytes = name .value (freshOf []) []
 
 -- 0002 serial: eight characters and a zero byte
 abbrev pub holdsSerial : ℕ → Bool
@@ -72,7 +68,7 @@ versionNumber id = number (getD versionTable id [])
 
 -- 00B8 rate: one of the 616 achieved rates
 abbrev pub isRate : ℕ → Bool
-isRate hz = ltb 0 (dOf hz)
+isRate hz = oneOf hz rates
 
 -- The table of replies. A set is answered with the value set, a request with any value that the item may have; a rate with
 -- the achieved rate of its D.

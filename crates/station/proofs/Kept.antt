@@ -1,13 +1,12 @@
 -- No message takes a setting out of its range, and a message that is not an accepted set leaves every setting.
 -- Assumes nothing.
 use Prim.Native.Nat.{ℕ}
-use mathlib.Core.Path.{_≡_, refl, _∙_}
-use mathlib.Core.Bool.{Bool, true, false, _&&_, _||_}
+use mathlib.Core.Path.{_≡_, refl}
+use mathlib.Core.Bool.{Bool, true, false, _&&_}
 use mathlib.Core.List.{List}
 use lib.Dec.{eqb, leb}
 use lib.ListN.{length, getD}
-use borrow.Author.Tests.{ne-eqb, eqb-true, not-false}
-use Rattle.wire.specs.Choice.{pick}
+use borrow.Author.Tests.{ne-eqb, eqb-true}
 use Rattle.wire.specs.Number.{field}
 use Rattle.wire.proofs.Laws.{and-left, and-right, and-not-left}
 use Rattle.rates.specs.Rate.{isD}
@@ -16,12 +15,13 @@ use Rattle.tuning.specs.Bands.{inBands}
 use Rattle.tuning.specs.Word.{isClock}
 use Rattle.packets.specs.Numbers.{most}
 use Rattle.items.specs.declared.Settings.{Settings}
-use Rattle.items.specs.Settings.{inRange, isMode, isGain, isSize, allSerial, isSerial, withRunning, withCount, withMode}
-use Rattle.items.specs.Items.{Item, items, frequency, gain, clock, rate, packetSize, stateAfter, mayState, runByte, modeByte, idle, run}
+use Rattle.items.specs.Settings.{inRange, isMode, isGain, isSize, allSerial, isSerial}
+use Rattle.items.specs.Items.{Item, items, frequency, gain, clock, rate, packetSize, mayState, runByte, modeByte, idle, run, state}
 use Rattle.wire.specs.Header.{typeSet}
-use Rattle.items.specs.Answer.{Message, itemIn, valueAllowed, codeOf, settingsAfter, row, parameters}
+use Rattle.items.specs.Answer.{Message, itemIn, codeOf, settingsAfter, row, parameters}
 use Rattle.items.proofs.Rows.{allHave, _then_, found}
-use Rattle.items.proofs.Judging.{passed}
+use Rattle.items.proofs.Judging.{has-value}
+use Rattle.items.proofs.States.{state-ways}
 
 -- every setting lies within its range, one by one
 pub record Ranges (s : Settings) : Type 0 where
@@ -71,19 +71,21 @@ in-range s r = rw (r .frequency, r .count, r .clock, r .divisor, r .mode, r .gai
 pub serial-long : (s : Settings) → inRange s ≡ true → length (s .serial) ≡ 8
 serial-long s h = eqb-true (length (s .serial)) 8 (and-left (eqb (length (s .serial)) 8) (allSerial (s .serial)) (ranges s h .serial))
 
+-- a state that may be set, and is not idle, has a mode
+has-mode : (p : List ℕ) → eqb (runByte p) idle ≡ false → mayState p ≡ true → isMode (modeByte p) ≡ true
+has-mode p i h = and-right (eqb (runByte p) run && eqb (getD p 0 0) 0x80) (isMode (modeByte p)) (rw i at h)
+
 -- ---- an item keeps every setting in its range
 
 abbrev Keeps : Item → Type 0
-Keeps i = (s : Settings) (p : List ℕ) → Ranges s → i .settable p ≡ true → Ranges (i .stored s p)
+Keeps i = (s : Settings) (p : List ℕ) → Ranges s → i .rule .settable p ≡ true → Ranges (i .rule .stored s p)
 
-state-keeps : (s : Settings) (p : List ℕ) → Ranges s → mayState p ≡ true → Ranges (stateAfter s p)
-state-keeps s p r h = go (eqb (runByte p) idle) (s .running) (eqb (runByte p) run) (eqb (getD p 0 0) 0x80) (isMode (modeByte p)) refl h
-  where
-    go : (i w n e m : Bool) → isMode (modeByte p) ≡ m → (i || (n && e && m)) ≡ true
-        → Ranges (pick i (withRunning false s) (pick w s (withCount 0 (withMode (modeByte p) (withRunning true s)))))
-    go true w n e m q t = record { frequency = r .frequency; count = r .count; clock = r .clock; divisor = r .divisor; mode = r .mode; gain = r .gain; size = r .size; serial = r .serial }
-    go false true n e m q t = r
-    go false false n e m q t = record { frequency = r .frequency; count = refl; clock = r .clock; divisor = r .divisor; mode = q ∙ and-right (n && e) m t; gain = r .gain; size = r .size; serial = r .serial }
+state-keeps : Keeps state
+state-keeps s p r h =
+    state-ways Ranges (runByte p) (modeByte p) s
+    (λ i. record { frequency = r .frequency; count = r .count; clock = r .clock; divisor = r .divisor; mode = r .mode; gain = r .gain; size = r .size; serial = r .serial })
+    (λ i w. r)
+    (λ i w. record { frequency = r .frequency; count = refl; clock = r .clock; divisor = r .divisor; mode = has-mode p i h; gain = r .gain; size = r .size; serial = r .serial })
 
 frequency-keeps : Keeps frequency
 frequency-keeps s p r h = record { frequency = h; count = r .count; clock = r .clock; divisor = r .divisor; mode = r .mode; gain = r .gain; size = r .size; serial = r .serial }
@@ -118,12 +120,6 @@ items-keep =
     then size-keeps
     then tt
 
--- an accepted set has a value that is allowed
-settable-if : (s : Settings) (m : Message) → codeOf s m ≡ 1 → eqb (m .type) typeSet ≡ true → row m .settable (parameters m) ≡ true
-settable-if s m h t =
-    let value : valueAllowed (row m) (m .type) (parameters m) ≡ true = not-false _ (passed s m h .1 .1 .1 .1 .1 .1 .1 .0) in
-    rw t at value
-
 -- ---- what a message does to the settings
 
 -- a message that is no accepted set leaves every setting
@@ -131,8 +127,8 @@ pub left-alone : (s : Settings) (m : Message) → (eqb (codeOf s m) 1 && eqb (m 
 unfolding settingsAfter
 left-alone s m h = rw h
 
-accepted-set : (s : Settings) (m : Message) → (eqb (codeOf s m) 1 && eqb (m .type) typeSet) ≡ true
-    → settingsAfter s m ≡ row m .stored s (parameters m)
+pub accepted-set : (s : Settings) (m : Message) → (eqb (codeOf s m) 1 && eqb (m .type) typeSet) ≡ true
+    → settingsAfter s m ≡ row m .rule .stored s (parameters m)
 unfolding settingsAfter
 accepted-set s m h = rw h
 
@@ -149,6 +145,6 @@ message-keeps s m h = go (eqb (codeOf s m) 1 && eqb (m .type) typeSet) refl
         rw (accepted-set s m q)
         (in-range _
         (found Keeps stays items-keep (itemIn m) s (parameters m) (ranges s h)
-        (settable-if s m (eqb-true (codeOf s m) 1 (and-left (eqb (codeOf s m) 1) (eqb (m .type) typeSet) q))
-        (and-right (eqb (codeOf s m) 1) (eqb (m .type) typeSet) q))))
+        (rw (and-right (eqb (codeOf s m) 1) (eqb (m .type) typeSet) q) at
+        (has-value s m (eqb-true (codeOf s m) 1 (and-left (eqb (codeOf s m) 1) (eqb (m .type) typeSet) q))))))
     go false q = rw (left-alone s m q) h

@@ -10,7 +10,8 @@ use lib.ListN.{length, take}
 use Rattle.wire.specs.Choice.{pick}
 use Rattle.wire.specs.Header.{lengthIn, typeIn}
 use Rattle.framing.specs.declared.Took.{Took}
-use Rattle.framing.specs.Framing.{Taking, headerIn, between, taken, tookOf, heldAfter}
+use Rattle.framing.specs.Framing.{Taking, headerIn, between, taken}
+use Rattle.framing.specs.Telling.{tookOf, heldAfter}
 use Rattle.framing.proofs.Cutting.{taken-unused, taken-long}
 use Rattle.framing.proofs.FirstTen.{held-opening}
 use Rattle.framing.proofs.Leaving.{left-zeros}

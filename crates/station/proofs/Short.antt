@@ -12,14 +12,14 @@ use Rattle.wire.specs.Choice.{pick}
 use Rattle.wire.specs.Header.{nak, typeRange, typeReply, typeRangeReply}
 use Rattle.items.specs.declared.Settings.{Settings}
 use Rattle.items.specs.Settings.{inRange}
-use Rattle.items.specs.Items.{Item, items, rowOf, versionTable}
+use Rattle.items.specs.Items.{echoes, Item, items, rowOf, versionTable}
 use Rattle.items.specs.Answer.{Message, itemIn, codeOf, settingsAfter, row, parameters, replyBody, rangeBody, framed, replyTo, replyOf}
 use Rattle.items.proofs.Rows.{allHave, _then_, found}
 use Rattle.station.proofs.Kept.{serial-long, message-keeps}
 
 -- an item's value and what it echoes are short
 abbrev Small : Item → Type 0
-Small i = (i .echoed ≤ 1) × ((s : Settings) (p : List ℕ) → length (s .serial) ≡ 8 → length (i .value s p) ≤ 9)
+Small i = (echoes (i .echoed) ≤ 1) × ((s : Settings) (p : List ℕ) → length (s .serial) ≡ 8 → length (i .rule .value s p) ≤ 9)
 
 version-small : (k : ℕ) → length (getD versionTable k []) ≤ 9
 version-small zero = lit≤ tt
@@ -57,7 +57,7 @@ reply-small i kind s p h l = go (eqb kind typeRange)
   where
     go : (b : Bool) → length (pick b (framed typeRangeReply (rangeBody i p)) (framed typeReply (replyBody i s p))) ≤ 64
     go true = simp length-append (omega (arith, echo-small 1 p (le-refl 1)))
-    go false = simp length-append (omega (arith, echo-small (i .echoed) p (h .0), h .1 s p l))
+    go false = simp length-append (omega (arith, echo-small (echoes (i .echoed)) p (h .0), h .1 s p l))
 
 pub reply-short : (s : Settings) (m : Message) → inRange s ≡ true → length (replyOf s m) ≤ 64
 unfolding replyOf

@@ -2,10 +2,17 @@
 -- the replies are noted in order. "Cutting claims hold for a valid box and reply buffers of 64 bytes or more, calling
 -- again until the bytes are used up."
 use Prim.Native.Nat.{ℕ, zero, suc, _≤_}
+use mathlib.Core.Path.{_≡_}
+use mathlib.Core.Bool.{true}
 use mathlib.Core.List.{List, [], _∷_, _++_}
 use lib.ListN.{length, drop}
+use Rattle.framing.specs.declared.Store.{Store}
+use Rattle.framing.specs.Stream.{Stream, eaten}
+use Rattle.items.specs.declared.Settings.{Settings}
+use Rattle.items.specs.Answer.{replyOf, settingsAfter}
 use Rattle.station.specs.declared.Station.{Station}
-use Rattle.station.specs.Feeding.{feedingOf}
+use Rattle.station.specs.Station.{valid}
+use Rattle.station.specs.Feeding.{messageIn, feedingOf}
 
 -- the box after some calls, and the replies that they wrote
 pub record Served : Type 0 where
@@ -56,3 +63,35 @@ joined (p ∷ ps) = p .host ++ joined ps
 abbrev pub roomy : List Piece → Type 0
 roomy [] = Unit {0}
 roomy (p ∷ ps) = ((calls : ℕ) → 64 ≤ p .rooms calls) × roomy ps
+
+-- "Cutting the host's bytes differently gives the same replies and settings."
+abbrev pub CutsDoNotMatter : Type 0
+CutsDoNotMatter =
+    (s : Station) (ps qs : List Piece) → valid s ≡ true → roomy ps → roomy qs → joined ps ≡ joined qs
+    → serving (unserved s) ps ≡ serving (unserved s) qs
+
+-- ---- the same without calls: the host's bytes one by one, each message answered when its last byte is taken
+
+-- what the finished messages have led to
+pub record Come : Type 0 where
+  pub settings : Settings
+  pub replies : List (List ℕ)
+
+abbrev pub answer : Come → Store → Come
+answer x t =
+    record {
+      settings = settingsAfter (x .settings) (messageIn t);
+      replies = noting (x .replies) (replyOf (x .settings) (messageIn t));
+    }
+
+abbrev pub begun : Station → Stream Come
+begun s = record { store = s .store; state = record { settings = s .settings; replies = [] } }
+
+abbrev pub come : Stream Come → Served
+come r = record { station = record { settings = r .state .settings; store = r .store }; replies = r .state .replies }
+
+-- So "the bytes are used up": all of them are served, however they are cut.
+abbrev pub ServedToTheEnd : Type 0
+ServedToTheEnd =
+    (s : Station) (ps : List Piece) → valid s ≡ true → roomy ps
+    → serving (unserved s) ps ≡ come (eaten answer (begun s) (joined ps))

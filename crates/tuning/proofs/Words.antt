@@ -1,18 +1,17 @@
 -- The tuning word is the nearest whole number to n x 2^32 / clock, halves up; and what is answered in each case.
 use Prim.Native.Nat.{ℕ, _+_, _*_, _-_, _^_, _≤_, _<_}
 use mathlib.Core.Path.{_≡_, refl}
-use mathlib.Core.Bool.{Bool, true, false, _&&_, not}
-use mathlib.Core.List.{[], _∷_}
+use mathlib.Core.Bool.{Bool, true, false}
 use native.Mathlib.Nat.{div-lt-iff-lt-mul}
 use native.Mathlib.Omega.{arith}
 use lib.Dec.{eqb}
 use lib.ListN.{getD}
-use Rattle.wire.specs.Choice.{pick, check, firstOf, within}
+use Rattle.wire.specs.Choice.{pick, within}
 use Rattle.wire.specs.Halves.{halvesUp, NearestUp}
 use Rattle.wire.proofs.Halves.{half-up}
-use Rattle.wire.proofs.Laws.{and-not-right, true-not-false, within-low}
+use Rattle.wire.proofs.Laws.{and-not-right, within-low}
 use Rattle.tuning.specs.Bands.{inBands}
-use Rattle.wire.specs.Told.{Told, tells}
+use Rattle.wire.specs.Told.{Told}
 use Rattle.tuning.specs.Word.{offsetOf, wordOf, isClock, told, wordTold}
 use Rattle.tuning.specs.declared.word.Word.{Word}
 use Rattle.tuning.specs.declared.word.Word.the-variants.{Is, NotAllowed}
@@ -38,15 +37,9 @@ word-fits n clock small fast =
 -- ---- what is answered, case by case
 
 -- no frequency of a band, or no clock: 16
-told-refused : (band clock : Bool) (w : ℕ) → band && clock ≡ false
-    → told NotAllowed ≡ tells (firstOf (check 16 (not band) ∷ check 16 (not clock) ∷ []) 1) (w ∷ [])
-told-refused true true w e = absurd (true-not-false e)
-told-refused true false w e = refl
-told-refused false clock w e = refl
-
 module _ (hz clock : ℕ) where
   pub no-clock : isClock clock ≡ false → told NotAllowed ≡ wordTold hz clock
-  no-clock c = told-refused (inBands hz) (isClock clock) (wordOf hz clock) (and-not-right (inBands hz) (isClock clock) c)
+  no-clock c = rw (and-not-right (inBands hz) (isClock clock) c)
 
   pub no-band : inFirst hz ≡ false → inSecond hz ≡ false → told NotAllowed ≡ wordTold hz clock
   no-band one two = rw (one, two)

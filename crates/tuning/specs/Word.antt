@@ -1,8 +1,8 @@
 -- Tuning word (house): "The offset n is the frequency, or 160,000,000 less the frequency in the second band. The word is
 -- n x 2^32 / clock to the nearest whole number, halves up; it is worked out when asked."
 use Prim.Native.Nat.{ℕ, _*_, _-_, _^_}
-use mathlib.Core.Bool.{Bool, not}
-use mathlib.Core.List.{List, [], _∷_}
+use mathlib.Core.Bool.{Bool, _&&_, not}
+use mathlib.Core.List.{[], _∷_}
 use lib.Dec.{eqb}
 use Rattle.wire.specs.Choice.{pick, check, firstOf, firstRow, within}
 use Rattle.wire.specs.Codes as Code
@@ -35,7 +35,7 @@ told NotAllowed = record { code = Code.valueNotAllowed; values = [] }
 
 -- "value not allowed": the frequency lies in no band, or the clock is none that may be set
 abbrev pub wordCode : ℕ → ℕ → ℕ
-wordCode hz clock = firstOf (check Code.valueNotAllowed (not (inBands hz)) ∷ check Code.valueNotAllowed (not (isClock clock)) ∷ []) Code.done
+wordCode hz clock = firstOf (check Code.valueNotAllowed (not (inBands hz && isClock clock)) ∷ []) Code.done
 
 -- what asking for the word of a frequency at a clock tells
 abbrev pub wordTold : ℕ → ℕ → Told

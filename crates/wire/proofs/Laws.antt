@@ -1,12 +1,14 @@
 -- What closes the returns of a function whose definition has its tests, and laws that take a test apart.
 use Prim.Native.Nat.{ℕ, _≤_, _<_}
-use mathlib.Core.Path.{_≡_, refl, sym, ap}
+use mathlib.Core.Path.{_≡_, refl, sym, ap, subst}
 use mathlib.Core.Bool.{Bool, true, false, _&&_, _||_}
 use native.Mathlib.Omega.{arith}
-use lib.Dec.{T, leb}
+use mathlib.Core.List.{List, [], _∷_}
+use mathlib.Core.Logic.{_⊎_, inl, inr}
+use lib.Dec.{T, eqb, leb}
 use borrow.Author.Needs.{needs}
-use borrow.Author.Tests.{lt-ltb, le-ltb, le-leb, lt-leb, eq-eqb, ne-eqb, leb-true}
-use Rattle.wire.specs.Choice.{pick, within}
+use borrow.Author.Tests.{lt-ltb, le-ltb, le-leb, lt-leb, eq-eqb, ne-eqb, eqb-true, leb-true}
+use Rattle.wire.specs.Choice.{pick, oneOf, within}
 
 -- each test of a definition is decided by a branch that was taken or left
 pub ruleset cases = (needs, lt-ltb, le-ltb, le-leb, lt-leb, eq-eqb, ne-eqb)
@@ -111,6 +113,34 @@ module _ {X : Type 0} where
 pub pick-ap : {X Y : Type 0} (f : X → Y) (t : Bool) (x y : X) → f (pick t x y) ≡ pick t (f x) (f y)
 pick-ap f true x y = refl
 pick-ap f false x y = refl
+
+-- ---- splitting
+
+-- a test splits
+pub by-test : {P : Type 0} (t : Bool) → (t ≡ true → P) → (t ≡ false → P) → P
+by-test true held failed = held refl
+by-test false held failed = failed refl
+
+-- of two tests one holds
+pub by-or : {P : Type 0} (a b : Bool) → (a ≡ true → P) → (b ≡ true → P) → a || b ≡ true → P
+by-or true b first second e = first refl
+by-or false b first second e = second e
+
+-- ---- `oneOf`
+
+-- what each of a list has, one of it has
+abbrev pub each : (ℕ → Type 0) → List ℕ → Type 0
+each P [] = Unit {0}
+each P (m ∷ ms) = P m × each P ms
+
+pub one-has : (P : ℕ → Type 0) (n : ℕ) (ms : List ℕ) → each P ms → oneOf n ms ≡ true → P n
+one-has P n [] h e = never e
+one-has P n (m ∷ ms) h e =
+    by-or (eqb n m) (oneOf n ms) (λ (same : eqb n m ≡ true). subst P (sym (eqb-true n m same)) (h .0)) (one-has P n ms (h .1)) e
+
+-- one of two
+pub one-of-two : (n a b : ℕ) → oneOf n (a ∷ b ∷ []) ≡ true → (n ≡ a) ⊎ (n ≡ b)
+one-of-two n a b = by-or (eqb n a) _ (λ e. inl (eqb-true n a e)) (by-or (eqb n b) false (λ e. inr (eqb-true n b e)) never)
 
 -- ---- `within`
 

@@ -1,16 +1,17 @@
 -- What is known of an allowed value: that it fits its field, and, of a state, which ones there are.
-use Prim.Native.Nat.{ℕ, zero, suc, _≤_, _<_}
-use mathlib.Core.Path.{_≡_, refl, sym, subst}
-use mathlib.Core.Bool.{Bool, true, false, _&&_, _||_}
+use Prim.Native.Nat.{ℕ, suc, _-_, _≤_, _<_}
+use mathlib.Core.Path.{_≡_, refl, sym, ap, subst, _∙_}
+use mathlib.Core.Bool.{true, false, _&&_}
 use mathlib.Core.List.{List, [], _∷_, map}
 use native.Mathlib.Omega.{arith}
-use lib.Dec.{eqb, ltb, lit<}
-use lib.ListN.{getD}
+use lib.Dec.{eqb, leb, lit≤}
+use lib.IntN.{ℤ, pos, negsuc}
+use lib.Signed.{mag}
 use denote.Enum.Declared.{tagOf}
-use borrow.Author.Tests.{eqb-true, leb-true, ltb-true}
+use borrow.Author.Tests.{eqb-true, eqb-false, eq-eqb, ne-eqb, lt-ltb, le-ltb, leb-true, leb-false}
 use Rattle.wire.specs.Choice.{within, oneOf}
-use Rattle.wire.specs.Signed.{coded}
-use Rattle.wire.proofs.Laws.{true-not-false, and-left, and-right, within-high}
+use Rattle.wire.specs.Signed.{coded, sameInteger}
+use Rattle.wire.proofs.Laws.{true-not-false, never, and-left, and-right, within-high, by-test, by-or, one-has}
 use Rattle.tuning.specs.Bands.{inBands}
 use Rattle.items.specs.Settings.{gains, isGain, isMode}
 use Rattle.wishes.proofs.Wish.{the-type}
@@ -18,26 +19,6 @@ use Rattle.wishes.specs.declared.StateFields.{StateFields}
 use Rattle.wishes.specs.declared.Wish.{Wish}
 use Rattle.wishes.specs.declared.Wish.the-variants.{AskName, AskSerial, AskInterface, AskVersion, AskStatus, SetState, AskState, SetFrequency, AskFrequency, AskFrequencyRange, SetGain, AskGain, SetClock, AskClock, SetRate, AskRate, SetPacketSize, AskPacketSize}
 use Rattle.wishes.specs.Wishes.{Fits, allowed}
-
--- a test splits
-pub by-test : {P : Type 0} (t : Bool) → (t ≡ true → P) → (t ≡ false → P) → P
-by-test true held failed = held refl
-by-test false held failed = failed refl
-
--- of two tests one holds
-pub by-or : {P : Type 0} (a b : Bool) → (a ≡ true → P) → (b ≡ true → P) → a || b ≡ true → P
-by-or true b first second e = first refl
-by-or false b first second e = second e
-
--- what each of a list has, one of it has
-abbrev pub each : (ℕ → Type 0) → List ℕ → Type 0
-each P [] = Unit {0}
-each P (m ∷ ms) = P m × each P ms
-
-pub one-has : (P : ℕ → Type 0) (n : ℕ) (ms : List ℕ) → each P ms → oneOf n ms ≡ true → P n
-one-has P n [] h e = absurd (true-not-false (sym e))
-one-has P n (m ∷ ms) h e =
-    by-or (eqb n m) (oneOf n ms) (λ (same : eqb n m ≡ true). subst P (sym (eqb-true n m same)) (h .0)) (one-has P n ms (h .1)) e
 
 pub bands-high : (hz : ℕ) → inBands hz ≡ true → hz ≤ 150_000_000
 bands-high hz =
@@ -57,15 +38,42 @@ state-has P idle wide narrow f =
     subst (λ (r : ℕ). P (record { run = r; mode = f .mode })) (sym (eqb-true (f .run) 2 (and-left (eqb (f .run) 2) (isMode (f .mode)) is)))
     (one-has (λ (m : ℕ). P (record { run = 2; mode = m })) (f .mode) (0x80 ∷ 0x00 ∷ []) (wide, (narrow, tt)) (and-right (eqb (f .run) 2) (isMode (f .mode)) is)))
 
--- a list of bytes that can be looked at
-abbrev allBytes : List ℕ → Bool
-allBytes [] = true
-allBytes (b ∷ bs) = ltb b 256 && allBytes bs
+-- the ids of versions
+pub version-test : (id : ℕ) → leb id 3 ≡ allowed (AskVersion id)
+version-test id =
+    by-test (leb id 3) (λ low. low ∙ sym (lt-ltb id 4 (omega (arith, leb-true id 3 low))))
+    (λ high. high ∙ sym (le-ltb id 4 (leb-false id 3 high)))
 
-small-bytes : (l : List ℕ) → allBytes l ≡ true → (k : ℕ) → getD l k 0 < 256
-small-bytes [] e k = lit< tt
-small-bytes (b ∷ l) e zero = ltb-true b 256 (and-left (ltb b 256) (allBytes l) e)
-small-bytes (b ∷ l) e (suc k) = small-bytes l (and-right (ltb b 256) (allBytes l) e) k
+-- ---- gains
+
+integer-eq : (x y : ℤ) → sameInteger x y ≡ true → x ≡ y
+integer-eq (pos a) (pos b) e = ap pos (eqb-true a b e)
+integer-eq (pos a) (negsuc b) e = never e
+integer-eq (negsuc a) (pos b) e = never e
+integer-eq (negsuc a) (negsuc b) e = ap negsuc (eqb-true a b e)
+
+-- what 0, -10, -20 and -30 have, every gain has
+pub gain-has : (P : ℤ → Type 0) → P (pos 0) → P (negsuc 9) → P (negsuc 19) → P (negsuc 29) → (g : ℤ) → allowed (SetGain g) ≡ true → P g
+gain-has P a b c d g =
+    let at : (z : ℤ) → P z → sameInteger g z ≡ true → P g = λ z h e. subst P (sym (integer-eq g z e)) h in
+    by-or (sameInteger g (pos 0)) _ (at (pos 0) a)
+    (by-or (sameInteger g (negsuc 9)) _ (at (negsuc 9) b)
+    (by-or (sameInteger g (negsuc 19)) _ (at (negsuc 19) c)
+    (by-or (sameInteger g (negsuc 29)) false (at (negsuc 29) d) never)))
+
+-- the bits of a negative number are those of -n - 1 exactly where it is
+bits-of : (n k : ℕ) → n < 128 → k < 128 → eqb (256 - suc n) (256 - suc k) ≡ eqb n k
+bits-of n k small less =
+    by-test (eqb n k) (λ same. eq-eqb (256 - suc n) (256 - suc k) (omega (arith, eqb-true n k same)) ∙ sym same)
+    (λ other. ne-eqb (256 - suc n) (256 - suc k) (λ is. eqb-false n k other (omega arith)) ∙ sym other)
+
+-- a signed byte is a gain exactly where its bits are a gain's
+pub gain-bits : (g : ℤ) → mag g < 128 → isGain (coded 8 g) ≡ allowed (SetGain g)
+gain-bits (pos n) small =
+    rw (ne-eqb n 246 (λ is. omega arith), ne-eqb n 236 (λ is. omega arith), ne-eqb n 226 (λ is. omega arith)) refl
+gain-bits (negsuc n) small =
+    rw (ne-eqb (256 - suc n) 0 (λ is. omega arith), bits-of n 9 small (omega arith), bits-of n 19 small (omega arith), bits-of n 29 small (omega arith))
+    refl
 
 -- an allowed value fits its field
 pub value-fits : (w : Wish) → allowed w ≡ true → Fits w
@@ -74,18 +82,18 @@ value-fits AskSerial e = omega arith
 value-fits AskInterface e = omega arith
 value-fits (AskVersion id) e = omega arith
 value-fits AskStatus e = omega arith
-value-fits (SetState f) e = state-has (λ f. Fits (SetState f)) (λ m. small-bytes (0x00 ∷ 0x01 ∷ 0x00 ∷ 0x00 ∷ []) refl) (small-bytes (0x80 ∷ 0x02 ∷ 0x80 ∷ 0x00 ∷ []) refl) (small-bytes (0x80 ∷ 0x02 ∷ 0x00 ∷ 0x00 ∷ []) refl) f e
+value-fits (SetState f) e = state-has (λ f. Fits (SetState f)) (λ m. search lit≤ depth 20) (search lit≤ depth 20) (search lit≤ depth 20) f e
 value-fits AskState e = omega arith
 value-fits (SetFrequency hz) e = omega (arith, bands-high hz e)
 value-fits AskFrequency e = omega arith
 value-fits AskFrequencyRange e = omega arith
-value-fits (SetGain g) e = omega (arith, gain-below (coded 8 g) e)
+value-fits (SetGain g) e = (omega arith, gain-has (λ g. mag g < 128) (omega arith) (omega arith) (omega arith) (omega arith) g e)
 value-fits AskGain e = omega arith
 value-fits (SetClock hz) e = omega (arith, within-high 79_992_000 80_008_000 hz e)
 value-fits AskClock e = omega arith
 value-fits (SetRate hz) e = omega (arith, within-high 32_000 2_000_000 hz e)
 value-fits AskRate e = omega arith
-value-fits (SetPacketSize n) e = omega (arith, leb-true n 1 e)
+value-fits (SetPacketSize n) e = one-has (λ n. n < 256) n (0 ∷ 1 ∷ []) (omega arith, (omega arith, tt)) e
 value-fits AskPacketSize e = omega arith
 
 -- the wishes that hold no value, by their place in the enum, are always allowed

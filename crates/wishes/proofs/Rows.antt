@@ -1,15 +1,17 @@
 -- Wishes case by case, and by their rows.
 use Prim.Native.Nat.{ℕ, _+_, _≤_}
+use mathlib.Core.Path.{_≡_, refl}
+use mathlib.Core.List.{map}
 use lib.Dec.{eqb, lit≤}
 use lib.IntN.{ℤ}
 use Rattle.wire.specs.Choice.{pick}
 use Rattle.layouts.specs.Layouts.{sizeOf}
-use Rattle.items.specs.Items.{Item, name, serial, interface, versions, status, state, frequency, gain, clock, rate, packetSize}
+use Rattle.items.specs.Items.{echoes, Item, items, name, serial, interface, versions, status, state, frequency, gain, clock, rate, packetSize}
 use Rattle.items.specs.Table.{offered}
 use Rattle.wishes.specs.declared.StateFields.{StateFields}
 use Rattle.wishes.specs.declared.Wish.{Wish}
 use Rattle.wishes.specs.declared.Wish.the-variants.{AskName, AskSerial, AskInterface, AskVersion, AskStatus, SetState, AskState, SetFrequency, AskFrequency, AskFrequencyRange, SetGain, AskGain, SetClock, AskClock, SetRate, AskRate, SetPacketSize, AskPacketSize}
-use Rattle.wishes.specs.Wishes.{asking, widthIn, layoutOf}
+use Rattle.wishes.specs.Wishes.{asking, cellsIn, eachWish, cellAsked, widthIn, layoutOf}
 
 -- what is shown of each case holds of every wish
 pub by-wish : (P : Wish → Type 0) → P AskName → P AskSerial → P AskInterface → ((id : ℕ) → P (AskVersion id)) → P AskStatus
@@ -45,5 +47,10 @@ of-row P a b c d e f g h i j k l m n o p q r =
 -- no message is longer than ten bytes
 pub short-message : (w : Wish) → sizeOf (layoutOf w) ≤ 10
 short-message =
-    of-row (λ i k. pick (eqb (i .echoed) 1) 5 4 + widthIn i (offered i k) ≤ 10)
+    of-row (λ i k. pick (eqb (echoes (i .echoed)) 1) 5 4 + widthIn i (offered i k) ≤ 10)
     (lit≤ tt) (lit≤ tt) (lit≤ tt) (lit≤ tt) (lit≤ tt) (lit≤ tt) (lit≤ tt) (lit≤ tt) (lit≤ tt) (lit≤ tt) (lit≤ tt) (lit≤ tt) (lit≤ tt) (lit≤ tt) (lit≤ tt) (lit≤ tt) (lit≤ tt) (lit≤ tt)
+
+-- "One wish for each kind and item above."
+pub one-for-each : (id : ℕ) (state : StateFields) (hz : ℕ) (gain : ℤ) (clock rate size : ℕ)
+    → map cellAsked (eachWish id state hz gain clock rate size) ≡ cellsIn items
+one-for-each id state hz gain clock rate size = refl

@@ -6,11 +6,15 @@ use mathlib.Core.Bool.{Bool, true, false, not, _&&_, _||_}
 use mathlib.Core.List.{List, [], _∷_, _++_}
 use mathlib.Core.Logic.{_↔_}
 use native.Mathlib.Nat.{mod-eq-of-lt}
+use native.Mathlib.Omega.{arith}
 use lib.Dec.{eqb, ltb}
 use borrow.Author.Tests.{eqb-false}
 use lib.ListN.{getD, replicate}
 use Rattle.wire.specs.Choice.{pick, check, firstOf}
+use Rattle.wire.specs.Lists.{allBytes}
 use Rattle.wire.specs.Number.{number, bytes}
+use Rattle.wire.proofs.Lists.{byte-at}
+use Rattle.wire.proofs.Signed.{coded-below}
 use Rattle.wire.specs.Header.{typeSet}
 use Rattle.wire.proofs.Numbers.{bytes-number, number-bytes}
 use Rattle.rates.specs.Rate.{mayAsk, nearestOf}
@@ -27,7 +31,7 @@ use Rattle.wishes.specs.Wishes.{asking, Fits, allowed, granted, notNow, 
 use Rattle.wishes.specs.Writing.{writeCode}
 use Rattle.wishes.proofs.Rows.{by-wish, of-row}
 use Rattle.wishes.proofs.Answers.{code-not-allowed}
-use Rattle.wishes.proofs.Allowed.{state-has, value-fits}
+use Rattle.wishes.proofs.Allowed.{state-has, gain-bits, value-fits}
 
 -- the value that the box reads in a wish's message is allowed
 abbrev valueTaken : Wish → Bool
@@ -39,10 +43,10 @@ unfolding codeOf rowOf listed messageOf
 checked = by-wish (λ w. (s : Settings) → codeOf s (asMessage w) ≡ firstOf (check 16 (not (valueTaken w)) ∷ check 17 (notNow w s) ∷ []) 1) (λ s. refl) (λ s. refl) (λ s. refl) (λ id s. refl) (λ s. refl) (λ f s. refl) (λ s. refl) (λ hz s. refl) (λ s. refl) (λ s. refl) (λ g s. refl) (λ s. refl) (λ hz s. refl) (λ s. refl) (λ hz s. refl) (λ s. refl) (λ n s. refl) (λ s. refl)
 
 -- a state's bytes come back
-run-same : (r m : ℕ) → ((k : ℕ) → getD (0x80 ∷ r ∷ m ∷ 0x00 ∷ []) k 0 < 256)
+run-same : (r m : ℕ) → allBytes (0x80 ∷ r ∷ m ∷ 0x00 ∷ [])
     → mayState (bytes 4 (number (0x80 ∷ r ∷ m ∷ 0x00 ∷ [])) ++ replicate 56 0) ≡ eqb r idle || (eqb r run && isMode m)
 run-same r m fits =
-    ap (λ (l : List ℕ). mayState (l ++ replicate 56 0)) (bytes-number (0x80 ∷ r ∷ m ∷ 0x00 ∷ []) fits) ∙ tests (eqb r idle) (eqb r run) (isMode m)
+    ap (λ (l : List ℕ). mayState (l ++ replicate 56 0)) (bytes-number (0x80 ∷ r ∷ m ∷ 0x00 ∷ []) (byte-at (0x80 ∷ r ∷ m ∷ 0x00 ∷ []) fits)) ∙ tests (eqb r idle) (eqb r run) (isMode m)
   where
     tests : (a b c : Bool) → a || (b && true && c) ≡ a || (b && c)
     tests a true c = refl
@@ -54,7 +58,7 @@ state-same f fits = go (eqb (f .run) idle) refl
   where
     go : (t : Bool) → eqb (f .run) idle ≡ t → valueTaken (SetState f) ≡ allowed (SetState f)
     go true q = rw q refl
-    go false q = rw q (rw q at (run-same (f .run) (f .mode) (rw q at fits)))
+    go false q = rw q (rw q at (run-same (f .run) (f .mode) ((rw q at fits) .1)))
 
 -- a value that fits its field is allowed by the box exactly where the writer allows it
 value-same : (w : Wish) → Fits w → valueTaken w ≡ allowed w
@@ -69,7 +73,7 @@ value-same AskState fits = refl
 value-same (SetFrequency hz) fits = ap inBands (number-bytes 5 hz fits)
 value-same AskFrequency fits = refl
 value-same AskFrequencyRange fits = refl
-value-same (SetGain g) fits = ap isGain (mod-eq-of-lt fits)
+value-same (SetGain g) fits = ap isGain (mod-eq-of-lt (coded-below 8 g (omega arith) (fits .1))) ∙ gain-bits g (fits .1)
 value-same AskGain fits = refl
 value-same (SetClock hz) fits = ap isClock (number-bytes 4 hz fits)
 value-same AskClock fits = refl
@@ -116,7 +120,7 @@ row-of-wish = of-row (λ i k. rowOf (number (bytes 2 (i .code))) ≡ i) refl ref
 
 -- the settings that a taken message leaves
 abbrev taken : Wish → Settings → Settings
-taken w s = pick (eqb (asking w .kind) typeSet) (asking w .item .stored s (parameters (asMessage w))) s
+taken w s = pick (eqb (asking w .kind) typeSet) (asking w .item .rule .stored s (parameters (asMessage w))) s
 
 -- they are those that the wish means
 taken-granted : (w : Wish) (s : Settings) → allowed w ≡ true → taken w s ≡ granted w s
@@ -131,7 +135,7 @@ taken-granted AskState s e = refl
 taken-granted (SetFrequency hz) s e = ap (λ (n : ℕ). withFrequency n s) (number-bytes 5 hz (value-fits (SetFrequency hz) e))
 taken-granted AskFrequency s e = refl
 taken-granted AskFrequencyRange s e = refl
-taken-granted (SetGain g) s e = ap (λ (n : ℕ). withGain n s) (mod-eq-of-lt (value-fits (SetGain g) e))
+taken-granted (SetGain g) s e = ap (λ (n : ℕ). withGain n s) (mod-eq-of-lt (coded-below 8 g (omega arith) (value-fits (SetGain g) e .1)))
 taken-granted AskGain s e = refl
 taken-granted (SetClock hz) s e = ap (λ (n : ℕ). withClock n s) (number-bytes 4 hz (value-fits (SetClock hz) e))
 taken-granted AskClock s e = refl
@@ -145,6 +149,6 @@ pub settings-of-wish : (w : Wish) (s : Settings) → allowed w ≡ true → sett
 unfolding settingsAfter
 settings-of-wish w s e = rw (code-of-wish w s e, row-of-wish w) (by (notNow w s))
   where
-    by : (t : Bool) → pick (eqb (pick t 17 1) 1 && eqb (asking w .kind) typeSet) (asking w .item .stored s (parameters (asMessage w))) s ≡ pick t s (granted w s)
+    by : (t : Bool) → pick (eqb (pick t 17 1) 1 && eqb (asking w .kind) typeSet) (asking w .item .rule .stored s (parameters (asMessage w))) s ≡ pick t s (granted w s)
     by true = refl
     by false = taken-granted w s e

@@ -1,12 +1,15 @@
 -- Harvester's wishes: "One wish for each kind and item above, channel byte 00."
-use Prim.Native.Nat.{ℕ, _+_, _-_, _^_, _<_}
+use Prim.Native.Nat.{ℕ, _+_, _-_, _^_, _≤_, _<_}
 use mathlib.Core.Bool.{Bool, true, false, _&&_, _||_}
 use mathlib.Core.List.{List, [], _∷_, _++_}
 use lib.Dec.{eqb}
-use lib.ListN.{length, getD, replicate}
-use Rattle.wire.specs.Choice.{pick}
+use lib.IntN.{ℤ}
+use lib.ListN.{length, replicate}
+use lib.Signed.{mag}
+use Rattle.wire.specs.Choice.{pick, anyOf}
+use Rattle.wire.specs.Lists.{allBytes}
 use Rattle.wire.specs.Number.{number}
-use Rattle.wire.specs.Signed.{coded}
+use Rattle.wire.specs.Signed.{coded, sameInteger}
 use Rattle.wire.specs.Header.{typeSet, typeRequest, typeRange}
 use Rattle.rates.specs.Rate.{mayAsk, nearestOf}
 use Rattle.tuning.specs.Bands.{inBands}
@@ -14,28 +17,31 @@ use Rattle.tuning.specs.Word.{isClock}
 use Rattle.layouts.specs.declared.Layout.{Layout}
 use Rattle.layouts.specs.Layouts.{parametersOf, laid}
 use Rattle.items.specs.declared.Settings.{Settings}
-use Rattle.items.specs.Settings.{isGain, isMode, isSize, withFrequency, withClock, withDivisor, withGain, withSize}
-use Rattle.items.specs.Items.{Offer, total, dash, Item, name, serial, interface, versions, status, state, frequency, gain, clock, rate, packetSize, idle, run, isVersion, stateTo}
+use Rattle.items.specs.Settings.{gains, isMode, isSize, withFrequency, withClock, withDivisor, withGain, withSize}
+use Rattle.items.specs.Items.{echoes, Offer, total, dash, Item, name, serial, interface, versions, status, state, frequency, gain, clock, rate, packetSize, idle, run, isVersion, stateTo}
 use Rattle.items.specs.Table.{offered}
 use Rattle.items.specs.Answer.{Message, refusedRunning}
 use Rattle.wishes.specs.declared.StateFields.{StateFields}
 use Rattle.wishes.specs.declared.Wish.{Wish}
 use Rattle.wishes.specs.declared.Wish.the-variants.{AskName, AskSerial, AskInterface, AskVersion, AskStatus, SetState, AskState, SetFrequency, AskFrequency, AskFrequencyRange, SetGain, AskGain, SetClock, AskClock, SetRate, AskRate, SetPacketSize, AskPacketSize}
 
--- A value as it is sent: a number, least significant byte first, or byte after byte.
+-- A value as it is sent: a number, least significant byte first; a signed byte; or byte after byte.
 pub data Value : Type 0 where
   whole : ℕ → Value
+  signedByte : ℤ → Value
   inBytes : List ℕ → Value
 
 -- as one number
 abbrev pub sent : Value → ℕ
 sent (whole n) = n
+sent (signedByte z) = coded 8 z
 sent (inBytes l) = number l
 
--- a field of so many bytes holds all of it
+-- a field of so many bytes holds all of it. (`mag` is z where z is not negative, and -z - 1 where it is.)
 abbrev pub fitsIn : ℕ → Value → Type 0
 fitsIn width (whole n) = n < 256 ^ width
-fitsIn width (inBytes l) = (k : ℕ) → getD l k 0 < 256
+fitsIn width (signedByte z) = (1 ≤ width) × (mag z < 128)
+fitsIn width (inBytes l) = (length l ≤ width) × allBytes l
 
 -- What a wish asks for: an item of the table, the kind, the channel byte or id, which comes first where the item has one,
 -- and the value.
@@ -73,7 +79,7 @@ asking AskState = request state
 asking (SetFrequency hz) = setting frequency (whole hz)
 asking AskFrequency = request frequency
 asking AskFrequencyRange = record { item = frequency; kind = typeRange; echo = channel; value = whole 0 }
-asking (SetGain g) = setting gain (whole (coded 8 g))
+asking (SetGain g) = setting gain (signedByte g)
 asking AskGain = request gain
 asking (SetClock hz) = setting clock (whole hz)
 asking AskClock = request clock
@@ -82,9 +88,52 @@ asking AskRate = request rate
 asking (SetPacketSize n) = setting packetSize (whole n)
 asking AskPacketSize = request packetSize
 
+-- "One wish for each kind and item above": the cells of the table that are no dash, and a wish of each case, whatever it
+-- holds. (`one-for-each`, in the proofs: they are the same, in the table's order.)
+pub record Cell : Type 0 where
+  pub code : ℕ
+  pub kind : ℕ
+
+abbrev pub cellOf : ℕ → ℕ → Offer → List Cell
+cellOf code kind (total n) = record { code = code; kind = kind } ∷ []
+cellOf code kind dash = []
+
+abbrev pub cellsIn : List Item → List Cell
+cellsIn [] = []
+cellsIn (i ∷ is) =
+    cellOf (i .code) typeSet (i .set)
+    ++ cellOf (i .code) typeRequest (i .request)
+    ++ cellOf (i .code) typeRange (i .range)
+    ++ cellsIn is
+
+abbrev pub eachWish : ℕ → StateFields → ℕ → ℤ → ℕ → ℕ → ℕ → List Wish
+eachWish id state hz gain clock rate size =
+    AskName
+    ∷ AskSerial
+    ∷ AskInterface
+    ∷ AskVersion id
+    ∷ AskStatus
+    ∷ SetState state
+    ∷ AskState
+    ∷ SetFrequency hz
+    ∷ AskFrequency
+    ∷ AskFrequencyRange
+    ∷ SetGain gain
+    ∷ AskGain
+    ∷ SetClock clock
+    ∷ AskClock
+    ∷ SetRate rate
+    ∷ AskRate
+    ∷ SetPacketSize size
+    ∷ AskPacketSize
+    ∷ []
+
+abbrev pub cellAsked : Wish → Cell
+cellAsked w = record { code = asking w .item .code; kind = asking w .kind }
+
 -- "Lengths are totals": header and item code are four bytes, then comes the echoed byte, and the rest is the value
 abbrev pub widthIn : Item → Offer → ℕ
-widthIn i (total n) = n - (4 + i .echoed)
+widthIn i (total n) = n - (4 + echoes (i .echoed))
 widthIn i dash = 0
 
 -- the row as it is laid out
@@ -93,7 +142,7 @@ layoutOf w =
     record {
       kind = asking w .kind;
       item = asking w .item .code;
-      echoed = eqb (asking w .item .echoed) 1;
+      echoed = eqb (echoes (asking w .item .echoed)) 1;
       echo = asking w .echo;
       width = widthIn (asking w .item) (offered (asking w .item) (asking w .kind));
       value = sent (asking w .value);
@@ -124,7 +173,7 @@ allowed AskState = true
 allowed (SetFrequency hz) = inBands hz
 allowed AskFrequency = true
 allowed AskFrequencyRange = true
-allowed (SetGain g) = isGain (coded 8 g)
+allowed (SetGain g) = anyOf (sameInteger g) gains
 allowed AskGain = true
 allowed (SetClock hz) = isClock hz
 allowed AskClock = true

@@ -5,6 +5,7 @@ use borrow.Author.Needs.{needs}
 use Rattle.layouts.specs.declared.Layout.{Layout}
 use Rattle.items.proofs.Keys.{matched}
 use Rattle.replies.proofs.Tags.{echoed, echoes}
+use Rattle.rates.proofs.Rates.{rate-listed}
 use Rattle.replies.proofs.Recognised.{rate-achieved}
 use Rattle.replies.proofs.could_say.Statement.{statement}
 use Rattle.replies.proofs.could_say.Tie as tie
@@ -140,7 +141,7 @@ returns-11 c =
     rw (k .before .w3 .given .1) (ap (eqb (start .args .n)) (rate-achieved _ _ _ asked (c .before .nearest .ensures) (c .achieved .ensures)))
 
 returns-12 : tie.Need-returns-12
-returns-12 c = rw (c .before .enum-told9 .given .1) (ap (ltb 0) (c .d-of .ensures))
+returns-12 c = rw (c .before .enum-told9 .given .1) (ap (ltb 0) (c .d-of .ensures) ∙ rate-listed _)
 
 returns-13 : tie.Need-returns-13
 returns-13 c = rw (c .before .enum-told10 .given .1) (c .is-size .ensures)

@@ -1,11 +1,14 @@
 -- Each arm tests its value; the wishes that are left hold none.
+use Prim.Native.Nat.{_<_}
 use mathlib.Core.Path.{_≡_, refl, sym, ap, _∙_}
+use lib.Signed.{mag}
 use borrow.Author.Needs.{needs}
 use mir.Syntax.{w8}
 use mir.Val.{toZ, ofZ}
 use Rattle.wire.specs.Signed.{coded}
+use Rattle.items.specs.Settings.{isGain}
 use Rattle.items.proofs.Keys.{matched}
-use Rattle.wishes.proofs.Allowed.{valueless, valueless-allowed}
+use Rattle.wishes.proofs.Allowed.{version-test, gain-bits, valueless, valueless-allowed}
 use Rattle.wishes.proofs.allows.Statement.{statement}
 use Rattle.wishes.proofs.allows.Tie as tie
 
@@ -52,7 +55,7 @@ is-size-requires : tie.Need-is-size-requires
 is-size-requires c κs = search needs
 
 returns : tie.Need-returns
-returns c = rw (c .before .w .given .1)
+returns c = rw (c .before .w .given .1) (version-test (c .before .w .given .0 .0))
 
 returns-2 : tie.Need-returns-2
 returns-2 c = rw (c .before .before .w2 .given .1) (c .may-state .ensures)
@@ -64,7 +67,9 @@ returns-4 : tie.Need-returns-4
 returns-4 c =
     let g = c .before .before .before .w4 .given .0 .0 in
     let same : toZ w8 (ofZ w8 g) ≡ g = search needs in
-    rw (c .before .before .before .w4 .given .1, ← (c .before .gain-byte .ensures ∙ ap (coded 8) same)) (c .is-gain .ensures)
+    let small : mag g < 128 = search needs in
+    rw (c .before .before .before .w4 .given .1)
+    (c .is-gain .ensures ∙ ap isGain (c .before .gain-byte .ensures ∙ ap (coded 8) same) ∙ gain-bits g small)
 
 returns-5 : tie.Need-returns-5
 returns-5 c = rw (c .before .before .w5 .given .1) (c .is-clock .ensures)

@@ -2,7 +2,8 @@
 use mathlib.Core.Path.{refl}
 use lib.ListN.{getD}
 use denote.Ref.{now}
-use borrow.Author.Tests.{le-leb, lt-leb}
+use native.Mathlib.Omega.{arith}
+use borrow.Author.Tests.{lt-ltb, le-ltb}
 use Rattle.items.specs.Items.{rowOf}
 use Rattle.judging.proofs.Parts.{asked-else}
 use borrow.Author.Needs.{needs}
@@ -16,7 +17,7 @@ returns : tie.Need-returns
 unfolding rowOf
 returns c =
     let p = now (c .before .before .before .before .args .p) in
-    rw (c .before .before .match .keys1, le-leb (getD p 0 0) 3 (c .if1 .taken)) refl
+    rw (c .before .before .match .keys1, lt-ltb (getD p 0 0) 4 (omega (arith, c .if1 .taken))) refl
 
 shared-slice-read-asked-channel : tie.Need-shared-slice-read-asked-channel
 shared-slice-read-asked-channel c = search needs
@@ -34,7 +35,7 @@ returns-2 : tie.Need-returns-2
 unfolding rowOf
 returns-2 c =
     let p = now (c .before .before .before .before .args .p) in
-    rw (c .before .before .match .keys1, lt-leb (getD p 0 0) 3 (c .if1 .left)) refl
+    rw (c .before .before .match .keys1, le-ltb (getD p 0 0) 4 (omega (arith, c .if1 .left))) refl
 
 returns-3 : tie.Need-returns-3
 unfolding rowOf

@@ -1,0 +1,29 @@
+-- What a call tells of the bytes that it took: the message's first ten for the whole store. Nothing of document 01 rests on
+-- it; that ten bytes decide what the whole message does is `ten-decide` (items/proofs/TenBytes).
+use Prim.Native.Nat.{ℕ}
+use mathlib.Core.Bool.{_&&_}
+use mathlib.Core.List.{List, _++_}
+use lib.Dec.{eqb}
+use lib.ListN.{take, replicate}
+use Rattle.wire.specs.Choice.{pick}
+use Rattle.framing.specs.declared.Store.{Store}
+use Rattle.framing.specs.declared.Took.{Took}
+use Rattle.framing.specs.Framing.{Taking, taken}
+
+-- The first ten of some bytes, zero past their end.
+unfoldable pub firstTen : List ℕ → List ℕ
+firstTen bytes = take 10 (bytes ++ replicate 10 0)
+
+-- What a call says of it: the message's first ten bytes for the store.
+abbrev pub tookOf : Taking → Took
+tookOf t =
+    record {
+      opening = firstTen (take (t .store .taken) (t .store .held));
+      count = t .count;
+      taken = t .store .taken;
+      finished = t .finished;
+    }
+
+-- What is held after a call: nothing more of a message that came whole.
+abbrev pub heldAfter : Store → List ℕ → List ℕ
+heldAfter s host = pick (eqb (s .taken) 0 && taken s host .finished) (s .held) (taken s host .store .held)
