@@ -1,5 +1,5 @@
--- Demand 3 is not empty: there are captures of every length up to 4,000,000,000. A fresh box that is running cuts silence, packet
--- after packet, until its count is the most.
+-- Demand 3 is not empty: there are captures of every length up to 4,000,000,000. A fresh box that a message of the host starts cuts
+-- silence, packet after packet, until its count is the most.
 use Prim.Native.Nat.{ℕ, zero, suc, _+_, _≤_, _<_}
 use mathlib.Core.Path.{_≡_, refl, ap}
 use mathlib.Core.Bool.{true, not}
@@ -10,9 +10,12 @@ use lib.IntN.{ℤ, pos}
 use lib.ListN.{length, replicate}
 use Rattle.packets.specs.Numbers.{most}
 use Rattle.items.specs.Settings.{inRange, freshOf, withCount, withRunning}
-use Rattle.framing.specs.Framing.{couldBeLeft, between}
+use Rattle.items.specs.Items.{listed, rowOf}
+use Rattle.items.specs.Answer.{codeOf, replyOf, settingsAfter}
+use Rattle.framing.specs.Framing.{couldBeLeft, between, taking}
 use Rattle.station.specs.declared.Station.{Station}
-use Rattle.station.specs.Station.{valid}
+use Rattle.station.specs.Station.{valid, freshStation}
+use Rattle.station.specs.Feeding.{feedingOf}
 use Rattle.cutting.specs.Cutting.{Cutting, cutChecks, cutCode, cuttingOf, cutFrom}
 use Rattle.wire.proofs.Checks.{clear}
 use Rattle.positions.specs.Captures.{Cuts, ends, cuts, Capture}
@@ -47,6 +50,11 @@ goes-on (suc n) k h =
       cuts silence 1_444 (ap (λ (x : Cutting). x .cut .code) is) later,
       ap suc (rest .2),
     )
+
+-- the host's message "run" at 24 bits makes the box of no packets from a fresh one
+pub starts-running : feedingOf (freshStation (replicate 8 0x30)) (0x08 ∷ 0x00 ∷ 0x18 ∷ 0x00 ∷ 0x80 ∷ 0x02 ∷ 0x80 ∷ 0x00 ∷ []) 64 .fed .station ≡ running 0
+unfolding feedingOf valid inRange couldBeLeft taking listed rowOf codeOf replyOf settingsAfter
+starts-running = refl
 
 pub captures-exist : (n : ℕ) → n ≤ most → (packets : List (List ℕ)) × Capture (running 0) packets × (length packets ≡ n)
 captures-exist n h =
