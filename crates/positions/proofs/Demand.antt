@@ -20,7 +20,8 @@ use Rattle.positions.specs.Demand.{said, takenAt, ExactPositions, NoTwoA
 use Rattle.positions.proofs.Steps.{position-is-exact}
 use Rattle.positions.proofs.Packets.{packet-whole, packet-number}
 use Rattle.cutting.proofs.Formed.{valid-form}
-use Rattle.positions.proofs.Boxes.{cut-is, Next, feeding-leaves, feeding-starts}
+use Rattle.cutting.proofs.Ways.{cut-is}
+use Rattle.positions.proofs.Boxes.{Next, feeding-leaves, feeding-starts}
 use Rattle.positions.proofs.Readings.{At, hasHeard, reads-first, reads-next}
 
 -- the packets of a capture of form f from position n on
