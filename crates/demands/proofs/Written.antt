@@ -22,6 +22,7 @@ use Rattle.station.specs.Feeding.{Feeding, messageIn, feedingOf}
 use Rattle.station.proofs.Valid.{each-way}
 use Rattle.station.proofs.Calls.{feeding-within}
 use Rattle.cutting.specs.Cutting.{Cutting, packetOf, cutChecks, cutCode, formNow}
+use Rattle.cutting.proofs.Packets.{packet-length}
 use Rattle.cutting.proofs.Ways.{each-cut, made}
 use Rattle.reader.specs.Reading.{countIn, unpackChecks, unpackCode, unpackedOf}
 use Rattle.wishes.specs.declared.Wish.{Wish}
@@ -30,7 +31,6 @@ use Rattle.wishes.specs.Writing.{writeChecks, writeCode, bytesWritten}
 use Rattle.heads.specs.declared.Head.{Head}
 use Rattle.heads.specs.Head.{headBytes}
 use Rattle.heads.specs.Head.{writeChecks as headChecks, writeCode as headCode}
-use Rattle.positions.proofs.Packets.{packet-length}
 use Rattle.demands.specs.Written.{replyDue, FeedsByTheTable, CutsByTheTable, WishesByTheTable, HeadsByTheTable, UnpacksByTheTable}
 
 -- ---- the box

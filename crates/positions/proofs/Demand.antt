@@ -18,8 +18,8 @@ use Rattle.positions.specs.Captures.{Cuts, ends, cuts, feeds, Capture}
 use Rattle.positions.specs.Losses.{Fate, arrives, lost, left, bounded, allowed, positionsFrom, answersBy}
 use Rattle.positions.specs.Demand.{said, takenAt, ExactPositions, NoTwoAlike}
 use Rattle.positions.proofs.Steps.{position-is-exact}
-use Rattle.positions.proofs.Packets.{packet-whole, packet-number}
 use Rattle.cutting.proofs.Formed.{valid-form}
+use Rattle.cutting.proofs.Packets.{packet-whole, packet-number}
 use Rattle.cutting.proofs.Ways.{cut-is}
 use Rattle.positions.proofs.Boxes.{Next, feeding-leaves, feeding-starts}
 use Rattle.positions.proofs.Readings.{At, hasHeard, reads-first, reads-next}
