@@ -13,9 +13,9 @@ use Rattle.packets.specs.Samples.{allSamples, narrowed}
 use Rattle.samples.proofs.RoundTrip.{round-trip-form}
 use Rattle.cutting.specs.Cutting.{Cutting, packetOf, formNow, cuttingOf}
 use Rattle.cutting.proofs.Formed.{valid-form}
+use Rattle.cutting.proofs.Packets.{packet-whole}
+use Rattle.cutting.proofs.Ways.{cut-is}
 use Rattle.reader.specs.Reading.{unpackCode, unpackedOf}
-use Rattle.positions.proofs.Boxes.{cut-is}
-use Rattle.positions.proofs.Packets.{packet-whole}
 use Rattle.demands.specs.Packed.{WhatIsPackedIsUnpacked}
 
 module _ (f : Form) (position : ℕ) (samples : List ℤ) (out : ℕ)

@@ -20,8 +20,8 @@ use Rattle.station.specs.declared.Station.{Station}
 use Rattle.station.specs.Feeding.{messageIn, feedingOf}
 use Rattle.station.proofs.Kept.{refused-leaves}
 use Rattle.station.proofs.Valid.{each-way}
-use Rattle.cutting.specs.Cutting as cutting
-use Rattle.cutting.specs.Cutting.{cutCode, cutFrom, cuttingOf}
+use Rattle.cutting.specs.Cutting.{cuttingOf}
+use Rattle.cutting.proofs.Ways.{each-cut}
 use Rattle.packets.specs.Forms.{wholeOf}
 use Rattle.demands.specs.Refused.{NakOnly, FeedsNothing, CutsNothing, HearsNothing}
 
@@ -55,10 +55,7 @@ fed-refused s host room =
 -- ---- cutting and reading
 
 pub cut-refused : (s : Station) (samples : List ℤ) (room : ℕ) → CutsNothing s (cuttingOf s samples room)
-unfolding cuttingOf
-cut-refused s samples room =
-    pick-keeps (CutsNothing s) (eqb (cutCode s samples room) 1) (cutFrom s samples) (cutting.refused (cutCode s samples room) s)
-    (λ e r. absurd (omega arith)) (λ e r. (refl, refl, refl))
+cut-refused s samples room = each-cut (CutsNothing s) s samples room (λ e r. absurd (omega arith)) (λ n r. (refl, refl, refl))
 
 pub read-refused : (r : Reader) (packet : List ℕ) → HearsNothing r (readingOf r packet)
 unfolding readingOf

@@ -24,8 +24,8 @@ use Rattle.station.specs.declared.Station.{Station}
 use Rattle.station.specs.Station.{valid}
 use Rattle.station.specs.Feeding.{messageIn, Feeding, feedingOf}
 use Rattle.station.proofs.Valid.{each-way}
-use Rattle.cutting.specs.Cutting.{cutCode, cutFrom, cuttingOf}
-use Rattle.demands.proofs.Reached.{cutting-keeps}
+use Rattle.cutting.specs.Cutting.{cuttingOf}
+use Rattle.cutting.proofs.Ways.{each-cut, cutting-keeps}
 use Rattle.demands.proofs.OneMessage.{tookAll, one-message, whole-fed}
 use Rattle.station.proofs.Calls.{feeding-keeps}
 use Rattle.demands.specs.Shown.{shownBy, valueSet, Held, showing, OneMessage, messageOf, resting, repliesWith, ShowsSets, finishedBy, naksAll, echoesOnly, Undisturbed, still, fed, cut, FedSetShowsLater, FedSameAnswer}
@@ -85,12 +85,7 @@ feeding-by P s host room before after =
 -- a cut counts one packet more, or leaves the settings
 cutting-by : (P : Settings → Type 0) (s : Station) (samples : List ℤ) (room : ℕ) → P (s .settings)
     → P (withCount (s .settings .count + 1) (s .settings)) → P (cuttingOf s samples room .cut .station .settings)
-unfolding cuttingOf
-cutting-by P s samples room before after = go (eqb (cutCode s samples room) 1)
-  where
-    go : (b : Bool) → P (pick b (cutFrom s samples) (Rattle.cutting.specs.Cutting.refused (cutCode s samples room) s) .cut .station .settings)
-    go true = after
-    go false = before
+cutting-by P s samples room before after = each-cut (λ c. P (c .cut .station .settings)) s samples room (λ e. after) (λ n. before)
 
 -- no item shows the count
 count-leaves : (asked : ℕ) (s : Settings) (n : ℕ) → Same (rowOf asked) s (withCount n s)

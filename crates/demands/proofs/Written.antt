@@ -3,7 +3,6 @@
 use Prim.Native.Nat.{ℕ}
 use mathlib.Core.Path.{_≡_, refl, sym}
 use mathlib.Core.List.{List, []}
-use borrow.Author.Tests.{eqb-true, eqb-false}
 use lib.Dec.{eqb}
 use lib.IntN.{ℤ}
 use lib.ListN.{length, drop}
@@ -13,7 +12,6 @@ use Rattle.wire.specs.Codes as Code
 use Rattle.wire.specs.Header.{nak}
 use Rattle.wire.proofs.Checks.{given-has}
 use Rattle.wire.proofs.Writes.{alone}
-use Rattle.wire.proofs.Laws.{pick-keeps}
 use Rattle.packets.specs.Forms.{wholeOf}
 use Rattle.packets.specs.Samples.{samplesFrom}
 use Rattle.items.specs.declared.Settings.{Settings}
@@ -23,8 +21,9 @@ use Rattle.station.specs.declared.Station.{Station}
 use Rattle.station.specs.Feeding.{Feeding, messageIn, feedingOf}
 use Rattle.station.proofs.Valid.{each-way}
 use Rattle.station.proofs.Calls.{feeding-within}
-use Rattle.cutting.specs.Cutting.{Cutting, packetOf, cutChecks, cutCode, cutFrom, cuttingOf, formNow}
-use Rattle.cutting.specs.Cutting as cutting
+use Rattle.cutting.specs.Cutting.{Cutting, packetOf, cutChecks, cutCode, formNow}
+use Rattle.cutting.proofs.Packets.{packet-length}
+use Rattle.cutting.proofs.Ways.{each-cut, made}
 use Rattle.reader.specs.Reading.{countIn, unpackChecks, unpackCode, unpackedOf}
 use Rattle.wishes.specs.declared.Wish.{Wish}
 use Rattle.wishes.specs.Wishes.{messageOf}
@@ -32,8 +31,6 @@ use Rattle.wishes.specs.Writing.{writeChecks, writeCode, bytesWritten}
 use Rattle.heads.specs.declared.Head.{Head}
 use Rattle.heads.specs.Head.{headBytes}
 use Rattle.heads.specs.Head.{writeChecks as headChecks, writeCode as headCode}
-use Rattle.positions.proofs.Boxes.{made}
-use Rattle.positions.proofs.Packets.{packet-length}
 use Rattle.demands.specs.Written.{replyDue, FeedsByTheTable, CutsByTheTable, WishesByTheTable, HeadsByTheTable, UnpacksByTheTable}
 
 -- ---- the box
@@ -65,17 +62,14 @@ refused-cut s samples room packet =
     (λ n. refl, (λ n. refl, (λ n. refl, (λ n. refl, (λ n. refl, (λ n. refl, tt)))))) (λ n. absurd (n refl))
 
 pub cuts-by-the-table : (s : Station) (samples : List ℤ) (room : ℕ) → CutsByTheTable s samples room
-unfolding cuttingOf
 cuts-by-the-table s samples room =
     record {
       bytes =
-          pick-keeps (λ (c : Cutting). c .bytes ≡ boxWrites (c .cut .code) packet) (eqb (cutCode s samples room) 1) (cutFrom s samples)
-          (cutting.refused (cutCode s samples room) s) (λ e. refl) (λ e. refused-cut s samples room packet (eqb-false _ _ e));
+          each-cut (λ (c : Cutting). c .bytes ≡ boxWrites (c .cut .code) packet) s samples room (λ e. refl)
+          (refused-cut s samples room packet);
       wrote =
-          pick-keeps (λ (c : Cutting). c .cut .wrote ≡ length (c .bytes)) (eqb (cutCode s samples room) 1) (cutFrom s samples)
-          (cutting.refused (cutCode s samples room) s)
-          (λ e. sym (packet-length (formNow (s .settings)) (s .settings .count) samples (made s samples room (eqb-true _ _ e) .enough)))
-          (λ e. refl);
+          each-cut (λ (c : Cutting). c .cut .wrote ≡ length (c .bytes)) s samples room
+          (λ e. sym (packet-length (formNow (s .settings)) (s .settings .count) samples (made s samples room e .enough))) (λ n. refl);
     }
   where
     packet : List ℕ

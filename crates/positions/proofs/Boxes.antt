@@ -1,62 +1,25 @@
--- A running box within one capture: a cut that is not refused makes the packet at the count's position, and what feeding
--- leaves running keeps mode, size and count.
-use Prim.Native.Nat.{ℕ, _*_, _<_}
+-- A running box within one capture: what feeding leaves running keeps mode, size and count. A box that feeding starts has cut
+-- nothing.
+use Prim.Native.Nat.{ℕ}
 use mathlib.Core.Path.{_≡_, refl, sym, _∙_}
 use mathlib.Core.Bool.{Bool, true, false, _&&_}
 use mathlib.Core.List.{List}
-use borrow.Author.Tests.{eq-eqb, eqb-true, eqb-false, leb-false, not-false}
+use borrow.Author.Tests.{eq-eqb, eqb-true}
 use lib.Dec.{eqb}
-use lib.IntN.{ℤ}
-use lib.ListN.{length}
 use Rattle.wire.specs.Choice.{pick}
 use Rattle.wire.specs.Header.{typeSet}
-use Rattle.wire.proofs.Laws.{and-both, and-rest}
+use Rattle.wire.proofs.Checks.{absent}
+use Rattle.wire.proofs.Laws.{never, and-both, and-rest}
 use Rattle.packets.specs.declared.Form.{Form}
-use Rattle.packets.specs.Numbers.{most}
-use Rattle.packets.specs.Samples.{allSamples}
 use Rattle.framing.specs.Framing.{taken}
 use Rattle.items.specs.declared.Settings.{Settings}
 use Rattle.items.specs.Items.{Item, rowOf, state, stateAfter, runByte, idle}
 use Rattle.items.specs.Answer.{Message, codeOf, checks, refusedRunning, settingsAfter, row, parameters, itemIn}
 use Rattle.items.proofs.Rows.{_then_, found}
 use Rattle.station.specs.declared.Station.{Station}
-use Rattle.station.specs.Station.{valid}
 use Rattle.station.specs.Feeding.{feedingOf, messageIn}
 use Rattle.station.proofs.Valid.{each-way}
-use Rattle.cutting.specs.Cutting.{formNow, cutChecks, cutCode, cuttingOf, cutFrom, refused}
-use Rattle.wire.proofs.Checks.{absent}
-use Rattle.positions.proofs.Tests.{never}
-
--- What a cut that is not refused tells: the box is valid, the count below the most, the samples of the form's number.
-pub record Made (s : Station) (samples : List ℤ) : Type 0 where
-  pub sound : valid s ≡ true
-  pub running : s .settings .running ≡ true
-  pub below : s .settings .count < most
-  pub enough : length samples ≡ 2 * formNow (s .settings) .pairs
-  pub fits : allSamples samples ≡ true
-
-pub made : (s : Station) (samples : List ℤ) (room : ℕ) → cutCode s samples room ≡ 1 → Made s samples
-unfolding cutCode
-made s samples room e =
-    let clear = absent (cutChecks s samples room) 1 refl e in
-    record {
-      sound = not-false (valid s) (clear .0);
-      running = not-false (s .settings .running) (clear .1 .0);
-      below = leb-false most (s .settings .count) (clear .1 .1 .0);
-      enough = eqb-true _ _ (not-false _ (clear .1 .1 .1 .0));
-      fits = not-false (allSamples samples) (clear .1 .1 .1 .1 .0);
-    }
-
--- the answer of a cut whose code is 1
-pub cut-is : (s : Station) (samples : List ℤ) (room : ℕ) → cuttingOf s samples room .cut .code ≡ 1
-    → Made s samples × (cuttingOf s samples room ≡ cutFrom s samples)
-unfolding cuttingOf
-cut-is s samples room = go (eqb (cutCode s samples room) 1) refl
-  where
-    go : (b : Bool) → eqb (cutCode s samples room) 1 ≡ b → pick (eqb (cutCode s samples room) 1) (cutFrom s samples) (refused (cutCode s samples room) s) .cut .code ≡ 1
-        → Made s samples × (pick (eqb (cutCode s samples room) 1) (cutFrom s samples) (refused (cutCode s samples room) s) ≡ cutFrom s samples)
-    go true q e = (made s samples room (eqb-true _ _ q), rw q)
-    go false q e = absurd (eqb-false _ _ q (rw q at e))
+use Rattle.cutting.specs.Cutting.{formNow}
 
 -- What a running box cuts next: the position, and the form.
 pub record Next : Type 0 where

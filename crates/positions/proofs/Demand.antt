@@ -16,11 +16,12 @@ use Rattle.reader.specs.declared.Reader.{Reader}
 use Rattle.reader.specs.Reading.{sound, readingOf, heardAt}
 use Rattle.positions.specs.Captures.{Cuts, ends, cuts, feeds, Capture}
 use Rattle.positions.specs.Losses.{Fate, arrives, lost, left, bounded, allowed, positionsFrom, answersBy}
-use Rattle.positions.specs.Demand.{ExactPositions, NoTwoAlike}
+use Rattle.positions.specs.Demand.{said, takenAt, ExactPositions, NoTwoAlike}
 use Rattle.positions.proofs.Steps.{position-is-exact}
-use Rattle.positions.proofs.Packets.{packet-whole, packet-number}
 use Rattle.cutting.proofs.Formed.{valid-form}
-use Rattle.positions.proofs.Boxes.{cut-is, Next, feeding-leaves, feeding-starts}
+use Rattle.cutting.proofs.Packets.{packet-whole, packet-number}
+use Rattle.cutting.proofs.Ways.{cut-is}
+use Rattle.positions.proofs.Boxes.{Next, feeding-leaves, feeding-starts}
 use Rattle.positions.proofs.Readings.{At, hasHeard, reads-first, reads-next}
 
 -- the packets of a capture of form f from position n on
@@ -82,8 +83,15 @@ begins s host room packets idle on calls = record { running = on; fresh = feedin
 pub from-start : {s : Station} {packets : List (List ℕ)} → Capture s packets → Numbered (formNow (s .settings)) 0 packets
 from-start c = rw (c .fresh) at (cuts-numbered (c .running) (c .calls))
 
+-- what is said of packets that are heard so
+said-at : (f : Form) (ps : List ℕ) → map said (map (λ p. heardAt p f) ps) ≡ map (takenAt f) ps
+said-at f [] = refl
+said-at f (p ∷ ps) = ap (λ l. takenAt f p ∷ l) (said-at f ps)
+
 pub exact-positions : ExactPositions
-exact-positions s packets c fates b r g = exact (formNow (s .settings)) fates packets (from-start c) b r g
+exact-positions s packets c fates b r g =
+    let f = formNow (s .settings) in
+    ap (map said) (exact f fates packets (from-start c) b r g) ∙ said-at f (left fates (positionsFrom 0 packets))
 
 -- Positions after m that rise by at most 65,535 at a time: up to 65,534 lost between two.
 abbrev pub Rising : ℕ → List ℕ → Type 0

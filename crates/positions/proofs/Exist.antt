@@ -1,20 +1,24 @@
--- Demand 3 is not empty: there are captures of every length up to 4,000,000,000. A fresh box that is running cuts silence, packet
--- after packet, until its count is the most.
+-- Demand 3 is not empty: there are captures of every length up to 4,000,000,000. A fresh box that a message of the host starts cuts
+-- silence, packet after packet, until its count is the most.
 use Prim.Native.Nat.{ℕ, zero, suc, _+_, _≤_, _<_}
-use mathlib.Core.Path.{_≡_, refl, ap}
-use mathlib.Core.Bool.{true, not}
+use mathlib.Core.Path.{_≡_, refl, sym, ap}
+use mathlib.Core.Bool.{true}
 use mathlib.Core.List.{List, [], _∷_}
 use native.Mathlib.Omega.{arith}
-use borrow.Author.Tests.{eq-eqb, le-leb, lt-leb}
+use borrow.Author.Tests.{le-leb}
+use lib.Dec.{lit≤}
 use lib.IntN.{ℤ, pos}
 use lib.ListN.{length, replicate}
 use Rattle.packets.specs.Numbers.{most}
 use Rattle.items.specs.Settings.{inRange, freshOf, withCount, withRunning}
-use Rattle.framing.specs.Framing.{couldBeLeft, between}
+use Rattle.items.specs.Items.{listed, rowOf}
+use Rattle.items.specs.Answer.{codeOf, replyOf, settingsAfter}
+use Rattle.framing.specs.Framing.{couldBeLeft, between, taking}
 use Rattle.station.specs.declared.Station.{Station}
-use Rattle.station.specs.Station.{valid}
-use Rattle.cutting.specs.Cutting.{Cutting, cutChecks, cutCode, cuttingOf, cutFrom}
-use Rattle.wire.proofs.Checks.{clear}
+use Rattle.station.specs.Station.{valid, freshStation}
+use Rattle.station.specs.Feeding.{feedingOf}
+use Rattle.cutting.specs.Cutting.{Cutting, cuttingOf, cutFrom}
+use Rattle.cutting.proofs.Codes.{code-1, cuts as cut-done}
 use Rattle.positions.specs.Captures.{Cuts, ends, cuts, Capture}
 
 -- a running box of serial 00000000 that has cut k packets
@@ -30,11 +34,8 @@ unfolding valid inRange couldBeLeft
 running-valid k h = rw (le-leb k most h)
 
 running-cuts : (k : ℕ) → k < most → cuttingOf (running k) silence 1_444 ≡ cutFrom (running k) silence
-unfolding cutCode cuttingOf
 running-cuts k h =
-    let one : cutCode (running k) silence 1_444 ≡ 1
-    = clear (cutChecks (running k) silence 1_444) 1 (ap not (running-valid k (omega arith)), (refl, (lt-leb most k h, (refl, (refl, (refl, tt)))))) in
-    rw (eq-eqb (cutCode (running k) silence 1_444) 1 one)
+    sym (cut-done (running k) silence 1_444 (code-1 (running k) silence 1_444 (running-valid k (omega arith)) refl h refl refl (lit≤ tt)))
 
 -- from k packets on, n more
 goes-on : (n k : ℕ) → k + n ≤ most → (packets : List (List ℕ)) × Cuts (running k) packets × (length packets ≡ n)
@@ -47,6 +48,11 @@ goes-on (suc n) k h =
       cuts silence 1_444 (ap (λ (x : Cutting). x .cut .code) is) later,
       ap suc (rest .2),
     )
+
+-- the host's message "run" at 24 bits makes the box of no packets from a fresh one
+pub starts-running : feedingOf (freshStation (replicate 8 0x30)) (0x08 ∷ 0x00 ∷ 0x18 ∷ 0x00 ∷ 0x80 ∷ 0x02 ∷ 0x80 ∷ 0x00 ∷ []) 64 .fed .station ≡ running 0
+unfolding feedingOf valid inRange couldBeLeft taking listed rowOf codeOf replyOf settingsAfter
+starts-running = refl
 
 pub captures-exist : (n : ℕ) → n ≤ most → (packets : List (List ℕ)) × Capture (running 0) packets × (length packets ≡ n)
 captures-exist n h =

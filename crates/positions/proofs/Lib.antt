@@ -1,6 +1,4 @@
-pub mod Tests
 pub mod Steps
-pub mod Packets
 pub mod Boxes
 pub mod Readings
 pub mod Demand

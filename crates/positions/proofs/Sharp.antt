@@ -7,7 +7,7 @@ use lib.ListN.{length, replicate}
 use Rattle.packets.specs.declared.Form.{Form}
 use Rattle.packets.specs.Numbers.{numberAt, numberIn}
 use Rattle.cutting.specs.Cutting.{formNow}
-use Rattle.positions.specs.Losses.{Fate, arrives, lost, left, positionsFrom}
+use Rattle.positions.specs.Losses.{arrives, lost, left, positionsFrom}
 use Rattle.positions.specs.Demand.{nextArrives, laterArrives, BoundIsSharp}
 use Rattle.positions.proofs.Demand.{Numbered, from-start, left-numbers}
 

@@ -1,28 +1,44 @@
 -- Demand 3. "Of one capture from the box, packets lost (not the first, fewer than 65,535 between two that arrive), the rest once
 -- each and in order: the harvester gives every packet its exact sample position, and two different choices of what was lost never
 -- leave the same list of numbers."
-use Prim.Native.Nat.{ℕ}
+use Prim.Native.Nat.{ℕ, _*_}
 use mathlib.Core.Bool.{true}
 use mathlib.Core.List.{List, [], _∷_, _++_, map}
 use mathlib.Core.Path.{_≡_}
 use lib.ListN.{length, replicate}
+use Rattle.wire.specs.Codes as Code
+use Rattle.packets.specs.declared.Form.{Form}
 use Rattle.packets.specs.Numbers.{numberIn}
 use Rattle.station.specs.declared.Station.{Station}
 use Rattle.cutting.specs.Cutting.{formNow}
 use Rattle.reader.specs.declared.Reader.{Reader}
-use Rattle.reader.specs.Reading.{sound, readingOf, heardAt}
+use Rattle.reader.specs.declared.Heard.{Heard}
+use Rattle.reader.specs.Reading.{sound, readingOf}
 use Rattle.positions.specs.Captures.{Capture}
 use Rattle.positions.specs.Losses.{Fate, arrives, lost, left, allowed, positionsFrom, Reading, answersBy}
 
+-- What a reading says of a packet: its code, and "The answer is the packet's position and its first sample's position". What a
+-- reader keeps for the next packet is its own affair.
+pub record Said : Type 0 where
+  pub code : ℕ
+  pub position : ℕ
+  pub sample : ℕ
+
+abbrev pub said : Heard → Said
+said h = record { code = h .code; position = h .position; sample = h .sample }
+
+-- A packet of a form is taken (code 1) at a position, and its first sample's position is "packet position times I/Q pairs".
+abbrev pub takenAt : Form → ℕ → Said
+takenAt f p = record { code = Code.done; position = p; sample = p * f .pairs }
+
 -- "the harvester gives every packet its exact sample position", of a way to read, whichever it is: from any reader that is
--- not broken each packet that arrives is taken (code 1), at the position at which it was cut, and its first sample at that
--- position times the I/Q pairs (`heardAt`).
+-- not broken each packet that arrives is taken at the position at which it was cut.
 abbrev pub GivesExactPositions : Reading → Type 0
 GivesExactPositions read =
     (s : Station) (packets : List (List ℕ)) → Capture s packets
     → (fates : List Fate) → allowed fates
     → (r : Reader) → sound r ≡ true
-    → answersBy read r (left fates packets) ≡ map (λ p. heardAt p (formNow (s .settings))) (left fates (positionsFrom 0 packets))
+    → map said (answersBy read r (left fates packets)) ≡ map (takenAt (formNow (s .settings))) (left fates (positionsFrom 0 packets))
 
 -- the same of the harvester
 abbrev pub ExactPositions : Type 0

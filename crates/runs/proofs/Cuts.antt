@@ -1,7 +1,7 @@
 -- A run of cutting: what is left to cut gives the whole.
 use Prim.Native.Nat.{ℕ, zero, suc, _+_, _-_, _*_, _/_, _≤_, _<_, min}
 use mathlib.Core.Path.{_≡_, refl, sym, _∙_}
-use mathlib.Core.Bool.{Bool, true, false}
+use mathlib.Core.Bool.{true, false}
 use mathlib.Core.List.{List, []}
 use native.Mathlib.Nat.{lt-irrefl, div-mul-le-self, div-le-self, mul-le-mul-right}
 use native.Mathlib.Omega.{arith}
@@ -12,8 +12,8 @@ use lib.ListN.{length, take, drop}
 use lib.Seq.{sets, length-sets, drop-drop}
 use Rattle.station.specs.declared.Station.{Station}
 use Rattle.cutting.specs.declared.Cut.{Cut}
-use Rattle.wire.specs.Choice.{pick}
-use Rattle.cutting.specs.Cutting.{Cutting, cutCode, cutFrom, cuttingOf, refused as refusedBy}
+use Rattle.cutting.specs.Cutting.{Cutting, cuttingOf}
+use Rattle.cutting.proofs.Ways.{each-cut}
 use Rattle.runs.specs.Cutting.{started, ran, cutOn, cutRun}
 use Rattle.runs.proofs.Turns.{one-more}
 
@@ -42,12 +42,8 @@ cut-one (suc left) n total count at s samples out c some is good =
 
 -- a refused packet writes nothing
 pub none-cut : (s : Station) (samples : List ℤ) (room : ℕ) → (cuttingOf s samples room .cut .code ≡ 1 → ⊥) → cuttingOf s samples room .bytes ≡ []
-unfolding cuttingOf
-none-cut s samples room bad = go (eqb (cutCode s samples room) 1) refl
-  where
-    go : (t : Bool) → eqb (cutCode s samples room) 1 ≡ t → pick t (cutFrom s samples) (refusedBy (cutCode s samples room) s) .bytes ≡ []
-    go true q = absurd (bad (rw q refl))
-    go false q = refl
+none-cut s samples room =
+    each-cut (λ (c : Cutting). (c .cut .code ≡ 1 → ⊥) → c .bytes ≡ []) s samples room (λ e bad. absurd (bad refl)) (λ n bad. refl)
 
 pub record Under (mode size n total : ℕ) (samples : List ℤ) (whole out : List ℕ) (s : Station) (left count i at : ℕ) : Type 0 where
   pub sampled : i + left * n ≤ length samples

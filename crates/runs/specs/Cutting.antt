@@ -9,28 +9,14 @@ use lib.Seq.{sets}
 use Rattle.wire.specs.Choice.{pick}
 use Rattle.wire.specs.Codes as Code
 use Rattle.framing.specs.Framing.{between}
+use Rattle.items.specs.Settings.{freshOf, withRunning, withMode, withSize}
 use Rattle.station.specs.declared.Station.{Station}
-use Rattle.cutting.specs.Cutting.{cuttingOf}
 use Rattle.station.specs.Station.{sessionSerial}
+use Rattle.cutting.specs.Cutting.{cuttingOf}
 
 -- a fresh box that was started with a mode and a size; with others than the table's it is broken
 abbrev pub started : ℕ → ℕ → Station
-started mode size =
-    record {
-      settings =
-          record {
-            frequency = 10_000_000;
-            count = 0;
-            clock = 80_000_000;
-            divisor = 100;
-            running = true;
-            mode = mode;
-            gain = 0;
-            size = size;
-            serial = sessionSerial;
-          };
-      store = between;
-    }
+started mode size = record { settings = withSize size (withMode mode (withRunning true (freshOf sessionSerial))); store = between }
 
 -- how many packets were cut, and the lent bytes with them in
 pub record Ran : Type 0 where

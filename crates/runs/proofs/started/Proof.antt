@@ -1,4 +1,4 @@
--- The settings are laid out as the definition lays them out, between messages.
+-- Field by field the settings are those of a fresh box that runs with the mode and the size, between messages.
 use borrow.Author.Needs.{needs}
 use Rattle.runs.proofs.started.Statement.{statement}
 use Rattle.runs.proofs.started.Tie as tie

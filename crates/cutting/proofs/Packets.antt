@@ -1,37 +1,32 @@
 -- A packet that the box cuts is whole, of the box's form, and carries the number of its position: over width and pair count.
+-- Assumes nothing.
 use Prim.Native.Nat.{ℕ, _*_, _/_}
-use mathlib.Core.Path.{_≡_, sym, ap, _∙_}
+use mathlib.Core.Path.{_≡_, ap, _∙_}
 use mathlib.Core.Bool.{true}
-use mathlib.Core.List.{List, [], _∷_}
-use native.Mathlib.Nat.{zero-mul, suc-mul}
+use mathlib.Core.List.{List}
+use native.Mathlib.Nat.{mul-comm}
 use native.Mathlib.Omega.{arith}
 use lib.IntN.{ℤ}
-use lib.ListN.{length, length-append}
+use lib.ListN.{length}
 use Rattle.wire.specs.Number.{field}
 use Rattle.wire.specs.Header.{headerOf, typeData}
-use Rattle.wire.specs.Signed.{coded}
-use Rattle.wire.proofs.Numbers.{length-bytes, number-bytes}
+use Rattle.wire.proofs.Numbers.{number-bytes}
 use Rattle.wire.proofs.Headers.{header-below}
 use Rattle.packets.specs.declared.Form.{Form}
 use Rattle.packets.specs.Forms.{totalOf, listed, wholeOf}
 use Rattle.packets.specs.Numbers.{numberAt, numberIn}
-use Rattle.packets.specs.Samples.{narrowed, sampleBytes, samplesBytes}
+use Rattle.packets.specs.Samples.{samplesBytes}
 use Rattle.packets.proofs.Forms.{whole-cut}
 use Rattle.packets.proofs.Numbers.{number-le}
+use Rattle.samples.proofs.Written.{length-samples}
 use Rattle.cutting.specs.Cutting.{packetOf}
-
-length-samples : (bits : ℕ) (zs : List ℤ) → length (samplesBytes bits zs) ≡ length zs * (bits / 8)
-length-samples bits [] = sym (zero-mul (bits / 8))
-length-samples bits (z ∷ zs) =
-    length-append (sampleBytes bits z) (samplesBytes bits zs)
-    ∙ omega (arith, length-bytes (bits / 8) (coded bits (narrowed bits z)), length-samples bits zs, suc-mul (length zs) (bits / 8))
 
 module _ (f : Form) (p : ℕ) (zs : List ℤ) where
   pub packet-length : length zs ≡ 2 * f .pairs → length (packetOf f p zs) ≡ totalOf f
   packet-length e =
-      let width : ℕ = f .bits / 8 in
-      let all : length (samplesBytes (f .bits) zs) ≡ 2 * f .pairs * width = length-samples (f .bits) zs ∙ ap (λ (n : ℕ). n * width) e in
-      let turned : 2 * f .pairs * width ≡ f .pairs * 2 * width = ap (λ (n : ℕ). n * width) (omega arith) in
+      let count : length zs ≡ f .pairs * 2 = omega arith in
+      let all : length (samplesBytes (f .bits) zs) ≡ f .pairs * 2 * (f .bits / 8) =
+      length-samples (f .bits) zs ∙ mul-comm (f .bits / 8) (length zs) ∙ ap (λ (n : ℕ). n * (f .bits / 8)) count in
       omega arith
 
   packet-header : field 0 2 (packetOf f p zs) ≡ headerOf typeData (totalOf f)
