@@ -24,7 +24,7 @@ use Rattle.items.specs.Items.{stateBytes, Offer, total, dash, Item, items, noIt
 use Rattle.items.specs.Table.{offerFor, offered, isDash, isTotal}
 use Rattle.items.specs.Answer.{Message, itemIn, row, parameters, itemCode, codeOf, settingsAfter, replyOf}
 use Rattle.items.proofs.Classes.{fitting, unnamed}
-use Rattle.items.proofs.Judging.{by-item, is-listed, has-length, has-value, is-free}
+use Rattle.items.proofs.Judging.{by-item, is-listed, has-length, has-value, is-free, after-ways}
 use Rattle.items.proofs.States.{state-ways}
 use Rattle.items.proofs.Rows.{Each, _then_, found-at, row-code}
 use Rattle.station.proofs.Kept.{left-alone, accepted-set}
@@ -162,13 +162,8 @@ asked-shows s q kind h =
 
 -- a message leaves what every item shows that it does not change
 pub message-leaves : (asked : ℕ) (s : Settings) (m : Message) → changes asked s m ≡ false → Same (rowOf asked) s (settingsAfter s m)
-unfolding settingsAfter
-message-leaves asked s m h q = go (eqb (codeOf s m) 1 && eqb (m .type) typeSet) h
-  where
-    go : (b : Bool) → b && touches (itemIn m) asked ≡ false
-        → rowOf asked .rule .value (pick b (row m .rule .stored s (parameters m)) s) q ≡ rowOf asked .rule .value s q
-    go true t = others-unchanged (itemIn m) asked t s (parameters m) q
-    go false t = refl
+message-leaves asked s m h =
+    after-ways (Same (rowOf asked) s) s m (λ e kind. others-unchanged (itemIn m) asked (rw (e, kind) at h) s (parameters m)) (λ q. refl)
 
 messages-leave : (asked : ℕ) (s : Settings) (ms : List Message) → noneChanges asked s ms → Same (rowOf asked) s (afterAll s ms)
 messages-leave asked s [] h q = refl

@@ -1,10 +1,13 @@
 -- How the codes of a message's header, of the table and of the item make the message's code.
 use Prim.Native.Nat.{ℕ}
 use mathlib.Core.Path.{_≡_, refl, _∙_}
-use mathlib.Core.Bool.{true, false}
+use mathlib.Core.Bool.{true, false, _&&_}
 use mathlib.Core.List.{List, _++_}
 use lib.ListN.{getD}
-use borrow.Author.Tests.{ne-eqb, not-false}
+use borrow.Author.Tests.{ne-eqb, eqb-true, not-false}
+use lib.Dec.{eqb}
+use Rattle.wire.specs.Header.{typeSet}
+use Rattle.wire.proofs.Laws.{and-left, and-right, pick-keeps}
 use Rattle.wire.specs.Choice.{Check, firstOf}
 use Rattle.wire.proofs.Checks.{Absent, absent, first-stops, first-goes-on}
 use Rattle.items.specs.declared.Settings.{Settings}
@@ -70,3 +73,12 @@ module _ (s : Settings) (m : Message) where
   pub refused : (code : ℕ) → (code ≡ 1 → ⊥) → codeOf s m ≡ code → record { code = code; settings = s } ≡ judgedOf s m
   unfolding settingsAfter
   refused code h e = rw (e, ne-eqb code 1 h) refl
+
+-- the two ways that a message goes: an accepted set stores, and everything else leaves every setting
+pub after-ways : (P : Settings → Type 0) (s : Settings) (m : Message)
+    → (codeOf s m ≡ 1 → m .type ≡ typeSet → P (row m .rule .stored s (parameters m))) → P s → P (settingsAfter s m)
+unfolding settingsAfter
+after-ways P s m stored same =
+    pick-keeps P (eqb (codeOf s m) 1 && eqb (m .type) typeSet) _ _
+    (λ b. stored (eqb-true (codeOf s m) 1 (and-left (eqb (codeOf s m) 1) (eqb (m .type) typeSet) b)) (eqb-true (m .type) typeSet (and-right (eqb (codeOf s m) 1) (eqb (m .type) typeSet) b)))
+    (λ b. same)

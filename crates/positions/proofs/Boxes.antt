@@ -2,20 +2,20 @@
 -- nothing.
 use Prim.Native.Nat.{ℕ}
 use mathlib.Core.Path.{_≡_, refl, sym, _∙_}
-use mathlib.Core.Bool.{Bool, true, false, _&&_}
+use mathlib.Core.Bool.{true, false, _&&_}
 use mathlib.Core.List.{List}
-use borrow.Author.Tests.{eq-eqb, eqb-true}
+use borrow.Author.Tests.{eq-eqb}
 use lib.Dec.{eqb}
-use Rattle.wire.specs.Choice.{pick}
 use Rattle.wire.specs.Header.{typeSet}
-use Rattle.wire.proofs.Checks.{absent}
 use Rattle.wire.proofs.Laws.{never, and-both, and-rest}
 use Rattle.packets.specs.declared.Form.{Form}
 use Rattle.framing.specs.Framing.{taken}
 use Rattle.items.specs.declared.Settings.{Settings}
-use Rattle.items.specs.Items.{Item, rowOf, state, stateAfter, runByte, idle}
-use Rattle.items.specs.Answer.{Message, codeOf, checks, refusedRunning, settingsAfter, row, parameters, itemIn}
+use Rattle.items.specs.Items.{Item, rowOf, state, runByte, modeByte}
+use Rattle.items.specs.Answer.{Message, codeOf, settingsAfter, row, parameters, itemIn}
 use Rattle.items.proofs.Rows.{_then_, found}
+use Rattle.items.proofs.Judging.{is-free, after-ways}
+use Rattle.items.proofs.States.{state-ways}
 use Rattle.station.specs.declared.Station.{Station}
 use Rattle.station.specs.Feeding.{feedingOf, messageIn}
 use Rattle.station.proofs.Valid.{each-way}
@@ -44,19 +44,13 @@ Starts i = (s : Settings) (p : List ℕ) → s .running ≡ false → i .rule .s
 
 -- idle stops the box, and run while running changes nothing
 state-leaves : Leaves state
-state-leaves s p r l a = go (eqb (runByte p) idle) refl
-  where
-    go : (b : Bool) → eqb (runByte p) idle ≡ b → nextOf (stateAfter s p) ≡ nextOf s
-    go true q = never (rw q at a)
-    go false q = rw (q, r)
+state-leaves s p r l =
+    state-ways (λ t. t .running ≡ true → nextOf t ≡ nextOf s) (runByte p) (modeByte p) s (λ i a. never a) (λ i on a. refl) (λ i off a. never (sym off ∙ r))
 
 -- "Starting from idle sets the packet count to 0."
 state-starts : Starts state
-state-starts s p r a = go (eqb (runByte p) idle) refl
-  where
-    go : (b : Bool) → eqb (runByte p) idle ≡ b → stateAfter s p .count ≡ 0
-    go true q = never (rw q at a)
-    go false q = rw (q, r)
+state-starts s p r =
+    state-ways (λ t. t .running ≡ true → t .count ≡ 0) (runByte p) (modeByte p) s (λ i a. never a) (λ i on a. never (sym r ∙ on)) (λ i off a. refl)
 
 -- name, serial, interface, versions and status; state; frequency, gain and clock; rate and packet size, which are locked
 rows-leave : (code : ℕ) → Leaves (rowOf code)
@@ -94,36 +88,19 @@ rows-start =
 
 -- an accepted set was not locked
 unlocked : (s : Settings) (m : Message) → codeOf s m ≡ 1 → m .type ≡ typeSet → s .running ≡ true → row m .rule .locked s (parameters m) ≡ false
-unfolding codeOf
 unlocked s m e t r =
-    let clear = absent (checks s m) 1 refl e in
-    let free : refusedRunning (row m) (m .type) s (parameters m) ≡ false = clear .1 .1 .1 .1 .1 .1 .1 .1 .0 in
-    and-rest (eqb (m .type) typeSet && s .running) (row m .rule .locked s (parameters m)) free (and-both (eqb (m .type) typeSet) (s .running) (eq-eqb _ _ t) r)
+    and-rest (eqb (m .type) typeSet && s .running) (row m .rule .locked s (parameters m)) (is-free s m e)
+    (and-both (eqb (m .type) typeSet) (s .running) (eq-eqb _ _ t) r)
 
 -- one message
 message-leaves : (s : Settings) (m : Message) → s .running ≡ true → settingsAfter s m .running ≡ true → nextOf (settingsAfter s m) ≡ nextOf s
-unfolding settingsAfter
-message-leaves s m r = go (eqb (codeOf s m) 1) refl (eqb (m .type) typeSet) refl
-  where
-    after : Bool → Settings
-    after b = pick b (row m .rule .stored s (parameters m)) s
-
-    go : (b : Bool) → eqb (codeOf s m) 1 ≡ b → (c : Bool) → eqb (m .type) typeSet ≡ c
-        → after (eqb (codeOf s m) 1 && eqb (m .type) typeSet) .running ≡ true → nextOf (after (eqb (codeOf s m) 1 && eqb (m .type) typeSet)) ≡ nextOf s
-    go true q true t = rw (q, t) (rows-leave (itemIn m) s (parameters m) r (unlocked s m (eqb-true _ _ q) (eqb-true _ _ t) r))
-    go true q false t = rw (q, t) (λ a. refl)
-    go false q c t = rw q (λ a. refl)
+message-leaves s m r =
+    after-ways (λ t. t .running ≡ true → nextOf t ≡ nextOf s) s m
+    (λ e t. rows-leave (itemIn m) s (parameters m) r (unlocked s m e t r)) (λ a. refl)
 
 message-starts : (s : Settings) (m : Message) → s .running ≡ false → settingsAfter s m .running ≡ true → settingsAfter s m .count ≡ 0
-unfolding settingsAfter
-message-starts s m r = go (eqb (codeOf s m) 1 && eqb (m .type) typeSet)
-  where
-    after : Bool → Settings
-    after b = pick b (row m .rule .stored s (parameters m)) s
-
-    go : (b : Bool) → after b .running ≡ true → after b .count ≡ 0
-    go true a = rows-start (itemIn m) s (parameters m) r a
-    go false a = never (sym r ∙ a)
+message-starts s m r =
+    after-ways (λ t. t .running ≡ true → t .count ≡ 0) s m (λ e t. rows-start (itemIn m) s (parameters m) r) (λ a. never (sym r ∙ a))
 
 -- what one call of feeding can leave: the settings given, or those after the message that it finished
 fed-leaves : (P : Settings → Type 0) (s : Station) (host : List ℕ) (room : ℕ)

@@ -20,7 +20,7 @@ use Rattle.items.specs.Items.{Item, items, frequency, gain, clock, rate, packet
 use Rattle.wire.specs.Header.{typeSet}
 use Rattle.items.specs.Answer.{Message, itemIn, codeOf, settingsAfter, row, parameters}
 use Rattle.items.proofs.Rows.{allHave, _then_, found}
-use Rattle.items.proofs.Judging.{has-value}
+use Rattle.items.proofs.Judging.{has-value, after-ways}
 use Rattle.items.proofs.States.{state-ways}
 
 -- every setting lies within its range, one by one
@@ -138,13 +138,6 @@ refused-leaves s m h = left-alone s m (and-not-left (eqb (codeOf s m) 1) (eqb (m
 
 -- "No setting of a box started fresh ever leaves its range": no message takes one out of it
 pub message-keeps : (s : Settings) (m : Message) → inRange s ≡ true → inRange (settingsAfter s m) ≡ true
-message-keeps s m h = go (eqb (codeOf s m) 1 && eqb (m .type) typeSet) refl
-  where
-    go : (b : Bool) → (eqb (codeOf s m) 1 && eqb (m .type) typeSet) ≡ b → inRange (settingsAfter s m) ≡ true
-    go true q =
-        rw (accepted-set s m q)
-        (in-range _
-        (found Keeps stays items-keep (itemIn m) s (parameters m) (ranges s h)
-        (rw (and-right (eqb (codeOf s m) 1) (eqb (m .type) typeSet) q) at
-        (has-value s m (eqb-true (codeOf s m) 1 (and-left (eqb (codeOf s m) 1) (eqb (m .type) typeSet) q))))))
-    go false q = rw (left-alone s m q) h
+message-keeps s m h =
+    after-ways (λ t. inRange t ≡ true) s m
+    (λ e kind. in-range _ (found Keeps stays items-keep (itemIn m) s (parameters m) (ranges s h) (rw kind at (has-value s m e)))) h
