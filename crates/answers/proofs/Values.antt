@@ -1,6 +1,7 @@
 -- The bytes of the values that replies show.
 use Prim.Native.Nat.{ℕ, zero, suc, _+_, _*_, _<_}
 use mathlib.Core.Path.{_≡_, refl, sym, ap, _∙_}
+use mathlib.Core.Bool.{true, false}
 use mathlib.Core.List.{List, [], _∷_, _++_}
 use native.Mathlib.Omega.{arith}
 use lib.Dec.{lit<}
@@ -11,7 +12,8 @@ use Rattle.wire.specs.Header.{typeReply}
 use Rattle.wire.proofs.Numbers.{bytes-number}
 use Rattle.layouts.specs.Layouts.{laid}
 use Rattle.items.specs.Settings.{freshOf}
-use Rattle.items.specs.Items.{versions}
+use Rattle.items.specs.Items.{versionTable, isVersion, versions}
+use Rattle.items.proofs.Versions.{version-has, no-version-has}
 use Rattle.items.specs.Answer.{framed, replyBody}
 use Rattle.answers.specs.Inside.{echoing}
 
@@ -50,11 +52,12 @@ serial-bytes serial long small v is =
     let same : v ≡ number (serial ++ 0x00 ∷ []) = is ∙ ap number all ∙ sym (number-zero serial) in
     ap (bytes 9) same ∙ (rw nine at (bytes-number (serial ++ 0x00 ∷ []) (small-zero serial small)))
 
--- an id that is not in the table
-pub no-version : (id : ℕ) → (id ≡ 0 → ⊥) → (id ≡ 1 → ⊥) → (id ≡ 2 → ⊥) → (id ≡ 3 → ⊥)
-    → laid (echoing 0x0004 id 0 0) ≡ framed typeReply (replyBody versions (freshOf []) (id ∷ []))
-no-version zero a b c d = absurd (a refl)
-no-version (suc zero) a b c d = absurd (b refl)
-no-version (suc (suc zero)) a b c d = absurd (c refl)
-no-version (suc (suc (suc zero))) a b c d = absurd (d refl)
-no-version (suc (suc (suc (suc k)))) a b c d = refl
+-- the reply to a request of a version, and to one of what is none
+pub version-laid : (id : ℕ) → isVersion id ≡ true
+    → laid (echoing 0x0004 id 2 (number (getD versionTable id []))) ≡ framed typeReply (replyBody versions (freshOf []) (id ∷ []))
+version-laid =
+    version-has (λ id. laid (echoing 0x0004 id 2 (number (getD versionTable id []))) ≡ framed typeReply (replyBody versions (freshOf []) (id ∷ [])))
+    refl refl refl refl
+
+pub no-version : (id : ℕ) → isVersion id ≡ false → laid (echoing 0x0004 id 0 0) ≡ framed typeReply (replyBody versions (freshOf []) (id ∷ []))
+no-version = no-version-has (λ id. laid (echoing 0x0004 id 0 0) ≡ framed typeReply (replyBody versions (freshOf []) (id ∷ []))) (λ k. refl)

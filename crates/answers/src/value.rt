@@ -12,11 +12,9 @@ ghost use Rattle.items.specs.Answer.{framed, replyBody};
 ghost use Rattle.answers.specs.Inside.{plainly, echoing};
 use items::Settings;
 use items::table;
+use items::values;
 use layouts::Layout;
 use wire::types;
-
-// "NetSDR" and a zero byte, the first character in the low byte.
-const NAME: u64 = 0x0052_4453_7465_4E;
 
 // The reply for an item with its current value, and the channel byte or id that it echoes. What is no item has an empty
 // value.
@@ -25,12 +23,12 @@ pub(crate) fn reply_layout(s: Settings, item: u16, echo: u8) -> Layout
     ensures { λ r. ⌜ laid r ≡ framed typeReply (replyBody (rowOf item) s (echo ∷ [])) ⌝ }
 {
     match item {
-        table::NAME => plain(item, 7, NAME),
+        table::NAME => plain(item, 7, values::NAME),
         table::SERIAL => {
             let serial = s.serial;
             plain(item, 9, serial_value(&serial))
         }
-        table::INTERFACE => plain(item, 2, 105),
+        table::INTERFACE => plain(item, 2, values::INTERFACE),
         table::VERSIONS => version(echo),
         table::STATUS => plain(item, 1, status_value(s.running)),
         table::STATE => plain(item, 4, state_value(s.running, s.mode)),
@@ -69,24 +67,25 @@ fn with_echo(item: u16, echo: u8, width: u8, value: u64) -> Layout
     }
 }
 
-// "id, then two bytes: 0: 64 00, 1: 6B 00, 2: 66 00, 3: 01 07 (house)". There is no other id.
+// The id, then its two bytes; what is no version has none.
 fn version(id: u8) -> Layout
     ensures { λ r. ⌜ laid r ≡ framed typeReply (replyBody versions (freshOf []) (id ∷ [])) ⌝ }
 {
-    match id {
-        0 => with_echo(table::VERSIONS, id, 2, 0x0064),
-        1 => with_echo(table::VERSIONS, id, 2, 0x006B),
-        2 => with_echo(table::VERSIONS, id, 2, 0x0066),
-        3 => with_echo(table::VERSIONS, id, 2, 0x0701),
-        _ => with_echo(table::VERSIONS, id, 0, 0),
+    if values::is_version(id) {
+        return with_echo(table::VERSIONS, id, 2, values::version_of(id));
     }
+    with_echo(table::VERSIONS, id, 0, 0)
 }
 
 // "0B idle, 0C running"
 fn status_value(running: bool) -> u64
     ensures { λ r. ⌜ r ≡ pick running 0x0C 0x0B ⌝ }
 {
-    if running { 0x0C } else { 0x0B }
+    if running {
+        values::STATUS_RUNNING
+    } else {
+        values::STATUS_IDLE
+    }
 }
 
 // "Replies hold 80, run byte, mode, 00 (house)."

@@ -6,3 +6,4 @@ pub mod Serials
 pub mod Judging
 pub mod TenBytes
 pub mod States
+pub mod Versions

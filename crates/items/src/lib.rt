@@ -3,6 +3,7 @@
 pub mod header; // header.rt: what the header of a message decides
 pub mod ranges; // ranges.rt: a fresh box, and which settings are within their ranges
 pub mod table; // table.rt: the table's lengths
+pub mod values; // values.rt: the values that the table gives
 
 pub use ranges::fresh;
 pub use ranges::in_range;

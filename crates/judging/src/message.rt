@@ -12,6 +12,7 @@ use items::Judged;
 use items::Settings;
 use items::header;
 use items::table;
+use items::values;
 use wire::codes;
 use wire::types;
 
@@ -53,7 +54,7 @@ fn asked_code(item: u16, p: &[u8]) -> u8
 {
     match item {
         table::VERSIONS => {
-            if p[0] <= 3 {
+            if values::is_version(p[0]) {
                 return codes::DONE;
             }
             codes::VALUE_NOT_ALLOWED

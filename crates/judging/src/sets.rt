@@ -12,6 +12,7 @@ use items::Judged;
 use items::Settings;
 use items::ranges;
 use items::table;
+use items::values;
 use wire::codes;
 
 // A set of an item. Where the table has a dash there is nothing to store; such a set is refused before (14).
@@ -70,12 +71,12 @@ fn set_state(s: Settings, p: &[u8]) -> Judged
     ensures { λ r. ⌜ r ≡ setBy state s (now (p .entry)) ⌝ }
 {
     match p[1] {
-        1 => {
+        values::IDLE => {
             let mut idle = s;
             idle.running = false;
             accepted(idle)
         }
-        2 => start(s, p[0], p[2]),
+        values::RUN => start(s, p[0], p[2]),
         _ => refused(codes::VALUE_NOT_ALLOWED, s),
     }
 }
@@ -84,7 +85,7 @@ fn set_state(s: Settings, p: &[u8]) -> Judged
 fn start(s: Settings, first: u8, mode: u8) -> Judged
     ensures { λ r. ⌜ r ≡ setBy state s (first ∷ 2 ∷ mode ∷ []) ⌝ }
 {
-    let allowed = (first == 0x80) & ranges::is_mode(mode);
+    let allowed = (first == values::COMPLEX) & ranges::is_mode(mode);
     let other_mode = mode != s.mode;
     decide(s, started(s, mode), true, allowed, s.running & other_mode)
 }

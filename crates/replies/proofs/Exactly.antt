@@ -27,6 +27,7 @@ use Rattle.items.specs.Settings.{isMode, isSerialByte, allSerial, isSerial, inR
 use Rattle.items.specs.Items.{nameBytes, versionTable, run, idle, achievedRate}
 use Rattle.items.specs.Answer.{settingsAfter, replyOf, replyTo, framed, parameters}
 use Rattle.station.proofs.Kept.{Ranges, ranges, message-keeps}
+use Rattle.items.proofs.Versions.{version-has}
 use Rattle.wishes.specs.declared.StateFields.{StateFields}
 use Rattle.wishes.specs.declared.Wish.{Wish}
 use Rattle.wishes.specs.declared.Wish.the-variants.{AskName, AskSerial, AskInterface, AskVersion, AskStatus, SetState, AskState, SetFrequency, AskFrequency, AskFrequencyRange, SetGain, AskGain, SetClock, AskClock, SetRate, AskRate, SetPacketSize, AskPacketSize}
@@ -42,7 +43,7 @@ use Rattle.replies.specs.Saying.{saysOf, saidBy}
 use Rattle.replies.specs.Exactly.{ReadAsSaid, Given, Exactly}
 use Rattle.wire.proofs.Lists.{same-eq, eq-same}
 use Rattle.replies.proofs.Answers.{read-nak}
-use Rattle.replies.proofs.Recognised.{version-has, reply-read, reply-is-reply, is-reply-bytes, code-accepted, accepted-code}
+use Rattle.replies.proofs.Recognised.{reply-read, reply-is-reply, is-reply-bytes, code-accepted, accepted-code}
 
 -- ---- the value that a box shows
 

@@ -23,6 +23,7 @@ use Rattle.layouts.proofs.Sizes.{least, length-laid}
 use Rattle.layouts.proofs.Values.{value-read}
 use Rattle.items.specs.Items.{nameBytes, versionTable, isVersion}
 use Rattle.wire.proofs.Signed.{coded-below}
+use Rattle.items.proofs.Versions.{version-has}
 use Rattle.items.specs.Settings.{allSerial}
 use Rattle.wishes.specs.declared.Wish.{Wish}
 use Rattle.wishes.specs.declared.Wish.the-variants.{AskName, AskSerial, AskInterface, AskVersion, AskStatus, SetState, AskState, SetFrequency, AskFrequency, AskFrequencyRange, SetGain, AskGain, SetClock, AskClock, SetRate, AskRate, SetPacketSize, AskPacketSize}
@@ -34,17 +35,6 @@ use Rattle.replies.specs.Reading.{isNak, isReply, readCode, told, toldOf
 use Rattle.wire.specs.Lists.{same}
 use Rattle.replies.proofs.Answers.{read-reply}
 use Rattle.wire.proofs.Lists.{same-eq, same-refl, ne-same}
-
--- what holds of each version's id
-pub version-has : (P : ℕ → Type 0) → P 0 → P 1 → P 2 → P 3 → (id : ℕ) → isVersion id ≡ true → P id
-version-has P a b c d zero e = a
-version-has P a b c d (suc zero) e = b
-version-has P a b c d (suc (suc zero)) e = c
-version-has P a b c d (suc (suc (suc zero))) e = d
-version-has P a b c d (suc (suc (suc (suc n)))) e = absurd (over (ltb-true (suc (suc (suc (suc n)))) 4 e))
-  where
-    over : suc (suc (suc (suc n))) < 4 → ⊥
-    over h = omega arith
 
 rate-below : (hz : ℕ) → mayAsk hz ≡ true → hz < 256 ^ 4
 rate-below hz e = omega (arith, within-high 32_000 2_000_000 hz e)

@@ -5,10 +5,11 @@ ghost use Prim.Native.Nat.{_^_, _<_};
 ghost use Rattle.wire.specs.Number.{field};
 ghost use Rattle.wire.specs.Signed.{signed};
 ghost use Rattle.wishes.specs.Wishes.{allowed};
-ghost use Rattle.replies.specs.Awaited.{awaited, holdsSerial, isStatus, isState, stateCould, saysState, versionNumber, replyLayout, replyBytes, valueAt};
+ghost use Rattle.replies.specs.Awaited.{awaited, holdsSerial, isStatus, isState, stateCould, saysState, replyLayout, replyBytes, valueAt};
 ghost use Rattle.replies.specs.declared.Reply.the-variants.{State};
 ghost use Rattle.replies.specs.Reading.{isNak, told, toldOf};
 ghost use Rattle.wire.specs.Lists.{same};
+use items::values;
 use layouts::Layout;
 use wire::types;
 use wishes::StateFields;
@@ -38,9 +39,6 @@ pub enum Reply {
     NotAReply,
 }
 
-// "NetSDR" and a zero byte.
-const NAME: u64 = 0x00_52_44_53_74_65_4E;
-
 // How many bytes the value has in a reply to a wish.
 fn width_of(w: Wish) -> u8
     ensures { λ r. ⌜ r ≡ awaited w .width ⌝ }
@@ -54,19 +52,6 @@ fn width_of(w: Wish) -> u8
         Wish::AskStatus | Wish::SetGain(_) | Wish::AskGain => 1,
         Wish::SetPacketSize(_) | Wish::AskPacketSize => 1,
         _ => 4,
-    }
-}
-
-// The two bytes of a version, as one number.
-fn version_number(id: u8) -> u64
-    ensures { λ r. ⌜ r ≡ versionNumber id ⌝ }
-{
-    match id {
-        0 => 0x0064,
-        1 => 0x006B,
-        2 => 0x0066,
-        3 => 0x0701,
-        _ => 0,
     }
 }
 
@@ -90,10 +75,10 @@ fn is_serial(n: u64) -> bool
 fn is_status(n: u64) -> bool
     ensures { λ r. ⌜ r ≡ isStatus n ⌝ }
 {
-    if n == 0x0B {
+    if n == values::STATUS_IDLE {
         return true;
     }
-    if n == 0x0C {
+    if n == values::STATUS_RUNNING {
         return true;
     }
     false
@@ -113,7 +98,7 @@ fn is_state(n: u64) -> bool
 fn state_could(fields: StateFields, n: u64) -> bool
     ensures { λ r. ⌜ r ≡ stateCould fields n ⌝ }
 {
-    if fields.run == 1 {
+    if fields.run == values::IDLE {
         return match n {
             0x0080_0180 | 0x0000_0180 => true,
             _ => false,
@@ -129,10 +114,10 @@ fn could_say(w: Wish, n: u64) -> bool
     ensures { λ r. ⌜ r ≡ awaited w .could n ⌝ }
 {
     match w {
-        Wish::AskName => n == NAME,
+        Wish::AskName => n == values::NAME,
         Wish::AskSerial => is_serial(n),
-        Wish::AskInterface => n == 105,
-        Wish::AskVersion(id) => n == version_number(id),
+        Wish::AskInterface => n == values::INTERFACE,
+        Wish::AskVersion(id) => n == values::version_of(id),
         Wish::AskStatus => is_status(n),
         Wish::SetState(fields) => state_could(fields, n),
         Wish::AskState => is_state(n),
@@ -176,7 +161,7 @@ fn says(w: Wish, n: u64) -> Reply
         Wish::AskSerial => Reply::Serial(n),
         Wish::AskInterface => Reply::Interface(n as u16),
         Wish::AskVersion(id) => Reply::Version(id, n as u16),
-        Wish::AskStatus => Reply::Status(n == 0x0C),
+        Wish::AskStatus => Reply::Status(n == values::STATUS_RUNNING),
         Wish::SetState(_) | Wish::AskState => Reply::State(state_in(n)),
         Wish::SetFrequency(_) | Wish::AskFrequency => Reply::Frequency(n),
         Wish::AskFrequencyRange => Reply::FrequencyRange,

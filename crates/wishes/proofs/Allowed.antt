@@ -4,11 +4,11 @@ use mathlib.Core.Path.{_≡_, refl, sym, ap, subst, _∙_}
 use mathlib.Core.Bool.{true, false, _&&_}
 use mathlib.Core.List.{List, [], _∷_, map}
 use native.Mathlib.Omega.{arith}
-use lib.Dec.{eqb, leb, lit≤}
+use lib.Dec.{eqb, lit≤}
 use lib.IntN.{ℤ, pos, negsuc}
 use lib.Signed.{mag}
 use denote.Enum.Declared.{tagOf}
-use borrow.Author.Tests.{eqb-true, eqb-false, eq-eqb, ne-eqb, lt-ltb, le-ltb, leb-true, leb-false}
+use borrow.Author.Tests.{eqb-true, eqb-false, eq-eqb, ne-eqb}
 use Rattle.wire.specs.Choice.{within, oneOf}
 use Rattle.wire.specs.Signed.{coded, sameInteger}
 use Rattle.wire.proofs.Laws.{true-not-false, never, and-left, and-right, within-high, by-test, by-or, one-has}
@@ -37,12 +37,6 @@ state-has P idle wide narrow f =
     (λ (is : eqb (f .run) 2 && isMode (f .mode) ≡ true).
     subst (λ (r : ℕ). P (record { run = r; mode = f .mode })) (sym (eqb-true (f .run) 2 (and-left (eqb (f .run) 2) (isMode (f .mode)) is)))
     (one-has (λ (m : ℕ). P (record { run = 2; mode = m })) (f .mode) (0x80 ∷ 0x00 ∷ []) (wide, (narrow, tt)) (and-right (eqb (f .run) 2) (isMode (f .mode)) is)))
-
--- the ids of versions
-pub version-test : (id : ℕ) → leb id 3 ≡ allowed (AskVersion id)
-version-test id =
-    by-test (leb id 3) (λ low. low ∙ sym (lt-ltb id 4 (omega (arith, leb-true id 3 low))))
-    (λ high. high ∙ sym (le-ltb id 4 (leb-false id 3 high)))
 
 -- ---- gains
 

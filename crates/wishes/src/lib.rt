@@ -8,6 +8,7 @@ ghost use Rattle.wishes.specs.Wishes.{layoutOf, allowed, mayWishState};
 ghost use Rattle.wishes.specs.Writing.{told, toldOf, bytesWritten};
 ghost use Rattle.wishes.specs.Inside.{stateNumber};
 use items::table;
+use items::values;
 use layouts::Layout;
 use wire::types;
 
@@ -58,7 +59,7 @@ fn gain_byte(g: i8) -> u8
 fn state_number(fields: StateFields) -> u64
     ensures { λ r. ⌜ r ≡ stateNumber fields ⌝ }
 {
-    if fields.run == 1 {
+    if fields.run == values::IDLE {
         return 0x100;
     }
     0x80 + 256 * (fields.run as u64 + 256 * fields.mode as u64)
@@ -131,8 +132,8 @@ fn may_state(fields: StateFields) -> bool
 {
     let run = fields.run;
     match run {
-        1 => true,
-        2 => items::ranges::is_mode(fields.mode),
+        values::IDLE => true,
+        values::RUN => items::ranges::is_mode(fields.mode),
         _ => false,
     }
 }
@@ -142,7 +143,7 @@ pub fn allows(w: Wish) -> bool
     ensures { λ r. ⌜ r ≡ allowed w ⌝ }
 {
     match w {
-        Wish::AskVersion(id) => id <= 3,
+        Wish::AskVersion(id) => values::is_version(id),
         Wish::SetState(fields) => may_state(fields),
         Wish::SetFrequency(hz) => tuning::in_bands(hz),
         Wish::SetGain(g) => items::ranges::is_gain(gain_byte(g)),

@@ -25,8 +25,8 @@ enum-told-3 c = search needs
 enum-known-w : tie.Need-enum-known-w
 enum-known-w c = search needs
 
-version-number-requires : tie.Need-version-number-requires
-version-number-requires c κs = search needs
+version-of-requires : tie.Need-version-of-requires
+version-of-requires c κs = search needs
 
 enum-told-4 : tie.Need-enum-told-4
 enum-told-4 c = search needs
@@ -113,7 +113,7 @@ returns-3 : tie.Need-returns-3
 returns-3 c = rw (c .enum-told3 .given .1)
 
 returns-4 : tie.Need-returns-4
-returns-4 c = rw (c .before .before .w .given .1) (ap (eqb (c .before .before .before .before .args .n)) (c .version-number .ensures))
+returns-4 c = rw (c .before .before .w .given .1) (ap (eqb (c .before .before .before .before .args .n)) (c .version-of .ensures))
 
 returns-5 : tie.Need-returns-5
 returns-5 c = rw (c .before .enum-told4 .given .1) (c .is-status .ensures)
@@ -162,7 +162,7 @@ could-say-spec =
     is-serial-requires
     enum-told-3
     enum-known-w
-    version-number-requires
+    version-of-requires
     enum-told-4
     is-status-requires
     enum-known-w-2

@@ -8,12 +8,15 @@ use mir.Val.{toZ, ofZ}
 use Rattle.wire.specs.Signed.{coded}
 use Rattle.items.specs.Settings.{isGain}
 use Rattle.items.proofs.Keys.{matched}
-use Rattle.wishes.proofs.Allowed.{version-test, gain-bits, valueless, valueless-allowed}
+use Rattle.wishes.proofs.Allowed.{gain-bits, valueless, valueless-allowed}
 use Rattle.wishes.proofs.allows.Statement.{statement}
 use Rattle.wishes.proofs.allows.Tie as tie
 
 enum-known-w : tie.Need-enum-known-w
 enum-known-w c = search needs
+
+is-version-requires : tie.Need-is-version-requires
+is-version-requires c κs = search needs
 
 enum-known-w-2 : tie.Need-enum-known-w-2
 enum-known-w-2 c = search needs
@@ -55,7 +58,7 @@ is-size-requires : tie.Need-is-size-requires
 is-size-requires c κs = search needs
 
 returns : tie.Need-returns
-returns c = rw (c .before .w .given .1) (version-test (c .before .w .given .0 .0))
+returns c = rw (c .before .before .w .given .1) (c .is-version .ensures)
 
 returns-2 : tie.Need-returns-2
 returns-2 c = rw (c .before .before .w2 .given .1) (c .may-state .ensures)
@@ -89,6 +92,7 @@ allows-spec =
     tie.close
     (tie.spec
     enum-known-w
+    is-version-requires
     enum-known-w-2
     may-state-requires
     enum-known-w-3

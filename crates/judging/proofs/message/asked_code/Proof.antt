@@ -1,23 +1,21 @@
 -- Only versions, frequency and gain ask something of a request.
-use mathlib.Core.Path.{refl}
-use lib.ListN.{getD}
+use mathlib.Core.Path.{refl, sym, _∙_}
 use denote.Ref.{now}
-use native.Mathlib.Omega.{arith}
-use borrow.Author.Tests.{lt-ltb, le-ltb}
 use Rattle.items.specs.Items.{rowOf}
 use Rattle.judging.proofs.Parts.{asked-else}
 use borrow.Author.Needs.{needs}
 use Rattle.judging.proofs.message.asked_code.Statement.{statement}
 use Rattle.judging.proofs.message.asked_code.Tie as tie
 
-shared-slice-read-if1 : tie.Need-shared-slice-read-if1
-shared-slice-read-if1 c = search needs
+shared-slice-read-is-version : tie.Need-shared-slice-read-is-version
+shared-slice-read-is-version c = search needs
+
+is-version-requires : tie.Need-is-version-requires
+is-version-requires c κs = search needs
 
 returns : tie.Need-returns
 unfolding rowOf
-returns c =
-    let p = now (c .before .before .before .before .args .p) in
-    rw (c .before .before .match .keys1, lt-ltb (getD p 0 0) 4 (omega (arith, c .if1 .taken))) refl
+returns c = rw (c .before .before .before .match .keys1, sym (c .before .is-version .ensures) ∙ c .if1 .taken) refl
 
 shared-slice-read-asked-channel : tie.Need-shared-slice-read-asked-channel
 shared-slice-read-asked-channel c = search needs
@@ -33,9 +31,7 @@ asked-channel-requires-2 c κs = search needs
 
 returns-2 : tie.Need-returns-2
 unfolding rowOf
-returns-2 c =
-    let p = now (c .before .before .before .before .args .p) in
-    rw (c .before .before .match .keys1, le-ltb (getD p 0 0) 4 (omega (arith, c .if1 .left))) refl
+returns-2 c = rw (c .before .before .before .match .keys1, sym (c .before .is-version .ensures) ∙ c .if1 .left) refl
 
 returns-3 : tie.Need-returns-3
 unfolding rowOf
@@ -54,7 +50,8 @@ pub asked-code-spec : {M : Type 1} → statement M
 asked-code-spec =
     tie.close
     (tie.spec
-    shared-slice-read-if1
+    shared-slice-read-is-version
+    is-version-requires
     returns
     shared-slice-read-asked-channel
     asked-channel-requires

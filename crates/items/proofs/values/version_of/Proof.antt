@@ -6,9 +6,9 @@ use native.Mathlib.Omega.{arith}
 use lib.ListN.{List·getD-eq-default}
 use borrow.Author.Needs.{needs}
 use Rattle.wire.specs.Number.{number}
 use Rattle.items.specs.Items.{versionTable}
-use Rattle.replies.proofs.version_number.Statement.{statement}
-use Rattle.replies.proofs.version_number.Tie as tie
+use Rattle.items.proofs.values.version_of.Statement.{statement}
+use Rattle.items.proofs.values.version_of.Tie as tie
 
 returns : tie.Need-returns
 returns c = search needs
@@ -27,5 +27,5 @@ returns-5 c =
     let past : 4 ≤ c .before .args .id = omega (arith, c .match .rest) in
     sym (ap number (List·getD-eq-default versionTable [] past))
 
-pub version-number-spec : {M : Type 1} → statement M
-version-number-spec = tie.close (tie.spec returns returns-2 returns-3 returns-4 returns-5)
+pub version-of-spec : {M : Type 1} → statement M
+version-of-spec = tie.close (tie.spec returns returns-2 returns-3 returns-4 returns-5)
