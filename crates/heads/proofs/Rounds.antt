@@ -13,6 +13,8 @@ use borrow.Author.Tests.{le-ltb, ltb-false, eqb-true, eq-eqb, ne-eqb}
 use Rattle.wire.specs.Choice.{within}
 use Rattle.wire.specs.Number.{number, bytes, field}
 use Rattle.wire.proofs.Laws.{and-left, and-right, true-not-false, within-high}
+use Rattle.wire.specs.Lists.{allBytes}
+use Rattle.wire.proofs.Lists.{byte-at}
 use Rattle.wire.proofs.Numbers.{bytes-number}
 use Rattle.rates.specs.Rate.{isD}
 use Rattle.tuning.specs.Bands.{inBands}
@@ -143,12 +145,12 @@ fields s =
     after : (at n : ℕ) {c d : List ℕ} → c ≡ d → take n (drop at s) ++ c ≡ take n (drop at s) ++ d
     after at n e = ap (λ (l : List ℕ). take n (drop at s) ++ l) e
 
-pub written-read : (s : List ℕ) → ((k : ℕ) → getD s k 0 < 256) → readCode s ≡ 1 → headBytes (headIn s) ≡ take headLength s
+pub written-read : (s : List ℕ) → allBytes s → readCode s ≡ 1 → headBytes (headIn s) ≡ take headLength s
 unfolding headBytes
 written-read s small ok =
     let p = passed s ok in
     let there : (at n : ℕ) → at + n ≤ headLength → bytes n (field at n s) ≡ take n (drop at s)
-    = λ at n h. field-bytes s at n small (omega (arith, p .long)) in
+    = λ at n h. field-bytes s at n (byte-at s small) (omega (arith, p .long)) in
     let first : mark ≡ take 3 s = sym (ap (bytes 3) (p .marked)) ∙ there 0 3 (omega arith) in
     let second : bytes 2 version ≡ take 2 (drop 3 s) = sym (ap (bytes 2) (p .one)) ∙ there 3 2 (omega arith) in
     both first (both second (both (there 5 2 (omega arith)) (both (there 7 5 (omega arith)) (both (there 12 1 (omega arith)) (there 13 1 (omega arith)))))) ∙ fields s

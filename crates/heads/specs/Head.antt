@@ -1,5 +1,5 @@
 -- Capture head: "Head, 14 bytes: SPN, 16-bit version 1, 16-bit D, five-byte frequency, mode byte, size byte."
-use Prim.Native.Nat.{ℕ, _+_}
+use Prim.Native.Nat.{ℕ}
 use mathlib.Core.Bool.{Bool, _&&_, not}
 use mathlib.Core.List.{List, [], _∷_, _++_}
 use lib.Dec.{eqb, ltb}

@@ -1,6 +1,6 @@
 -- The table of items. "Lengths are totals; a dash means not offered (14)." What every item shares
 -- stands in Answer.antt.
-use Prim.Native.Nat.{ℕ, _+_}
+use Prim.Native.Nat.{ℕ}
 use mathlib.Core.Bool.{Bool, true, false, _&&_, _||_, not}
 use mathlib.Core.List.{List, [], _∷_, _++_}
 use lib.Dec.{eqb, ltb}
@@ -210,7 +210,7 @@ rateRule =
       value = λ s p. bytes 4 (achievedRate (s .divisor));
     }
 
--- packet size: 0 large, 1 small
+-- packet size: 0 large, 1 small; as the rate it cannot be set while running
 abbrev sizeRule : Rule
 sizeRule =
     record {

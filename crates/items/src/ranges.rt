@@ -62,9 +62,9 @@ fn started(serial: [u8; 8]) -> Settings
         clock: 80_000_000,
         divisor: 100,
         running: false,
-        mode: 0x80,
+        mode: packets::MODE_24,
         gain: 0,
-        size: 0,
+        size: packets::LARGE,
         serial,
     }
 }
@@ -87,7 +87,7 @@ pub fn is_mode(byte: u8) -> bool
     ensures { λ r. ⌜ r ≡ isMode byte ⌝ }
 {
     match byte {
-        0x80 | 0x00 => true,
+        packets::MODE_24 | packets::MODE_16 => true,
         _ => false,
     }
 }
@@ -106,7 +106,7 @@ pub fn is_gain(byte: u8) -> bool
 pub fn is_size(byte: u8) -> bool
     ensures { λ r. ⌜ r ≡ isSize byte ⌝ }
 {
-    (byte == 0) | (byte == 1)
+    (byte == packets::LARGE) | (byte == packets::SMALL)
 }
 
 // A character of a serial: A-Z, 0-9.

@@ -83,7 +83,7 @@ fn set_state(s: Settings, p: &[u8]) -> Judged
 
 // "Run byte 2 starts: first byte 80 and mode 80 (24 bits) or 00 (16 bits), else 16." Run while running "in another mode 17".
 fn start(s: Settings, first: u8, mode: u8) -> Judged
-    ensures { λ r. ⌜ r ≡ setBy state s (first ∷ 2 ∷ mode ∷ []) ⌝ }
+    ensures { λ r. ⌜ r ≡ setBy state s (first ∷ run ∷ mode ∷ []) ⌝ }
 {
     let allowed = (first == values::COMPLEX) & ranges::is_mode(mode);
     let other_mode = mode != s.mode;

@@ -12,6 +12,15 @@ pub const MOST: u64 = 4_000_000_000;
 
 pub const LAST: u64 = 3_999_999_999;
 
+// The mode byte, "80 (24 bits) or 00 (16 bits)", and the size byte, "0 large, 1 small".
+pub const MODE_24: u8 = 0x80;
+
+pub const MODE_16: u8 = 0x00;
+
+pub const LARGE: u8 = 0;
+
+pub const SMALL: u8 = 1;
+
 // How a packet is laid out: the bits of a sample and the I/Q pairs in a packet. The four listed forms are those of the
 // table in specs/Forms.antt.
 pub struct Form {
@@ -31,23 +40,23 @@ pub fn form_for(mode: u8, size: u8) -> Form
     ensures { λ r. ⌜ r ≡ formFor mode size ⌝ }
 {
     match mode {
-        0x80 => match size {
-            0 => Form {
+        MODE_24 => match size {
+            LARGE => Form {
                 bits: 24,
                 pairs: 240,
             },
-            1 => Form {
+            SMALL => Form {
                 bits: 24,
                 pairs: 64,
             },
             _ => Form { bits: 0, pairs: 0 },
         },
-        0x00 => match size {
-            0 => Form {
+        MODE_16 => match size {
+            LARGE => Form {
                 bits: 16,
                 pairs: 256,
             },
-            1 => Form {
+            SMALL => Form {
                 bits: 16,
                 pairs: 128,
             },

@@ -1,7 +1,6 @@
 -- Message blocks: "A header of 16 bits, least significant byte first: bits 0 to 12 the total length, bits 13 to 15 the type."
 use Prim.Native.Nat.{ℕ, _+_, _*_, _/_, _%_}
 use mathlib.Core.List.{List, [], _∷_}
-use Rattle.wire.specs.Number.{bytes}
 
 -- bits 0 to 12 of the header
 abbrev pub lengthIn : ℕ → ℕ
