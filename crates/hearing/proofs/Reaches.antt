@@ -18,7 +18,7 @@ use Rattle.packets.specs.Numbers.{numberAt, stepOf, last}
 use Rattle.packets.proofs.Forms.{of-listed, same-is}
 use Rattle.hearing.specs.declared.Tally.{Tally}
 use Rattle.hearing.specs.declared.Reach.{Reach}
-use Rattle.hearing.specs.Hearing.{joined, taking, formNow, positionNow, heardCode, accepting, closes, cameTo, reaching}
+use Rattle.hearing.specs.Hearing.{lowHigh, taking, formNow, positionNow, heardCode, accepting, closes, cameTo, reaching}
 use Rattle.hearing.specs.Inside.{goesOn, Follows, Samples, skipped, twoAt}
 use Rattle.hearing.proofs.Heard.{heard-by, came-by}
 
@@ -83,33 +83,33 @@ tallied t taken header number =
     }
 
 -- the first four bytes of a packet whose header is listed
-pub reach-front : (n : ℕ) (f : Form) (t : Tally) (a b c d : ℕ) (rest : List ℕ) → t .taken ≡ 0 → listed (formWithHeader (joined a b)) ≡ true → 4 < totalOf (formWithHeader (joined a b))
-    → reaching n f t (a ∷ b ∷ c ∷ d ∷ rest) ≡ reaching (n + 4) f (tallied t 4 (joined a b) (joined c d)) rest
+pub reach-front : (n : ℕ) (f : Form) (t : Tally) (a b c d : ℕ) (rest : List ℕ) → t .taken ≡ 0 → listed (formWithHeader (lowHigh a b)) ≡ true → 4 < totalOf (formWithHeader (lowHigh a b))
+    → reaching n f t (a ∷ b ∷ c ∷ d ∷ rest) ≡ reaching (n + 4) f (tallied t 4 (lowHigh a b) (lowHigh c d)) rest
 unfolding taking
 reach-front n f t a b c d rest none ok long =
     let start : t ≡ tallied t 0 (t .header) (t .number) = ap (λ (k : ℕ). tallied t k (t .header) (t .number)) none in
     let zero′ : heardCode f (taking (tallied t 0 (t .header) (t .number)) a) ≡ 0 = heard-by f (tallied t 1 a (t .number)) refl refl refl refl refl refl in
-    let one : heardCode f (taking (tallied t 1 a (t .number)) b) ≡ 0 = heard-waits f (tallied t 2 (joined a b) (t .number)) (omega arith) ok (omega arith) in
-    let two : heardCode f (taking (tallied t 2 (joined a b) (t .number)) c) ≡ 0 = heard-waits f (tallied t 3 (joined a b) c) (omega arith) ok (omega arith) in
-    let three : heardCode f (taking (tallied t 3 (joined a b) c) d) ≡ 0 = heard-waits f (tallied t 4 (joined a b) (joined c d)) (omega arith) ok (omega arith) in
+    let one : heardCode f (taking (tallied t 1 a (t .number)) b) ≡ 0 = heard-waits f (tallied t 2 (lowHigh a b) (t .number)) (omega arith) ok (omega arith) in
+    let two : heardCode f (taking (tallied t 2 (lowHigh a b) (t .number)) c) ≡ 0 = heard-waits f (tallied t 3 (lowHigh a b) c) (omega arith) ok (omega arith) in
+    let three : heardCode f (taking (tallied t 3 (lowHigh a b) c) d) ≡ 0 = heard-waits f (tallied t 4 (lowHigh a b) (lowHigh c d)) (omega arith) ok (omega arith) in
     let count : n + 1 + 1 + 1 + 1 ≡ n + 4 = omega arith in
     ap (λ (u : Tally). reaching n f u (a ∷ b ∷ c ∷ d ∷ rest)) start
     ∙ reach-wait n f (tallied t 0 (t .header) (t .number)) a (b ∷ c ∷ d ∷ rest) zero′
     ∙ reach-wait (n + 1) f (tallied t 1 a (t .number)) b (c ∷ d ∷ rest) one
-    ∙ reach-wait (n + 1 + 1) f (tallied t 2 (joined a b) (t .number)) c (d ∷ rest) two
-    ∙ reach-wait (n + 1 + 1 + 1) f (tallied t 3 (joined a b) c) d rest three
-    ∙ ap (λ (k : ℕ). reaching k f (tallied t 4 (joined a b) (joined c d)) rest) count
+    ∙ reach-wait (n + 1 + 1) f (tallied t 2 (lowHigh a b) (t .number)) c (d ∷ rest) two
+    ∙ reach-wait (n + 1 + 1 + 1) f (tallied t 3 (lowHigh a b) c) d rest three
+    ∙ ap (λ (k : ℕ). reaching k f (tallied t 4 (lowHigh a b) (lowHigh c d)) rest) count
 
 -- all bytes of a packet whose header is listed: the last one decides
-pub reach-whole : (n : ℕ) (f : Form) (t : Tally) (a b c d : ℕ) (xs : List ℕ) (z : ℕ) (ys : List ℕ) → t .taken ≡ 0 → listed (formWithHeader (joined a b)) ≡ true
-    → length xs + 5 ≡ totalOf (formWithHeader (joined a b))
-    → reaching n f t (a ∷ b ∷ c ∷ d ∷ (xs ++ z ∷ ys)) ≡ goesOn f (cameTo (n + (length xs + 5)) f (tallied t (length xs + 5) (joined a b) (joined c d))) ys
+pub reach-whole : (n : ℕ) (f : Form) (t : Tally) (a b c d : ℕ) (xs : List ℕ) (z : ℕ) (ys : List ℕ) → t .taken ≡ 0 → listed (formWithHeader (lowHigh a b)) ≡ true
+    → length xs + 5 ≡ totalOf (formWithHeader (lowHigh a b))
+    → reaching n f t (a ∷ b ∷ c ∷ d ∷ (xs ++ z ∷ ys)) ≡ goesOn f (cameTo (n + (length xs + 5)) f (tallied t (length xs + 5) (lowHigh a b) (lowHigh c d))) ys
 reach-whole n f t a b c d xs z ys none ok long =
-    let front : Tally = tallied t 4 (joined a b) (joined c d) in
+    let front : Tally = tallied t 4 (lowHigh a b) (lowHigh c d) in
     let past : Samples front (length xs) = record { past = omega arith; form = ok; short = omega arith } in
     let before : Tally = skipped front (length xs) in
-    let last : taking before z ≡ tallied t (length xs + 5) (joined a b) (joined c d)
-    = taking-sample before z (omega arith) ∙ ap (λ (k : ℕ). tallied t k (joined a b) (joined c d)) (omega arith) in
+    let last : taking before z ≡ tallied t (length xs + 5) (lowHigh a b) (lowHigh c d)
+    = taking-sample before z (omega arith) ∙ ap (λ (k : ℕ). tallied t k (lowHigh a b) (lowHigh c d)) (omega arith) in
     let count : n + 4 + length xs + 1 ≡ n + (length xs + 5) = omega arith in
     reach-front n f t a b c d (xs ++ z ∷ ys) none ok (omega arith)
     ∙ reach-skip xs (z ∷ ys) (n + 4) f front past
@@ -190,7 +190,7 @@ follows-of f t piece at k q ok none some long x =
     let ys : List ℕ = drop (at + (k + 5)) piece in
     let counted : length xs ≡ k = length-take-le k (drop (at + 4) piece) (simp length-drop (omega (arith, x .room))) in
     let third : at + 3 ≡ at + 2 + 1 = omega arith in
-    let number : joined (getD piece (at + 2) 0) (getD piece (at + 3) 0) ≡ twoAt piece (at + 2) = ap (λ (i : ℕ). joined (getD piece (at + 2) 0) (getD piece i 0)) third in
+    let number : lowHigh (getD piece (at + 2) 0) (getD piece (at + 3) 0) ≡ twoAt piece (at + 2) = ap (λ (i : ℕ). lowHigh (getD piece (at + 2) 0) (getD piece i 0)) third in
     let form : formWithHeader (twoAt piece at) ≡ f = ap formWithHeader (x .header) ∙ form-with-own f ok in
     let size : length xs + 5 ≡ totalOf (formWithHeader (twoAt piece at)) = omega (arith, counted, long, ap totalOf form) in
     let packet : Tally = tallied t (k + 5) (twoAt piece at) (twoAt piece (at + 2)) in

@@ -33,12 +33,12 @@ inRange t =
 -- ---- one byte
 
 -- the number of a low byte and a high byte. (Of a low byte that is none its last eight bits count.)
-abbrev pub joined : ℕ → ℕ → ℕ
-joined low high = low % 256 + 256 * high
+abbrev pub lowHigh : ℕ → ℕ → ℕ
+lowHigh low high = low % 256 + 256 * high
 
 -- a 16-bit field that begins at a place of the packet, after one byte more
 abbrev pub fieldWith : ℕ → ℕ → ℕ → ℕ → ℕ
-fieldWith place taken field b = pick (eqb taken place) b (pick (eqb taken (place + 1)) (joined field b) field)
+fieldWith place taken field b = pick (eqb taken place) b (pick (eqb taken (place + 1)) (lowHigh field b) field)
 
 -- One byte of the packet more. "Header, 16-bit packet number, then I and Q in turn": all but the first four are skipped.
 unfoldable pub taking : Tally → ℕ → Tally

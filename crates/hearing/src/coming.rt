@@ -2,7 +2,7 @@
 ghost use mathlib.Core.Path.{_≡_};
 ghost use Prim.Native.Nat.{_+_, _≤_, _<_};
 ghost use Rattle.packets.specs.Numbers.{last};
-ghost use Rattle.hearing.specs.Hearing.{inRange, joined, fieldWith, taking, positionNow, orphan, heardCode, accepting, closes, cameTo};
+ghost use Rattle.hearing.specs.Hearing.{inRange, lowHigh, fieldWith, taking, positionNow, orphan, heardCode, accepting, closes, cameTo};
 ghost use Rattle.hearing.specs.Inside.{Sane};
 use crate::Reach;
 use crate::Tally;
@@ -30,7 +30,7 @@ pub fn in_range(t: Tally) -> bool
 
 // The number of a low byte and a high byte.
 fn joined_of(low: u16, high: u8) -> u16
-    ensures { λ r. ⌜ r ≡ joined low high ⌝ }
+    ensures { λ r. ⌜ r ≡ lowHigh low high ⌝ }
 {
     low % 256 + 256 * high as u16
 }

@@ -7,15 +7,15 @@ use mathlib.Core.Bool.{true}
 use mathlib.Core.List.{List, [], _∷_, _++_, append-nil, append-assoc}
 use lib.ListN.{length, drop}
 use borrow.Author.Tests.{ne-eqb}
+use Rattle.wire.specs.Lists.{allBytes, joined}
 use Rattle.hearing.specs.Hearing.{farthest}
 use Rattle.lines.specs.Due.{Telling}
 use Rattle.spans.specs.declared.Span.{Span}
 use Rattle.spans.specs.Report.{report}
 use Rattle.spans.specs.Eating.{Eating, freshSpan, finishingOf}
-use Rattle.spans.specs.Pieces.{room, nothingHanded, before, handing, handed, printedFrom, joinedOf}
+use Rattle.spans.specs.Pieces.{room, nothingHanded, before, handing, handed, printedFrom}
 use Rattle.spans.proofs.Going.{stopped-valid}
 use Rattle.spans.proofs.Eats.{eating-stopped, finishing-stopped}
-use Rattle.spans.proofs.Reported.{allBytes}
 use Rattle.spans.proofs.Inputs.{report-is}
 use Rattle.span.specs.Reached.{handedAll, Reached}
 
@@ -53,21 +53,21 @@ module _ (s : Span) (stopped : s .stopped ≡ true) where
 
 -- ---- the report
 
-pub written-is : (ps : List (List ℕ)) → allBytes (joinedOf ps) → length (joinedOf ps) ≤ farthest → written ps ≡ report (joinedOf ps)
+pub written-is : (ps : List (List ℕ)) → allBytes (joined ps) → length (joined ps) ≤ farthest → written ps ≡ report (joined ps)
 unfolding printedFrom
 written-is ps small near =
     sym (printed-on ps [] freshSpan) ∙ ap (printedFrom freshSpan) (append-nil ps) ∙ report-is ps small near
 
 -- what the last write requires makes the report whole
-pub last-ends : (s : Span) (lines : List ℕ) (r : Reached s 0) → lines ≡ finishingOf s room .bytes → allBytes (joinedOf (r .pieces))
-    → handedAll freshSpan (r .pieces) .text ++ lines ≡ report (joinedOf (r .pieces))
+pub last-ends : (s : Span) (lines : List ℕ) (r : Reached s 0) → lines ≡ finishingOf s room .bytes → allBytes (joined (r .pieces))
+    → handedAll freshSpan (r .pieces) .text ++ lines ≡ report (joined (r .pieces))
 last-ends s lines r is small =
     ap (λ (l : List ℕ). handedAll freshSpan (r .pieces) .text ++ l) (is ∙ ap (λ (x : Span). finishingOf x room .bytes) (r .span))
     ∙ written-is (r .pieces) small (omega (arith, r .room))
 
 -- once the span has stopped, nothing of the input that is not read would have changed it
 pub stopped-is : (ps more : List (List ℕ)) → handedAll freshSpan ps .span .stopped ≡ true
-    → allBytes (joinedOf (ps ++ more)) → length (joinedOf (ps ++ more)) ≤ farthest → written ps ≡ report (joinedOf (ps ++ more))
+    → allBytes (joined (ps ++ more)) → length (joined (ps ++ more)) ≤ farthest → written ps ≡ report (joined (ps ++ more))
 stopped-is ps more stopped small near =
     let s : Span = handedAll freshSpan ps .span in
     ap (λ (l : List ℕ). handedAll freshSpan ps .text ++ l) (end-silent s stopped ∙ sym (printed-silent s stopped more))

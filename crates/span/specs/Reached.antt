@@ -4,10 +4,11 @@ use Prim.Native.Nat.{ℕ, _+_, _≤_}
 use mathlib.Core.Path.{_≡_}
 use mathlib.Core.List.{List, [], _∷_}
 use lib.ListN.{length}
+use Rattle.wire.specs.Lists.{joined}
 use Rattle.hearing.specs.Hearing.{farthest}
 use Rattle.spans.specs.declared.Span.{Span}
 use Rattle.spans.specs.Eating.{freshSpan}
-use Rattle.spans.specs.Pieces.{Handed, nothingHanded, before, handed, joinedOf}
+use Rattle.spans.specs.Pieces.{Handed, nothingHanded, before, handed}
 
 -- what was written for pieces, and the span after them
 unfoldable pub handedAll : Span → List (List ℕ) → Handed
@@ -18,4 +19,4 @@ handedAll s (p ∷ ps) = before (handed s p .text) (handedAll (handed s p .span)
 pub record Reached (s : Span) (more : ℕ) : Type 0 where
   pub pieces : List (List ℕ)
   pub span : s ≡ handedAll freshSpan pieces .span
-  pub room : length (joinedOf pieces) + more ≤ farthest
+  pub room : length (joined pieces) + more ≤ farthest

@@ -10,6 +10,7 @@ use lib.ListN.{length, take, drop, length-append, length-drop, drop-of-length-le
 use lib.Seq.{sets, length-sets, take-append-le, drop-append-le, take-append-add, drop-append-add, take-all, drop-length}
 use borrow.Author.Tests.{not-false, lt-ltb, le-ltb, ne-eqb, eqb-true}
 use Rattle.wire.specs.Choice.{pick}
+use Rattle.wire.specs.Lists.{joined}
 use Rattle.wire.proofs.Laws.{true-not-false}
 use Rattle.wire.proofs.Stores.{sets-append}
 use Rattle.heads.specs.declared.Head.{Head}
@@ -24,7 +25,7 @@ use Rattle.lines.specs.Lines.{Line, textOf, openingLine, refusalLine}
 use Rattle.hearing.specs.Hearing.{farthest, accepting, reaching}
 use Rattle.spans.specs.Eating.{freshSpan, headOf, withTally, lacking, headTaken, headLines, headRead, heardLines, heardSpan, Eating, silently, saying, opening, openingBy, listening, listeningBy, eatingOf, lastLines, finishingOf}
 use Rattle.lines.specs.Due.{Telling, telling}
-use Rattle.spans.specs.Pieces.{room, Handed, handing, handed, printedFrom, printed, joinedOf}
+use Rattle.spans.specs.Pieces.{room, Handed, handing, handed, printedFrom, printed}
 use Rattle.lines.proofs.Dues.{text-append}
 use Rattle.hearing.proofs.Heard.{accepted, heard-small, sane-accepting}
 use Rattle.hearing.proofs.Goings.{Is-due, reach-due}
@@ -413,18 +414,18 @@ end-told s used good near = by (s .stopped) refl
             let last : lastLines s ≡ lines = rw (le-ltb (s .taken) headLength all′) in
             says′ ∙ ap (λ (ls : List Line). telling (textOf ls) room .bytes) last ∙ whole-text lines (end-room (headOf s) (s .tally) (going-short s used (good e) near all′)) ∙ ap textOf (sym (told-packets s [] e all′ ∙ told-end (headOf s) (s .tally)))
 
-pub printed-told : (pieces : List (List ℕ)) (s : Span) (used : ℕ) → (s .stopped ≡ false → Going s used) → used + length (joinedOf pieces) ≤ farthest → printedFrom s pieces ≡ textOf (told s (joinedOf pieces))
+pub printed-told : (pieces : List (List ℕ)) (s : Span) (used : ℕ) → (s .stopped ≡ false → Going s used) → used + length (joined pieces) ≤ farthest → printedFrom s pieces ≡ textOf (told s (joined pieces))
 unfolding printedFrom
 printed-told [] s used good near = end-told s used good (omega arith)
 printed-told (p ∷ ps) s used good near =
-    let calls = all-calls (length p) s used p (joinedOf ps) (omega arith) good (omega (arith, length-append p (joinedOf ps))) in
-    ap (λ (l : List ℕ). handed s p .text ++ l) (printed-told ps (handed s p .span) (used + length p) (calls .goes) (omega (arith, length-append p (joinedOf ps)))) ∙ sym (calls .text)
+    let calls = all-calls (length p) s used p (joined ps) (omega arith) good (omega (arith, length-append p (joined ps))) in
+    ap (λ (l : List ℕ). handed s p .text ++ l) (printed-told ps (handed s p .span) (used + length p) (calls .goes) (omega (arith, length-append p (joined ps)))) ∙ sym (calls .text)
 
 -- All that is printed for pieces is what their bytes bring.
-pub printed-is : (pieces : List (List ℕ)) → length (joinedOf pieces) ≤ farthest → printed pieces ≡ textOf (told freshSpan (joinedOf pieces))
+pub printed-is : (pieces : List (List ℕ)) → length (joined pieces) ≤ farthest → printed pieces ≡ textOf (told freshSpan (joined pieces))
 printed-is pieces near = printed-told pieces freshSpan 0 (λ e. fresh-going) (omega arith)
 
 -- How the input is cut into pieces does not change the lines.
-pub cuts-do-not-matter : (ps qs : List (List ℕ)) → joinedOf ps ≡ joinedOf qs → length (joinedOf ps) ≤ farthest → printed ps ≡ printed qs
+pub cuts-do-not-matter : (ps qs : List (List ℕ)) → joined ps ≡ joined qs → length (joined ps) ≤ farthest → printed ps ≡ printed qs
 cuts-do-not-matter ps qs same near =
     printed-is ps near ∙ ap (λ (l : List ℕ). textOf (told freshSpan l)) same ∙ sym (printed-is qs (subst (λ (l : List ℕ). length l ≤ farthest) same near))

@@ -1,17 +1,19 @@
 -- The lines that packets bring byte by byte are those of the report.
 use Prim.Native.Nat.{ℕ, zero, suc, _+_, _*_, _-_, _≤_, _<_}
-use mathlib.Core.Path.{_≡_, refl, sym, ap, subst, _∙_}
+use mathlib.Core.Path.{_≡_, refl, sym, ap, _∙_}
 use mathlib.Core.Bool.{Bool, true, false, _&&_, not}
 use mathlib.Core.List.{List, [], _∷_, _++_, append-nil}
 use native.Mathlib.Decide.{decLt, decLe, ℕ-discrete}
 use native.Mathlib.Omega.{arith}
 use lib.Dec.{eqb, leb, ltb}
 use lib.ListN.{length, getD, take, drop, length-drop}
-use lib.Seq.{length-take-le, drop-drop, getD-take, getD-drop}
+use lib.Seq.{length-take-le, drop-drop, getD-take}
 use borrow.Author.Tests.{le-ltb, le-leb, ne-eqb}
 use Rattle.wire.specs.Choice.{pick, check, firstOf}
+use Rattle.wire.specs.Lists.{allBytes}
 use Rattle.wire.specs.Number.{field}
 use Rattle.wire.proofs.Laws.{and-left, and-both, true-not-false}
+use Rattle.wire.proofs.Lists.{byte-at, bytes-drop}
 use Rattle.packets.specs.declared.Form.{Form}
 use Rattle.packets.specs.Forms.{sameForm, totalOf, listed, formWithHeader, wholeOf, isPacket}
 use Rattle.packets.specs.Numbers.{numberAt, stepOf, numberIn, last}
@@ -24,7 +26,7 @@ use Rattle.hearing.specs.declared.Tally.{Tally}
 use Rattle.hearing.specs.declared.Reach.{Reach}
 use Rattle.lines.specs.Lines.{Line, refusalLine}
 use Rattle.spans.specs.Report.{Known, lineOf, ended, readerAfter, packetIn, packetCode, begins, knownAfter, atEnd, atRefusal, linesFrom}
-use Rattle.hearing.specs.Hearing.{joined, taking, formNow, positionNow, orphan, heardCode, accepting, closes, cameTo, reaching}
+use Rattle.hearing.specs.Hearing.{lowHigh, taking, formNow, positionNow, orphan, heardCode, accepting, closes, cameTo, reaching}
 use Rattle.hearing.specs.Inside.{goesOn}
 use Rattle.spans.specs.Eating.{endedNow, heardLines}
 use Rattle.hearing.proofs.Heard.{codeBy, heard-by, came-by, accepted}
@@ -111,10 +113,6 @@ told-refused h t b bs code is some =
     came : cameTo 1 (formIn h) (taking t b) ≡ record { at = 1; code = code; tally = taking t b }
     came = came-by 1 (formIn h) (taking t b) is refl ∙ rw (ne-eqb code 0 (λ e. omega arith), ne-eqb code 1 (λ e. omega arith))
 
--- each is a byte
-abbrev pub allBytes : List ℕ → Type 0
-allBytes bs = (k : ℕ) → getD bs k 0 < 256
-
 -- the first two bytes of a packet
 module _ (t : Tally) (none : t .taken ≡ 0) where
   abbrev starts : Tally
@@ -127,7 +125,7 @@ module _ (t : Tally) (none : t .taken ≡ 0) where
   unfolding taking
   first-byte a = ap (λ (u : Tally). taking u a) start-is
 
-  second-byte : (a b : ℕ) → taking (tallied t 1 a (t .number)) b ≡ tallied t 2 (joined a b) (t .number)
+  second-byte : (a b : ℕ) → taking (tallied t 1 a (t .number)) b ≡ tallied t 2 (lowHigh a b) (t .number)
   unfolding taking
   second-byte a b = refl
 
@@ -146,13 +144,13 @@ module _ (t : Tally) (none : t .taken ≡ 0) where
       u = tallied t 1 a (t .number)
 
       v : Tally
-      v = tallied t 2 (joined a b) (t .number)
+      v = tallied t 2 (lowHigh a b) (t .number)
 
       after : taking u b ≡ v
       after = second-byte a b
 
-      header : joined a b ≡ field 0 2 (a ∷ b ∷ bs)
-      header = omega (arith, small 0)
+      header : lowHigh a b ≡ field 0 2 (a ∷ b ∷ bs)
+      header = omega (arith, small .0)
 
       form : formNow v ≡ formAt (a ∷ b ∷ bs)
       form = ap formWithHeader header
@@ -172,13 +170,13 @@ module _ (t : Tally) (none : t .taken ≡ 0) where
 -- ---- a whole packet
 
 -- all bytes of a packet of n bytes
-reach-of : (f : Form) (t : Tally) (rest : List ℕ) (n header number : ℕ) → t .taken ≡ 0 → 5 ≤ n → n ≤ length rest → joined (getD rest 0 0) (getD rest 1 0) ≡ header → joined (getD rest 2 0) (getD rest 3 0) ≡ number
+reach-of : (f : Form) (t : Tally) (rest : List ℕ) (n header number : ℕ) → t .taken ≡ 0 → 5 ≤ n → n ≤ length rest → lowHigh (getD rest 0 0) (getD rest 1 0) ≡ header → lowHigh (getD rest 2 0) (getD rest 3 0) ≡ number
     → listed (formWithHeader header) ≡ true → n ≡ totalOf (formWithHeader header) → reaching 0 f t rest ≡ goesOn f (cameTo n f (tallied t n header number)) (drop n rest)
 reach-of f t rest n header number none least room two four ok total =
     let k : ℕ = n - 5 in
     let xs : List ℕ = take k (drop 4 rest) in
     let counted : length xs ≡ k = length-take-le k (drop 4 rest) (simp length-drop (omega arith)) in
-    let form : formWithHeader (joined (getD rest 0 0) (getD rest 1 0)) ≡ formWithHeader header = ap formWithHeader two in
+    let form : formWithHeader (lowHigh (getD rest 0 0) (getD rest 1 0)) ≡ formWithHeader header = ap formWithHeader two in
     let size : length xs + 5 ≡ n = omega (arith, counted) in
     let end : 0 + (k + 5) ≡ n = omega arith in
     let all : rest ≡ getD rest 0 0 ∷ getD rest 1 0 ∷ getD rest 2 0 ∷ getD rest 3 0 ∷ (xs ++ getD rest (0 + 4 + k) 0 ∷ drop n rest)
@@ -186,9 +184,9 @@ reach-of f t rest n header number none least room two four ok total =
     let count : 0 + (length xs + 5) ≡ n = omega (arith, size) in
     ap (reaching 0 f t) all
     ∙ reach-whole 0 f t (getD rest 0 0) (getD rest 1 0) (getD rest 2 0) (getD rest 3 0) xs (getD rest (0 + 4 + k) 0) (drop n rest) none (ap listed form ∙ ok) (size ∙ total ∙ ap totalOf (sym form))
-    ∙ ap (λ (i : ℕ). goesOn f (cameTo i f (tallied t (length xs + 5) (joined (getD rest 0 0) (getD rest 1 0)) (joined (getD rest 2 0) (getD rest 3 0)))) (drop n rest)) count
-    ∙ ap (λ (i : ℕ). goesOn f (cameTo n f (tallied t i (joined (getD rest 0 0) (getD rest 1 0)) (joined (getD rest 2 0) (getD rest 3 0)))) (drop n rest)) size
-    ∙ ap (λ (i : ℕ). goesOn f (cameTo n f (tallied t n i (joined (getD rest 2 0) (getD rest 3 0)))) (drop n rest)) two
+    ∙ ap (λ (i : ℕ). goesOn f (cameTo i f (tallied t (length xs + 5) (lowHigh (getD rest 0 0) (getD rest 1 0)) (lowHigh (getD rest 2 0) (getD rest 3 0)))) (drop n rest)) count
+    ∙ ap (λ (i : ℕ). goesOn f (cameTo n f (tallied t i (lowHigh (getD rest 0 0) (getD rest 1 0)) (lowHigh (getD rest 2 0) (getD rest 3 0)))) (drop n rest)) size
+    ∙ ap (λ (i : ℕ). goesOn f (cameTo n f (tallied t n i (lowHigh (getD rest 2 0) (getD rest 3 0)))) (drop n rest)) two
     ∙ ap (λ (i : ℕ). goesOn f (cameTo n f (tallied t n header i)) (drop n rest)) four
 
 -- The lines from a whole packet on, with w the tally after its n bytes: by its code.
@@ -341,9 +339,6 @@ end-same : (h : Head) (t : Tally) (k : Known) → Knows t k → toldBy h t [] �
 unfolding toldBy
 end-same h t k m = rw (m .taken, ended-same h t k m, m .captures)
 
-pub bytes-left : (n : ℕ) (rest : List ℕ) → allBytes rest → allBytes (drop n rest)
-bytes-left n rest small k = subst (λ (x : ℕ). x < 256) (sym (getD-drop n rest k 0)) (small (n + k))
-
 -- the report's lines from a packet on, by its code
 module _ (n : ℕ) (h : Head) (k : Known) (rest : List ℕ) (some : length rest ≡ 0 → ⊥) where
   lines-refused : (code : ℕ) → packetCode h k (packetIn rest) ≡ code → (code ≡ 1 → ⊥) → linesFrom (suc n) h k rest ≡ atRefusal h k code
@@ -394,7 +389,7 @@ module _ (n : ℕ) (h : Head) (own : listed (formIn h) ≡ true) (t : Tally) (k 
 
     reach : reaching 0 (formIn h) t rest ≡ goesOn (formIn h) (cameTo total (formIn h) v) (drop total rest)
     reach =
-        reach-of (formIn h) t rest total (field 0 2 rest) (field 2 2 rest) (m .taken) (omega (arith, least)) room (omega (arith, field-two rest 0, small 0)) (omega (arith, field-two rest 2, small 2)) ok refl
+        reach-of (formIn h) t rest total (field 0 2 rest) (field 2 2 rest) (m .taken) (omega (arith, least)) room (omega (arith, field-two rest 0, byte-at rest small 0)) (omega (arith, field-two rest 2, byte-at rest small 2)) ok refl
 
     code : packetCode h k (packetIn rest) ≡ heardCode (formIn h) v
     code = code-same h t k m own rest ok room
@@ -405,7 +400,7 @@ module _ (n : ℕ) (h : Head) (own : listed (formIn h) ≡ true) (t : Tally) (k 
     accepted-lines : heardCode (formIn h) v ≡ 1 → toldBy h t rest ≡ linesFrom (suc n) h k rest
     accepted-lines one =
         let next : toldBy h (accepting v) (drop total rest) ≡ linesFrom n h (knownAfter h k (packetIn rest)) (drop total rest)
-        = later (accepting v) (knownAfter h k (packetIn rest)) (drop total rest) (simp length-drop (omega (arith, least))) (knows-after h t k m own rest ok room one) (bytes-left total rest small) in
+        = later (accepting v) (knownAfter h k (packetIn rest)) (drop total rest) (simp length-drop (omega (arith, least))) (knows-after h t k m own rest ok room one) (bytes-drop total rest small) in
         let line : pick (eqb (field 2 2 rest) 0) (endedNow h t) [] ≡ pick (begins (packetIn rest)) (ended h k) []
         = ap (λ (ls : List Line). pick (eqb (field 2 2 rest) 0) ls []) (ended-same h t k m) ∙ ap (λ (x : ℕ). pick (eqb x 0) (ended h k) []) (sym (number-same h t k m own rest ok room)) in
         whole-accepted h t v rest total reach room one

@@ -40,8 +40,3 @@ printedFrom s (p ∷ ps) = handed s p .text ++ printedFrom (handed s p .span) ps
 -- all that is written
 abbrev pub printed : List (List ℕ) → List ℕ
 printed pieces = printedFrom freshSpan pieces
-
--- the input that the pieces are of
-abbrev pub joinedOf : List (List ℕ) → List ℕ
-joinedOf [] = []
-joinedOf (p ∷ ps) = p ++ joinedOf ps
