@@ -1,27 +1,20 @@
 -- What the program has written at its end is the report of the input: the lines of piece after piece, and then the last ones.
 -- Assumes nothing.
-use Prim.Native.Nat.{ℕ, zero, suc, _≤_}
+use Prim.Native.Nat.{ℕ, zero, suc}
 use native.Mathlib.Omega.{arith}
 use mathlib.Core.Path.{_≡_, refl, sym, ap, _∙_}
 use mathlib.Core.Bool.{true}
 use mathlib.Core.List.{List, [], _∷_, _++_, append-nil, append-assoc}
 use lib.ListN.{length, drop}
 use borrow.Author.Tests.{ne-eqb}
-use Rattle.wire.specs.Lists.{allBytes, joined}
-use Rattle.hearing.specs.Hearing.{farthest}
 use Rattle.lines.specs.Due.{Telling}
 use Rattle.spans.specs.declared.Span.{Span}
-use Rattle.spans.specs.Report.{report}
 use Rattle.spans.specs.Eating.{Eating, freshSpan, finishingOf}
 use Rattle.spans.specs.Pieces.{room, nothingHanded, before, handing, handed, printedFrom}
 use Rattle.spans.proofs.Going.{stopped-valid}
 use Rattle.spans.proofs.Eats.{eating-stopped, finishing-stopped}
 use Rattle.spans.proofs.Inputs.{report-is}
-use Rattle.span.specs.Reached.{handedAll, Reached}
-
--- all that the program writes for the pieces that it read, and then for the end
-abbrev pub written : List (List ℕ) → List ℕ
-written ps = handedAll freshSpan ps .text ++ finishingOf (handedAll freshSpan ps .span) room .bytes
+use Rattle.span.specs.Reached.{handedAll, WritesTheReport, LastWriteEndsTheReport, StopsWithTheReport}
 
 printed-on : (ps more : List (List ℕ)) (s : Span) → printedFrom s (ps ++ more) ≡ handedAll s ps .text ++ printedFrom (handedAll s ps .span) more
 unfolding printedFrom handedAll
@@ -53,21 +46,17 @@ module _ (s : Span) (stopped : s .stopped ≡ true) where
 
 -- ---- the report
 
-pub written-is : (ps : List (List ℕ)) → allBytes (joined ps) → length (joined ps) ≤ farthest → written ps ≡ report (joined ps)
+pub written-is : WritesTheReport
 unfolding printedFrom
 written-is ps small near =
     sym (printed-on ps [] freshSpan) ∙ ap (printedFrom freshSpan) (append-nil ps) ∙ report-is ps small near
 
--- what the last write requires makes the report whole
-pub last-ends : (s : Span) (lines : List ℕ) (r : Reached s 0) → lines ≡ finishingOf s room .bytes → allBytes (joined (r .pieces))
-    → handedAll freshSpan (r .pieces) .text ++ lines ≡ report (joined (r .pieces))
+pub last-ends : LastWriteEndsTheReport
 last-ends s lines r is small =
     ap (λ (l : List ℕ). handedAll freshSpan (r .pieces) .text ++ l) (is ∙ ap (λ (x : Span). finishingOf x room .bytes) (r .span))
     ∙ written-is (r .pieces) small (omega (arith, r .room))
 
--- once the span has stopped, nothing of the input that is not read would have changed it
-pub stopped-is : (ps more : List (List ℕ)) → handedAll freshSpan ps .span .stopped ≡ true
-    → allBytes (joined (ps ++ more)) → length (joined (ps ++ more)) ≤ farthest → written ps ≡ report (joined (ps ++ more))
+pub stopped-is : StopsWithTheReport
 stopped-is ps more stopped small near =
     let s : Span = handedAll freshSpan ps .span in
     ap (λ (l : List ℕ). handedAll freshSpan ps .text ++ l) (end-silent s stopped ∙ sym (printed-silent s stopped more))

@@ -25,7 +25,7 @@ use Rattle.lines.specs.Lines.{Line, textOf, openingLine, refusalLine}
 use Rattle.hearing.specs.Hearing.{farthest, accepting, reaching}
 use Rattle.spans.specs.Eating.{freshSpan, headOf, withTally, lacking, headTaken, headLines, headRead, heardLines, heardSpan, Eating, silently, saying, opening, openingBy, listening, listeningBy, eatingOf, lastLines, finishingOf}
 use Rattle.lines.specs.Due.{Telling, telling}
-use Rattle.spans.specs.Pieces.{room, Handed, handing, handed, printedFrom, printed}
+use Rattle.spans.specs.Pieces.{room, Handed, handing, handed, printedFrom, printed, CutsDoNotMatter}
 use Rattle.lines.proofs.Dues.{text-append}
 use Rattle.hearing.proofs.Heard.{accepted, heard-small, sane-accepting}
 use Rattle.hearing.proofs.Goings.{Is-due, reach-due}
@@ -425,7 +425,6 @@ printed-told (p ∷ ps) s used good near =
 pub printed-is : (pieces : List (List ℕ)) → length (joined pieces) ≤ farthest → printed pieces ≡ textOf (told freshSpan (joined pieces))
 printed-is pieces near = printed-told pieces freshSpan 0 (λ e. fresh-going) (omega arith)
 
--- How the input is cut into pieces does not change the lines.
-pub cuts-do-not-matter : (ps qs : List (List ℕ)) → joined ps ≡ joined qs → length (joined ps) ≤ farthest → printed ps ≡ printed qs
+pub cuts-do-not-matter : CutsDoNotMatter
 cuts-do-not-matter ps qs same near =
     printed-is ps near ∙ ap (λ (l : List ℕ). textOf (told freshSpan l)) same ∙ sym (printed-is qs (subst (λ (l : List ℕ). length l ≤ farthest) same near))

@@ -22,10 +22,9 @@ use Rattle.heads.proofs.Codes.{code-by}
 use Rattle.heads.proofs.Rounds.{passed, form-listed}
 use Rattle.spans.specs.declared.Span.{Span}
 use Rattle.lines.specs.Lines.{Line, textOf, openingLine, refusalLine}
-use Rattle.hearing.specs.Hearing.{farthest}
 use Rattle.spans.specs.Report.{nothing, linesFrom, linesOf, report}
 use Rattle.spans.specs.Eating.{freshTally, freshSpan, lacking, headTaken, headLines}
-use Rattle.spans.specs.Pieces.{printed}
+use Rattle.spans.specs.Pieces.{PrintsTheReport}
 use Rattle.spans.proofs.Telling.{toldBy}
 use Rattle.spans.proofs.Cuts.{toldHead, told, told-head, headToldBy, printed-is}
 use Rattle.spans.proofs.Reported.{Knows, told-lines}
@@ -102,7 +101,6 @@ module _ (input : List ℕ) where
   pub told-input : allBytes input → told freshSpan input ≡ linesOf input
   told-input small = told-head freshSpan input refl (omega arith) ∙ elim (decLt (length input) headLength) [ yes short ↦ cut-head short | no short ↦ whole-head (omega arith) small ]
 
--- However the input comes in pieces, its report is printed.
-pub report-is : (pieces : List (List ℕ)) → allBytes (joined pieces) → length (joined pieces) ≤ farthest → printed pieces ≡ report (joined pieces)
+pub report-is : PrintsTheReport
 unfolding report
 report-is pieces small near = printed-is pieces near ∙ ap textOf (told-input (joined pieces) small)
