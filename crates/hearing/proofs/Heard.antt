@@ -16,7 +16,7 @@ use Rattle.packets.specs.Numbers.{stepOf, last}
 use Rattle.packets.proofs.Numbers.{step-above, step-not-above}
 use Rattle.hearing.specs.declared.Tally.{Tally}
 use Rattle.hearing.specs.declared.Reach.{Reach}
-use Rattle.hearing.specs.Hearing.{formNow, positionNow, orphan, heardCode, taking, accepting, closes, cameTo}
+use Rattle.hearing.specs.Hearing.{formNow, positionNow, lacksFirst, heardCode, taking, accepting, closes, settled}
 use Rattle.hearing.specs.Inside.{Sane, wordAt, twoAt}
 
 abbrev pub codeBy : Bool → Bool → Bool → Bool → Bool → Bool → ℕ
@@ -26,7 +26,7 @@ codeBy few ok short same lone past =
     1
 
 pub heard-by : (f : Form) (t : Tally) {few ok short same lone past : Bool} → ltb (t .taken) 2 ≡ few → listed (formNow t) ≡ ok → ltb (t .taken) (totalOf (formNow t)) ≡ short
-    → sameForm (formNow t) f ≡ same → orphan t ≡ lone → ltb last (positionNow t) ≡ past → heardCode f t ≡ codeBy few ok short same lone past
+    → sameForm (formNow t) f ≡ same → lacksFirst t ≡ lone → ltb last (positionNow t) ≡ past → heardCode f t ≡ codeBy few ok short same lone past
 unfolding heardCode
 heard-by f t a b c d e g = cc
 
@@ -35,9 +35,9 @@ reachBy n code close t =
     pick (eqb code 0) (record { at = n; code = 0; tally = t })
     (pick (eqb code 1 && not close) (record { at = n; code = 0; tally = accepting t }) (record { at = n; code = code; tally = t }))
 
-pub came-by : (n : ℕ) (f : Form) (t : Tally) {code : ℕ} {close : Bool} → heardCode f t ≡ code → closes t ≡ close → cameTo n f t ≡ reachBy n code close t
-unfolding cameTo
-came-by n f t p q = cc
+pub settled-by : (n : ℕ) (f : Form) (t : Tally) {code : ℕ} {close : Bool} → heardCode f t ≡ code → closes t ≡ close → settled n f t ≡ reachBy n code close t
+unfolding settled
+settled-by n f t p q = cc
 
 -- a code is at most 33
 pub heard-small : (f : Form) (t : Tally) → heardCode f t ≤ 33
@@ -50,7 +50,7 @@ heard-small f t =
     pick-keeps (λ (n : ℕ). n ≤ 33) (ltb (t .taken) (totalOf (formNow t))) _ _ (λ e. omega arith)
     (λ e.
     pick-keeps (λ (n : ℕ). n ≤ 33) (not (sameForm (formNow t) f)) _ _ (λ e. omega arith)
-    (λ e. pick-keeps (λ (n : ℕ). n ≤ 33) (orphan t) _ _ (λ e. omega arith) (λ e. pick-keeps (λ (n : ℕ). n ≤ 33) (ltb last (positionNow t)) _ _ (λ e. omega arith) (λ e. omega arith))))))
+    (λ e. pick-keeps (λ (n : ℕ). n ≤ 33) (lacksFirst t) _ _ (λ e. omega arith) (λ e. pick-keeps (λ (n : ℕ). n ≤ 33) (ltb last (positionNow t)) _ _ (λ e. omega arith) (λ e. omega arith))))))
 
 -- what `total_of` answers for a listed form
 pub total-is : (f g : Form) (n : ℕ) → n ≡ pick (listed g) (totalOf g) 0 → g ≡ f → listed f ≡ true → n ≡ totalOf f
@@ -91,13 +91,13 @@ pub record Accepted (f : Form) (t : Tally) : Type 0 where
   pub form : listed (formNow t) ≡ true
   pub whole : totalOf (formNow t) ≤ t .taken
   pub same : sameForm (formNow t) f ≡ true
-  pub belongs : orphan t ≡ false
+  pub belongs : lacksFirst t ≡ false
   pub fits : positionNow t ≤ last
 
 pub accepted : (f : Form) (t : Tally) → heardCode f t ≡ 1 → Accepted f t
-accepted f t e = by (ltb (t .taken) 2) (listed (formNow t)) (ltb (t .taken) (totalOf (formNow t))) (sameForm (formNow t) f) (orphan t) (ltb last (positionNow t)) refl refl refl refl refl refl
+accepted f t e = by (ltb (t .taken) 2) (listed (formNow t)) (ltb (t .taken) (totalOf (formNow t))) (sameForm (formNow t) f) (lacksFirst t) (ltb last (positionNow t)) refl refl refl refl refl refl
   where
-    by : (few ok short same lone past : Bool) → ltb (t .taken) 2 ≡ few → listed (formNow t) ≡ ok → ltb (t .taken) (totalOf (formNow t)) ≡ short → sameForm (formNow t) f ≡ same → orphan t ≡ lone
+    by : (few ok short same lone past : Bool) → ltb (t .taken) 2 ≡ few → listed (formNow t) ≡ ok → ltb (t .taken) (totalOf (formNow t)) ≡ short → sameForm (formNow t) f ≡ same → lacksFirst t ≡ lone
         → ltb last (positionNow t) ≡ past
         → Accepted f t
     by true ok short same lone past a b c d g h = absurd (omega (arith, heard-by f t a b c d g h))
@@ -127,9 +127,9 @@ pub sane-taking : (rest : ℕ) (t : Tally) (b : ℕ) → Sane (rest + 1) t → S
 unfolding taking
 sane-taking rest t b s = record { room = omega (arith, s .room); heard = s .heard; captures = s .captures; position = s .position }
 
-pub sane-came : (rest n : ℕ) (f : Form) (t : Tally) → Sane rest t → 0 < t .taken → Sane rest (cameTo n f t .tally)
-unfolding cameTo
-sane-came rest n f t s some =
+pub sane-settled : (rest n : ℕ) (f : Form) (t : Tally) → Sane rest t → 0 < t .taken → Sane rest (settled n f t .tally)
+unfolding settled
+sane-settled rest n f t s some =
     pick-keeps (λ (r : Reach). Sane rest (r .tally)) (eqb (heardCode f t) 0) _ _ (λ e. s)
     (λ e.
     pick-keeps (λ (r : Reach). Sane rest (r .tally)) (eqb (heardCode f t) 1 && not (closes t)) _ _

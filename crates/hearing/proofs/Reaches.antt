@@ -18,32 +18,32 @@ use Rattle.packets.specs.Numbers.{numberAt, stepOf, last}
 use Rattle.packets.proofs.Forms.{of-listed, same-is}
 use Rattle.hearing.specs.declared.Tally.{Tally}
 use Rattle.hearing.specs.declared.Reach.{Reach}
-use Rattle.hearing.specs.Hearing.{lowHigh, taking, formNow, positionNow, heardCode, accepting, closes, cameTo, reaching}
+use Rattle.hearing.specs.Hearing.{lowHigh, taking, formNow, positionNow, heardCode, accepting, closes, settled, reaching}
 use Rattle.hearing.specs.Inside.{goesOn, Follows, Samples, skipped, twoAt}
-use Rattle.hearing.proofs.Heard.{heard-by, came-by}
+use Rattle.hearing.proofs.Heard.{heard-by, settled-by}
 
 -- ---- one byte
 
 -- what a byte comes to is reached where it ends
-pub came-at : (n : ℕ) (f : Form) (t : Tally) → cameTo n f t .at ≡ n
-unfolding cameTo
-came-at n f t =
+pub settled-at : (n : ℕ) (f : Form) (t : Tally) → settled n f t .at ≡ n
+unfolding settled
+settled-at n f t =
     pick-keeps (λ (r : Reach). r .at ≡ n) (eqb (heardCode f t) 0) _ _ (λ e. refl)
     (λ e. pick-keeps (λ (r : Reach). r .at ≡ n) (eqb (heardCode f t) 1 && not (closes t)) _ _ (λ d. refl) (λ d. refl))
 
-pub reach-cons : (n : ℕ) (f : Form) (t : Tally) (b : ℕ) (bs : List ℕ) → reaching n f t (b ∷ bs) ≡ goesOn f (cameTo (n + 1) f (taking t b)) bs
+pub reach-cons : (n : ℕ) (f : Form) (t : Tally) (b : ℕ) (bs : List ℕ) → reaching n f t (b ∷ bs) ≡ goesOn f (settled (n + 1) f (taking t b)) bs
 unfolding reaching goesOn
-reach-cons n f t b bs = rw (came-at (n + 1) f (taking t b))
+reach-cons n f t b bs = rw (settled-at (n + 1) f (taking t b))
 
 pub reach-byte : (f : Form) (t : Tally) (piece : List ℕ) (at : ℕ) → at < length piece
-    → goesOn f (cameTo (at + 1) f (taking t (getD piece at 0))) (drop (at + 1) piece) ≡ reaching at f t (drop at piece)
+    → goesOn f (settled (at + 1) f (taking t (getD piece at 0))) (drop (at + 1) piece) ≡ reaching at f t (drop at piece)
 reach-byte f t piece at h =
     rw (drop-cons piece at 0 h) (rw (← add-one at) (sym (reach-cons at f t (getD piece at 0) (drop (at + 1) piece))))
 
 -- a byte after which more is waited for
 pub reach-wait : (n : ℕ) (f : Form) (t : Tally) (b : ℕ) (bs : List ℕ) → heardCode f (taking t b) ≡ 0 → reaching n f t (b ∷ bs) ≡ reaching (n + 1) f (taking t b) bs
 unfolding reaching
-reach-wait n f t b bs w = rw (came-by (n + 1) f (taking t b) w refl)
+reach-wait n f t b bs w = rw (settled-by (n + 1) f (taking t b) w refl)
 
 -- the header is listed and the packet not whole
 pub heard-waits : (f : Form) (t : Tally) → 2 ≤ t .taken → listed (formNow t) ≡ true → t .taken < totalOf (formNow t) → heardCode f t ≡ 0
@@ -103,7 +103,7 @@ reach-front n f t a b c d rest none ok long =
 -- all bytes of a packet whose header is listed: the last one decides
 pub reach-whole : (n : ℕ) (f : Form) (t : Tally) (a b c d : ℕ) (xs : List ℕ) (z : ℕ) (ys : List ℕ) → t .taken ≡ 0 → listed (formWithHeader (lowHigh a b)) ≡ true
     → length xs + 5 ≡ totalOf (formWithHeader (lowHigh a b))
-    → reaching n f t (a ∷ b ∷ c ∷ d ∷ (xs ++ z ∷ ys)) ≡ goesOn f (cameTo (n + (length xs + 5)) f (tallied t (length xs + 5) (lowHigh a b) (lowHigh c d))) ys
+    → reaching n f t (a ∷ b ∷ c ∷ d ∷ (xs ++ z ∷ ys)) ≡ goesOn f (settled (n + (length xs + 5)) f (tallied t (length xs + 5) (lowHigh a b) (lowHigh c d))) ys
 reach-whole n f t a b c d xs z ys none ok long =
     let front : Tally = tallied t 4 (lowHigh a b) (lowHigh c d) in
     let past : Samples front (length xs) = record { past = omega arith; form = ok; short = omega arith } in
@@ -164,8 +164,8 @@ module _ (f : Form) (t : Tally) (ok : listed f ≡ true) (form : formNow t ≡ f
   unfolding accepting
   quiet-accepting = rw (numbered, here)
 
-  pub quiet-came : (n : ℕ) → cameTo n f t ≡ record { at = n; code = 0; tally = accepting t }
-  quiet-came n = came-by n f t quiet-code (and-not-left (eqb (t .number) 0) (not (eqb (t .heard) 0)) numbered)
+  pub quiet-settled : (n : ℕ) → settled n f t ≡ record { at = n; code = 0; tally = accepting t }
+  quiet-settled n = settled-by n f t quiet-code (and-not-left (eqb (t .number) 0) (not (eqb (t .heard) 0)) numbered)
 
 -- the tally after such a packet, of a form, at a position
 abbrev pub followed : Tally → ℕ → ℕ → Tally
@@ -197,7 +197,7 @@ follows-of f t piece at k q ok none some long x =
     ap (reaching at f t) (packet-parts piece at k (x .room))
     ∙ reach-whole at f t (getD piece at 0) (getD piece (at + 1) 0) (getD piece (at + 2) 0) (getD piece (at + 3) 0) xs z ys none (ap listed form ∙ ok) size
     ∙ rw (counted, number) refl
-    ∙ ap (λ (r : Reach). goesOn f r ys) (quiet-came f packet ok form long some (x .above) q (x .here) (x .fits) (at + (k + 5)))
+    ∙ ap (λ (r : Reach). goesOn f r ys) (quiet-settled f packet ok form long some (x .above) q (x .here) (x .fits) (at + (k + 5)))
     ∙ ap (λ (u : Tally). reaching (at + (k + 5)) f u ys) (quiet-accepting f packet ok form long some (x .above) q (x .here) (x .fits))
 
 pub reach-follows : (f : Form) (t : Tally) (piece : List ℕ) (at total q : ℕ) → listed f ≡ true → t .taken ≡ 0 → 0 < t .heard → total ≡ totalOf f

@@ -65,9 +65,9 @@ readerNow t = record { heard = not (eqb (t .heard) 0); position = t .position; f
 abbrev pub positionNow : Tally → ℕ
 positionNow t = positionAfter (readerNow t) (t .number)
 
--- a packet with a number above 0 where no capture is open
-abbrev pub orphan : Tally → Bool
-orphan t = not (eqb (t .number) 0) && eqb (t .heard) 0
+-- "no packet numbered 0 yet": its number is above 0, and no capture is open
+abbrev pub lacksFirst : Tally → Bool
+lacksFirst t = not (eqb (t .number) 0) && eqb (t .heard) 0
 
 -- What the bytes taken come to, in a capture of a form: 0 waits for more. A header that is not listed is refused at once;
 -- all else waits for the whole packet.
@@ -77,7 +77,7 @@ heardChecks f t =
     ∷ check Code.notAPacket (not (listed (formNow t)))
     ∷ check Code.waiting (ltb (t .taken) (totalOf (formNow t)))
     ∷ check Code.formChanged (not (sameForm (formNow t) f))
-    ∷ check Code.noFirstPacket (orphan t)
+    ∷ check Code.noFirstPacket (lacksFirst t)
     ∷ check Code.pastLast (ltb last (positionNow t))
     ∷ []
 
@@ -101,10 +101,10 @@ accepting t =
 abbrev pub closes : Tally → Bool
 closes t = eqb (t .number) 0 && not (eqb (t .heard) 0)
 
--- What a byte comes to, with n bytes taken in all and the tally after it: a code other than 0 says that a line is due, and
--- the tally is then left before the packet's effect.
-unfoldable pub cameTo : ℕ → Form → Tally → Reach
-cameTo n f t =
+-- What the bytes of a packet come to, with n bytes taken in all: more are waited for, or the packet is accepted, or a code
+-- other than 0 says that a line is due, and the tally is then left before the packet's effect.
+unfoldable pub settled : ℕ → Form → Tally → Reach
+settled n f t =
     pick (eqb (heardCode f t) Code.waiting) (record { at = n; code = Code.waiting; tally = t })
     (pick (eqb (heardCode f t) Code.done && not (closes t)) (record { at = n; code = Code.waiting; tally = accepting t })
     (record { at = n; code = heardCode f t; tally = t }))
@@ -113,8 +113,8 @@ cameTo n f t =
 unfoldable pub reaching : ℕ → Form → Tally → List ℕ → Reach
 reaching n f t [] = record { at = n; code = Code.waiting; tally = t }
 reaching n f t (b ∷ bs) =
-    pick (eqb (cameTo (n + 1) f (taking t b) .code) Code.waiting) (reaching (n + 1) f (cameTo (n + 1) f (taking t b) .tally) bs)
-    (cameTo (n + 1) f (taking t b))
+    pick (eqb (settled (n + 1) f (taking t b) .code) Code.waiting) (reaching (n + 1) f (settled (n + 1) f (taking t b) .tally) bs)
+    (settled (n + 1) f (taking t b))
 
 -- ---- a piece
 

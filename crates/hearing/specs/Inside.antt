@@ -1,5 +1,5 @@
 -- What the functions inside promise each other: parts of the way through a piece. Nothing of document 01 rests on these
--- definitions; Reaches, Runs and Goings in proofs/ tie them to Hearing.
+-- definitions; Reaches, WholePackets and Goings in proofs/ tie them to Hearing.
 use Prim.Native.Nat.{ℕ, _+_, _*_, _-_, _≤_, _<_}
 use mathlib.Core.Path.{_≡_}
 use mathlib.Core.Bool.{true}

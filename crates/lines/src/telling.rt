@@ -13,6 +13,15 @@ use crate::text::copy;
 use crate::text::put_line;
 use wire::codes;
 
+// The words with which lines begin, as numbers: the first letter is the least significant byte.
+const SPAN: u64 = 0x4E41_5053;
+
+const C: u64 = 0x43;
+
+const R: u64 = 0x52;
+
+const E: u64 = 0x45;
+
 // "SPAN 1", where it is due.
 fn put_opening(on: bool, buf: &mut [u8], at: usize) -> usize
     requires { ⌜ at + 26 ≤ length (now buf) ⌝ }
@@ -20,7 +29,7 @@ fn put_opening(on: bool, buf: &mut [u8], at: usize) -> usize
 {
     if on {
         let ns = [1u64];
-        return put_line(0x4E41_5053, 4, &ns, buf, at);
+        return put_line(SPAN, 4, &ns, buf, at);
     }
     at
 }
@@ -44,7 +53,7 @@ fn put_capture(d: Due, buf: &mut [u8], at: usize) -> usize
         samples,
         samples * d.divisor / 20,
     ];
-    put_line(0x43, 1, &ns, buf, at)
+    put_line(C, 1, &ns, buf, at)
 }
 
 // The refusal or the end, where one is due.
@@ -54,11 +63,11 @@ fn put_ending(d: Due, buf: &mut [u8], at: usize) -> usize
 {
     if d.ending == 1 {
         let ns = [d.code, d.offset];
-        return put_line(0x52, 1, &ns, buf, at);
+        return put_line(R, 1, &ns, buf, at);
     }
     if d.ending == 2 {
         let ns = [d.capture];
-        return put_line(0x45, 1, &ns, buf, at);
+        return put_line(E, 1, &ns, buf, at);
     }
     at
 }

@@ -26,10 +26,10 @@ use Rattle.hearing.specs.declared.Tally.{Tally}
 use Rattle.hearing.specs.declared.Reach.{Reach}
 use Rattle.lines.specs.Lines.{Line, refusalLine}
 use Rattle.spans.specs.Report.{Known, lineOf, ended, readerAfter, packetIn, packetCode, begins, knownAfter, atEnd, atRefusal, linesFrom}
-use Rattle.hearing.specs.Hearing.{lowHigh, taking, formNow, positionNow, orphan, heardCode, accepting, closes, cameTo, reaching}
+use Rattle.hearing.specs.Hearing.{lowHigh, taking, formNow, positionNow, lacksFirst, heardCode, accepting, closes, settled, reaching}
 use Rattle.hearing.specs.Inside.{goesOn}
 use Rattle.spans.specs.Eating.{endedNow, heardLines}
-use Rattle.hearing.proofs.Heard.{codeBy, heard-by, came-by, accepted}
+use Rattle.hearing.proofs.Heard.{codeBy, heard-by, settled-by, accepted}
 use Rattle.hearing.proofs.Reaches.{heard-waits, tallied, reach-whole, packet-parts, total-least}
 use Rattle.spans.proofs.Telling.{endLines, byReach, toldBy, told-wait, told-due, afterReach, told-reach, reach-from}
 use Rattle.spans.proofs.Wholes.{formAt, not-whole, packet-length, whole-form, whole-packet}
@@ -110,8 +110,8 @@ told-refused h t b bs code is some =
     ∙ rw (ne-eqb code 1 (λ e. omega arith)) (append-nil (refusedAt h (taking t b) code))
     ∙ refused-taking h t b code
   where
-    came : cameTo 1 (formIn h) (taking t b) ≡ record { at = 1; code = code; tally = taking t b }
-    came = came-by 1 (formIn h) (taking t b) is refl ∙ rw (ne-eqb code 0 (λ e. omega arith), ne-eqb code 1 (λ e. omega arith))
+    came : settled 1 (formIn h) (taking t b) ≡ record { at = 1; code = code; tally = taking t b }
+    came = settled-by 1 (formIn h) (taking t b) is refl ∙ rw (ne-eqb code 0 (λ e. omega arith), ne-eqb code 1 (λ e. omega arith))
 
 -- the first two bytes of a packet
 module _ (t : Tally) (none : t .taken ≡ 0) where
@@ -171,7 +171,7 @@ module _ (t : Tally) (none : t .taken ≡ 0) where
 
 -- all bytes of a packet of n bytes
 reach-of : (f : Form) (t : Tally) (rest : List ℕ) (n header number : ℕ) → t .taken ≡ 0 → 5 ≤ n → n ≤ length rest → lowHigh (getD rest 0 0) (getD rest 1 0) ≡ header → lowHigh (getD rest 2 0) (getD rest 3 0) ≡ number
-    → listed (formWithHeader header) ≡ true → n ≡ totalOf (formWithHeader header) → reaching 0 f t rest ≡ goesOn f (cameTo n f (tallied t n header number)) (drop n rest)
+    → listed (formWithHeader header) ≡ true → n ≡ totalOf (formWithHeader header) → reaching 0 f t rest ≡ goesOn f (settled n f (tallied t n header number)) (drop n rest)
 reach-of f t rest n header number none least room two four ok total =
     let k : ℕ = n - 5 in
     let xs : List ℕ = take k (drop 4 rest) in
@@ -184,18 +184,18 @@ reach-of f t rest n header number none least room two four ok total =
     let count : 0 + (length xs + 5) ≡ n = omega (arith, size) in
     ap (reaching 0 f t) all
     ∙ reach-whole 0 f t (getD rest 0 0) (getD rest 1 0) (getD rest 2 0) (getD rest 3 0) xs (getD rest (0 + 4 + k) 0) (drop n rest) none (ap listed form ∙ ok) (size ∙ total ∙ ap totalOf (sym form))
-    ∙ ap (λ (i : ℕ). goesOn f (cameTo i f (tallied t (length xs + 5) (lowHigh (getD rest 0 0) (getD rest 1 0)) (lowHigh (getD rest 2 0) (getD rest 3 0)))) (drop n rest)) count
-    ∙ ap (λ (i : ℕ). goesOn f (cameTo n f (tallied t i (lowHigh (getD rest 0 0) (getD rest 1 0)) (lowHigh (getD rest 2 0) (getD rest 3 0)))) (drop n rest)) size
-    ∙ ap (λ (i : ℕ). goesOn f (cameTo n f (tallied t n i (lowHigh (getD rest 2 0) (getD rest 3 0)))) (drop n rest)) two
-    ∙ ap (λ (i : ℕ). goesOn f (cameTo n f (tallied t n header i)) (drop n rest)) four
+    ∙ ap (λ (i : ℕ). goesOn f (settled i f (tallied t (length xs + 5) (lowHigh (getD rest 0 0) (getD rest 1 0)) (lowHigh (getD rest 2 0) (getD rest 3 0)))) (drop n rest)) count
+    ∙ ap (λ (i : ℕ). goesOn f (settled n f (tallied t i (lowHigh (getD rest 0 0) (getD rest 1 0)) (lowHigh (getD rest 2 0) (getD rest 3 0)))) (drop n rest)) size
+    ∙ ap (λ (i : ℕ). goesOn f (settled n f (tallied t n i (lowHigh (getD rest 2 0) (getD rest 3 0)))) (drop n rest)) two
+    ∙ ap (λ (i : ℕ). goesOn f (settled n f (tallied t n header i)) (drop n rest)) four
 
 -- The lines from a whole packet on, with w the tally after its n bytes: by its code.
-module _ (h : Head) (t w : Tally) (rest : List ℕ) (n : ℕ) (reach : reaching 0 (formIn h) t rest ≡ goesOn (formIn h) (cameTo n (formIn h) w) (drop n rest)) (room : n ≤ length rest) where
+module _ (h : Head) (t w : Tally) (rest : List ℕ) (n : ℕ) (reach : reaching 0 (formIn h) t rest ≡ goesOn (formIn h) (settled n (formIn h) w) (drop n rest)) (room : n ≤ length rest) where
   -- refused
   pub whole-refused : (code : ℕ) → heardCode (formIn h) w ≡ code → 1 < code → toldBy h t rest ≡ refusedAt h w code
   unfolding goesOn
   whole-refused code is some =
-      let came : cameTo n (formIn h) w ≡ record { at = n; code = code; tally = w } = came-by n (formIn h) w is refl ∙ rw (ne-eqb code 0 (λ e. omega arith), ne-eqb code 1 (λ e. omega arith)) in
+      let came : settled n (formIn h) w ≡ record { at = n; code = code; tally = w } = settled-by n (formIn h) w is refl ∙ rw (ne-eqb code 0 (λ e. omega arith), ne-eqb code 1 (λ e. omega arith)) in
       let there : reaching 0 (formIn h) t rest ≡ record { at = n; code = code; tally = w } = reach ∙ ap (λ (r : Reach). goesOn (formIn h) r (drop n rest)) came ∙ rw (ne-eqb code 0 (λ e. omega arith)) in
       told-reach rest 0 h t
       ∙ ap (λ (r : Reach). afterReach h 0 r rest) there
@@ -208,7 +208,7 @@ module _ (h : Head) (t w : Tally) (rest : List ℕ) (n : ℕ) (reach : reaching 
     where
       by : (close : Bool) → closes w ≡ close → toldBy h t rest ≡ pick (eqb (w .number) 0) (endedNow h w) [] ++ toldBy h (accepting w) (drop n rest)
       by true e =
-          let came : cameTo n (formIn h) w ≡ record { at = n; code = 1; tally = w } = came-by n (formIn h) w is e in
+          let came : settled n (formIn h) w ≡ record { at = n; code = 1; tally = w } = settled-by n (formIn h) w is e in
           let there : reaching 0 (formIn h) t rest ≡ record { at = n; code = 1; tally = w } = reach ∙ ap (λ (r : Reach). goesOn (formIn h) r (drop n rest)) came in
           let zero′ : eqb (w .number) 0 ≡ true = and-left (eqb (w .number) 0) (not (eqb (w .heard) 0)) e in
           let from : n - 0 ≡ n = omega arith in
@@ -218,7 +218,7 @@ module _ (h : Head) (t w : Tally) (rest : List ℕ) (n : ℕ) (reach : reaching 
           ∙ ap (λ (i : ℕ). endedNow h w ++ toldBy h (accepting w) (drop i rest)) from
           ∙ ap (λ (b : Bool). pick b (endedNow h w) [] ++ toldBy h (accepting w) (drop n rest)) (sym zero′)
       by false e =
-          let came : cameTo n (formIn h) w ≡ record { at = n; code = 0; tally = accepting w } = came-by n (formIn h) w is e in
+          let came : settled n (formIn h) w ≡ record { at = n; code = 0; tally = accepting w } = settled-by n (formIn h) w is e in
           let next : Reach = reaching n (formIn h) (accepting w) (drop n rest) in
           let there : reaching 0 (formIn h) t rest ≡ next = reach ∙ ap (λ (r : Reach). goesOn (formIn h) r (drop n rest)) came in
           let ahead : n ≤ next .at = reach-from (drop n rest) n (formIn h) (accepting w) in
@@ -387,7 +387,7 @@ module _ (n : ℕ) (h : Head) (own : listed (formIn h) ≡ true) (t : Tally) (k 
     least : 388 ≤ total
     least = total-least (formAt rest) ok
 
-    reach : reaching 0 (formIn h) t rest ≡ goesOn (formIn h) (cameTo total (formIn h) v) (drop total rest)
+    reach : reaching 0 (formIn h) t rest ≡ goesOn (formIn h) (settled total (formIn h) v) (drop total rest)
     reach =
         reach-of (formIn h) t rest total (field 0 2 rest) (field 2 2 rest) (m .taken) (omega (arith, least)) room (omega (arith, field-two rest 0, byte-at rest small 0)) (omega (arith, field-two rest 2, byte-at rest small 2)) ok refl
 
@@ -411,9 +411,9 @@ module _ (n : ℕ) (h : Head) (own : listed (formIn h) ≡ true) (t : Tally) (k 
 
     refused-lines : (heardCode (formIn h) v ≡ 1 → ⊥) → toldBy h t rest ≡ linesFrom (suc n) h k rest
     refused-lines other =
-        let is : heardCode (formIn h) v ≡ codeBy false true false (sameForm (formAt rest) (formIn h)) (orphan v) (ltb last (positionNow v))
+        let is : heardCode (formIn h) v ≡ codeBy false true false (sameForm (formAt rest) (formIn h)) (lacksFirst v) (ltb last (positionNow v))
         = heard-by (formIn h) v (le-ltb total 2 (omega (arith, least))) ok (le-ltb total total (omega arith)) refl refl refl in
-        let above : 1 < heardCode (formIn h) v = omega (arith, is, whole-some (sameForm (formAt rest) (formIn h)) (orphan v) (ltb last (positionNow v)), other) in
+        let above : 1 < heardCode (formIn h) v = omega (arith, is, whole-some (sameForm (formAt rest) (formIn h)) (lacksFirst v) (ltb last (positionNow v)), other) in
         whole-refused h t v rest total reach room (heardCode (formIn h) v) refl above
         ∙ refused-same h t k m (heardCode (formIn h) v)
         ∙ sym (lines-refused n h k rest some (heardCode (formIn h) v) code other)

@@ -18,17 +18,17 @@ use Rattle.spans.specs.declared.Eaten.{Eaten}
 use Rattle.lines.specs.declared.Told.{Told}
 use Rattle.lines.specs.Lines.{Line, textOf}
 use Rattle.lines.specs.Due.{Telling, telling}
-use Rattle.hearing.specs.Hearing.{taking, cameTo, reaching}
+use Rattle.hearing.specs.Hearing.{taking, settled, reaching}
 use Rattle.spans.specs.Eating.{validSpan, headOf, lacking, headTaken, headLines, headRead, heardLines, heardSpan, Eating, refused, silently, saying, opening, listening, eatingOf, lastLines, finishingOf}
-use Rattle.hearing.proofs.Reaches.{came-at}
+use Rattle.hearing.proofs.Reaches.{settled-at}
 
 -- what was reached lies within the bytes
 pub reach-within : (bs : List ℕ) (n : ℕ) (f : Form) (t : Tally) → reaching n f t bs .at ≤ n + length bs
 unfolding reaching
 reach-within [] n f t = omega arith
 reach-within (b ∷ bs) n f t =
-    let next = reach-within bs (n + 1) f (cameTo (n + 1) f (taking t b) .tally) in
-    pick-keeps (λ (r : Reach). r .at ≤ n + length (b ∷ bs)) (eqb (cameTo (n + 1) f (taking t b) .code) 0) _ _ (λ e. omega (arith, next)) (λ e. omega (arith, came-at (n + 1) f (taking t b)))
+    let next = reach-within bs (n + 1) f (settled (n + 1) f (taking t b) .tally) in
+    pick-keeps (λ (r : Reach). r .at ≤ n + length (b ∷ bs)) (eqb (settled (n + 1) f (taking t b) .code) 0) _ _ (λ e. omega (arith, next)) (λ e. omega (arith, settled-at (n + 1) f (taking t b)))
 
 pub record Within (piece : List ℕ) (room : ℕ) (e : Eating) : Type 0 where
   pub consumed : e .eaten .consumed ≤ length piece

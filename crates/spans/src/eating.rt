@@ -198,7 +198,7 @@ fn last_due(s: Span) -> Due
 }
 
 // The span after a whole head that reads with a code.
-fn read_span(code: u8, s: Span) -> Span
+fn after_head(code: u8, s: Span) -> Span
     ensures { λ r. ⌜ r ≡ headRead code s ⌝ }
 {
     let held = s.held;
@@ -238,7 +238,7 @@ fn open(s: Span, piece: &[u8], out: &mut [u8]) -> Eaten
         code: codes::DONE,
         consumed: k,
         wrote: told.wrote,
-        span: read_span(code, after),
+        span: after_head(code, after),
     }
 }
 
