@@ -1,5 +1,6 @@
--- A capture's packets as they come, byte by byte. What 01 says of the whole input stands in spans/specs/Report; `report-is`
--- (spans/proofs/Inputs) ties the two.
+-- A capture's packets as they come, byte by byte: what the code keeps between two bytes, and what a byte makes of it. A reader
+-- of 01 needs only spans/specs/Report, which says what is printed of the whole input; `report-is` (spans/proofs/Inputs)
+-- proves that the two agree.
 use Prim.Native.Nat.{ℕ, _+_, _*_, _%_}
 use mathlib.Core.Bool.{Bool, _&&_, not}
 use mathlib.Core.List.{List, [], _∷_}

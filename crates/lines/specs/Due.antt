@@ -1,5 +1,5 @@
--- The lines that are due at one moment, and what writing them answers. What 01 says of the whole input stands in
--- spans/specs/Report.
+-- The lines that are due at one moment, and what writing them answers. A reader of 01 needs only Lines and spans/specs/Report,
+-- which says what is printed of the whole input.
 use Prim.Native.Nat.{ℕ}
 use mathlib.Core.Bool.{Bool, _&&_, not}
 use mathlib.Core.List.{List, [], _∷_, _++_}

@@ -22,7 +22,7 @@ use Rattle.heads.proofs.Codes.{code-by}
 use Rattle.heads.proofs.Rounds.{passed, form-listed}
 use Rattle.spans.specs.declared.Span.{Span}
 use Rattle.lines.specs.Lines.{Line, textOf, openingLine, refusalLine}
-use Rattle.spans.specs.Report.{nothing, linesFrom, linesOf, report}
+use Rattle.spans.specs.Report.{nothing, packetsIn, linesFrom, linesOf, report}
 use Rattle.spans.specs.Eating.{freshTally, freshSpan, lacking, headTaken, headLines}
 use Rattle.spans.specs.Pieces.{PrintsTheReport}
 use Rattle.spans.proofs.Telling.{toldBy}
@@ -90,7 +90,7 @@ module _ (input : List ℕ) where
       where
         by : (one : Bool) → eqb (headCode input) 1 ≡ one
             → headLines (headCode input) ++ pick (eqb (headCode input) 1) (toldBy (headIn input) freshTally (drop headLength input)) []
-            ≡ openingLine ∷ pick (eqb (headCode input) 1) (linesFrom (length input) (headIn input) nothing (drop headLength input)) (refusalLine (headCode input) 0 ∷ [])
+            ≡ openingLine ∷ pick (eqb (headCode input) 1) (linesFrom (headIn input) nothing (packetsIn (length input) (drop headLength input))) (refusalLine (headCode input) 0 ∷ [])
         by true e =
             let ok = passed input (eqb-true (headCode input) 1 e) .ok in
             rw e

@@ -25,7 +25,7 @@ use Rattle.heads.specs.Head.{formIn}
 use Rattle.hearing.specs.declared.Tally.{Tally}
 use Rattle.hearing.specs.declared.Reach.{Reach}
 use Rattle.lines.specs.Lines.{Line, refusalLine}
-use Rattle.spans.specs.Report.{Known, lineOf, ended, readerAfter, packetIn, packetCode, begins, knownAfter, atEnd, atRefusal, linesFrom}
+use Rattle.spans.specs.Report.{Known, lineOf, ended, readerAfter, packetIn, packetCode, begins, knownAfter, packetsIn, atPacket, atEnd, atRefusal, linesFrom}
 use Rattle.hearing.specs.Hearing.{lowHigh, taking, formNow, positionNow, lacksFirst, heardCode, accepting, closes, settled, reaching}
 use Rattle.hearing.specs.Inside.{goesOn}
 use Rattle.spans.specs.Eating.{endedNow, heardLines}
@@ -339,16 +339,22 @@ end-same : (h : Head) (t : Tally) (k : Known) → Knows t k → toldBy h t [] �
 unfolding toldBy
 end-same h t k m = rw (m .taken, ended-same h t k m, m .captures)
 
--- the report's lines from a packet on, by its code
-module _ (n : ℕ) (h : Head) (k : Known) (rest : List ℕ) (some : length rest ≡ 0 → ⊥) where
-  lines-refused : (code : ℕ) → packetCode h k (packetIn rest) ≡ code → (code ≡ 1 → ⊥) → linesFrom (suc n) h k rest ≡ atRefusal h k code
-  unfolding linesFrom
-  lines-refused code is other = rw (ne-eqb (length rest) 0 some, is, ne-eqb code 1 other)
+-- the report's lines of the bytes that are left
+abbrev pub linesLeft : ℕ → Head → Known → List ℕ → List Line
+linesLeft n h k rest = linesFrom h k (packetsIn n rest)
 
-  lines-accepted : packetCode h k (packetIn rest) ≡ 1
-      → linesFrom (suc n) h k rest ≡ pick (begins (packetIn rest)) (ended h k) [] ++ linesFrom n h (knownAfter h k (packetIn rest)) (drop (length (packetIn rest)) rest)
-  unfolding linesFrom
-  lines-accepted is = rw (ne-eqb (length rest) 0 some, is)
+-- the same from a packet on, by its code
+module _ (n : ℕ) (h : Head) (k : Known) (a : ℕ) (bs : List ℕ) where
+  abbrev next : List ℕ
+  next = packetIn (a ∷ bs)
+
+  lines-refused : (code : ℕ) → packetCode h k next ≡ code → (code ≡ 1 → ⊥) → linesLeft (suc n) h k (a ∷ bs) ≡ atRefusal h k code
+  unfolding linesFrom packetsIn
+  lines-refused code is other = rw (is, ne-eqb code 1 other)
+
+  lines-accepted : packetCode h k next ≡ 1 → linesLeft (suc n) h k (a ∷ bs) ≡ atPacket h k next ++ linesLeft n h (knownAfter h k next) (drop (length next) (a ∷ bs))
+  unfolding linesFrom packetsIn
+  lines-accepted is = rw is
 
 refused-same : (h : Head) (t : Tally) (k : Known) → Knows t k → (code : ℕ) → refusedAt h t code ≡ atRefusal h k code
 refused-same h t k m code = ap (λ (ls : List Line). ls ++ refusalLine code (t .begins) ∷ []) (ended-same h t k m) ∙ ap (λ (x : ℕ). ended h k ++ refusalLine code x ∷ []) (m .offset)
@@ -362,19 +368,16 @@ whole-some true false false = omega arith
 
 -- A packet's begin, where the lines of all that comes later agree already.
 module _ (n : ℕ) (h : Head) (own : listed (formIn h) ≡ true) (t : Tally) (k : Known) (m : Knows t k) (a : ℕ) (bs : List ℕ) (few : length (a ∷ bs) ≤ suc n) (small : allBytes (a ∷ bs))
-    (later : (u : Tally) (j : Known) (left : List ℕ) → length left ≤ n → Knows u j → allBytes left → toldBy h u left ≡ linesFrom n h j left) where
+    (later : (u : Tally) (j : Known) (left : List ℕ) → length left ≤ n → Knows u j → allBytes left → toldBy h u left ≡ linesLeft n h j left) where
   abbrev rest : List ℕ
   rest = a ∷ bs
 
-  some : length rest ≡ 0 → ⊥
-  some e = omega arith
-
   -- no whole packet
-  none-lines : (listed (formAt rest) ≡ true → totalOf (formAt rest) ≤ length rest → ⊥) → toldBy h t rest ≡ linesFrom (suc n) h k rest
+  none-lines : (listed (formAt rest) ≡ true → totalOf (formAt rest) ≤ length rest → ⊥) → toldBy h t rest ≡ linesLeft (suc n) h k rest
   none-lines no-packet =
       told-no-packet t (m .taken) h a bs small no-packet
       ∙ refused-same h t k m 30
-      ∙ sym (lines-refused n h k rest some 30 (packet-code-by h k (packetIn rest) (not-whole rest no-packet) refl refl refl refl refl) (λ e. omega arith))
+      ∙ sym (lines-refused n h k a bs 30 (packet-code-by h k (packetIn rest) (not-whole rest no-packet) refl refl refl refl refl) (λ e. omega arith))
 
   -- a whole packet
   module _ (ok : listed (formAt rest) ≡ true) (room : totalOf (formAt rest) ≤ length rest) where
@@ -397,39 +400,39 @@ module _ (n : ℕ) (h : Head) (own : listed (formIn h) ≡ true) (t : Tally) (k 
     long : length (packetIn rest) ≡ total
     long = packet-length rest ok room
 
-    accepted-lines : heardCode (formIn h) v ≡ 1 → toldBy h t rest ≡ linesFrom (suc n) h k rest
+    accepted-lines : heardCode (formIn h) v ≡ 1 → toldBy h t rest ≡ linesLeft (suc n) h k rest
     accepted-lines one =
-        let next : toldBy h (accepting v) (drop total rest) ≡ linesFrom n h (knownAfter h k (packetIn rest)) (drop total rest)
+        let next : toldBy h (accepting v) (drop total rest) ≡ linesLeft n h (knownAfter h k (packetIn rest)) (drop total rest)
         = later (accepting v) (knownAfter h k (packetIn rest)) (drop total rest) (simp length-drop (omega (arith, least))) (knows-after h t k m own rest ok room one) (bytes-drop total rest small) in
-        let line : pick (eqb (field 2 2 rest) 0) (endedNow h t) [] ≡ pick (begins (packetIn rest)) (ended h k) []
+        let line : pick (eqb (field 2 2 rest) 0) (endedNow h t) [] ≡ atPacket h k (packetIn rest)
         = ap (λ (ls : List Line). pick (eqb (field 2 2 rest) 0) ls []) (ended-same h t k m) ∙ ap (λ (x : ℕ). pick (eqb x 0) (ended h k) []) (sym (number-same h t k m own rest ok room)) in
         whole-accepted h t v rest total reach room one
         ∙ ap (λ (ls : List Line). ls ++ toldBy h (accepting v) (drop total rest)) line
-        ∙ ap (λ (ls : List Line). pick (begins (packetIn rest)) (ended h k) [] ++ ls) next
-        ∙ ap (λ (i : ℕ). pick (begins (packetIn rest)) (ended h k) [] ++ linesFrom n h (knownAfter h k (packetIn rest)) (drop i rest)) (sym long)
-        ∙ sym (lines-accepted n h k rest some (code ∙ one))
+        ∙ ap (λ (ls : List Line). atPacket h k (packetIn rest) ++ ls) next
+        ∙ ap (λ (i : ℕ). atPacket h k (packetIn rest) ++ linesLeft n h (knownAfter h k (packetIn rest)) (drop i rest)) (sym long)
+        ∙ sym (lines-accepted n h k a bs (code ∙ one))
 
-    refused-lines : (heardCode (formIn h) v ≡ 1 → ⊥) → toldBy h t rest ≡ linesFrom (suc n) h k rest
+    refused-lines : (heardCode (formIn h) v ≡ 1 → ⊥) → toldBy h t rest ≡ linesLeft (suc n) h k rest
     refused-lines other =
         let is : heardCode (formIn h) v ≡ codeBy false true false (sameForm (formAt rest) (formIn h)) (lacksFirst v) (ltb last (positionNow v))
         = heard-by (formIn h) v (le-ltb total 2 (omega (arith, least))) ok (le-ltb total total (omega arith)) refl refl refl in
         let above : 1 < heardCode (formIn h) v = omega (arith, is, whole-some (sameForm (formAt rest) (formIn h)) (lacksFirst v) (ltb last (positionNow v)), other) in
         whole-refused h t v rest total reach room (heardCode (formIn h) v) refl above
         ∙ refused-same h t k m (heardCode (formIn h) v)
-        ∙ sym (lines-refused n h k rest some (heardCode (formIn h) v) code other)
+        ∙ sym (lines-refused n h k a bs (heardCode (formIn h) v) code other)
 
-  packet-lines : toldBy h t rest ≡ linesFrom (suc n) h k rest
+  packet-lines : toldBy h t rest ≡ linesLeft (suc n) h k rest
   packet-lines = by (listed (formAt rest)) refl
     where
-      whole : listed (formAt rest) ≡ true → totalOf (formAt rest) ≤ length rest → toldBy h t rest ≡ linesFrom (suc n) h k rest
+      whole : listed (formAt rest) ≡ true → totalOf (formAt rest) ≤ length rest → toldBy h t rest ≡ linesLeft (suc n) h k rest
       whole ok room = elim (ℕ-discrete (heardCode (formIn h) (v ok room)) 1) [ yes one ↦ accepted-lines ok room one | no other ↦ refused-lines ok room other ]
 
-      by : (l : Bool) → listed (formAt rest) ≡ l → toldBy h t rest ≡ linesFrom (suc n) h k rest
+      by : (l : Bool) → listed (formAt rest) ≡ l → toldBy h t rest ≡ linesLeft (suc n) h k rest
       by true e = elim (decLe (totalOf (formAt rest)) (length rest)) [ yes r ↦ whole e r | no r ↦ none-lines (λ l q. r q) ]
       by false e = none-lines (λ l q. true-not-false (sym l ∙ e))
 
-pub told-lines : (n : ℕ) (h : Head) → listed (formIn h) ≡ true → (t : Tally) (k : Known) (rest : List ℕ) → length rest ≤ n → Knows t k → allBytes rest → toldBy h t rest ≡ linesFrom n h k rest
-unfolding linesFrom
+pub told-lines : (n : ℕ) (h : Head) → listed (formIn h) ≡ true → (t : Tally) (k : Known) (rest : List ℕ) → length rest ≤ n → Knows t k → allBytes rest → toldBy h t rest ≡ linesLeft n h k rest
+unfolding linesFrom packetsIn
 told-lines zero h own t k [] few m small = end-same h t k m
 told-lines zero h own t k (a ∷ bs) few m small = absurd (omega arith)
 told-lines (suc n) h own t k [] few m small = end-same h t k m
