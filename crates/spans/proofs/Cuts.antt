@@ -12,12 +12,11 @@ use borrow.Author.Tests.{not-false, lt-ltb, le-ltb, ne-eqb, eqb-true}
 use Rattle.wire.specs.Choice.{pick}
 use Rattle.wire.specs.Lists.{joined}
 use Rattle.wire.proofs.Laws.{true-not-false}
+use Rattle.wire.proofs.Checks.{given-below}
 use Rattle.wire.proofs.Stores.{sets-append}
 use Rattle.heads.specs.declared.Head.{Head}
-use Rattle.wire.specs.Number.{number, field}
-use Rattle.heads.specs.Head.{mark, version, headLength, formIn, allowed, headIn}
+use Rattle.heads.specs.Head.{headLength, formIn, readChecks}
 use Rattle.heads.specs.Head.{readCode as headCode}
-use Rattle.heads.proofs.Codes.{codeBy, code-by}
 use Rattle.hearing.specs.declared.Tally.{Tally}
 use Rattle.hearing.specs.declared.Reach.{Reach}
 use Rattle.spans.specs.declared.Span.{Span}
@@ -27,7 +26,7 @@ use Rattle.spans.specs.Eating.{freshSpan, headOf, withTally, lacking, he
 use Rattle.lines.specs.Due.{Telling, telling}
 use Rattle.spans.specs.Pieces.{room, Handed, handing, handed, printedFrom, printed, CutsDoNotMatter}
 use Rattle.lines.proofs.Dues.{text-append}
-use Rattle.hearing.proofs.Heard.{accepted, heard-small, sane-accepting}
+use Rattle.hearing.proofs.Heard.{accepted-fits, heard-small, sane-accepting}
 use Rattle.hearing.proofs.Goings.{Is-due, reach-due}
 use Rattle.spans.proofs.Eats.{opening-waits, opening-says, listening-by, listening-waits, listening-says, eating-stopped, eating-head, eating-packets, finishing-stopped, finishing-says}
 use Rattle.spans.proofs.Rooms.{Short, head-room, heard-room, end-room}
@@ -156,9 +155,8 @@ module _ (s : Span) (used : ℕ) (b : ℕ) (bs rest : List ℕ) (goes : s .stopp
     -- where the open capture ends, the accepted packet leaves a span that goes on
     accepted-going : r .code ≡ 1 → Going (withTally false s (accepting (r .tally))) (used + r .at)
     accepted-going one =
-        let here = accepted (formIn h) (r .tally) (sym (packet .code) ∙ one) in
         goes-on-with (accepting (r .tally)) (passed-accepting (r .tally) ∙ behind)
-        (sane-counted (sane-accepting 0 (r .tally) (counted-sane (r .tally) 0 counted (omega (arith, behind, within))) (packet .some) (here .fits)))
+        (sane-counted (sane-accepting 0 (r .tally) (counted-sane (r .tally) 0 counted (omega (arith, behind, within))) (packet .some) (accepted-fits (formIn h) (r .tally) (sym (packet .code) ∙ one))))
 
     rest-told : pick (eqb (r .code) 1) (toldBy h (accepting (r .tally)) (drop (r .at) (piece ++ rest))) [] ≡ told (heardSpan s r) (drop (r .at) piece ++ rest)
     rest-told = by (eqb (r .code) 1) refl
@@ -202,15 +200,9 @@ module _ (s : Span) (used : ℕ) (b : ℕ) (bs rest : List ℕ) (goes : s .stopp
 
 -- ---- the head's part
 
-head-code-small : (s : List ℕ) → headCode s ≤ 41
-head-code-small s = subst (λ (n : ℕ). n ≤ 41) (sym (code-by s refl refl refl refl)) (by (ltb (length s) headLength) (eqb (field 0 3 s) (number mark)) (eqb (field 3 2 s) version) (allowed (headIn s)))
-  where
-    by : (short marked one ok : Bool) → codeBy short marked one ok ≤ 41
-    by true marked one ok = omega arith
-    by false false one ok = omega arith
-    by false true false ok = omega arith
-    by false true true false = omega arith
-    by false true true true = omega arith
+head-code-small : (s : List ℕ) → headCode s < 42
+unfolding headCode
+head-code-small s = given-below 42 (readChecks s) 1 refl (omega arith)
 
 -- the lines of a head that has been taken so far, with what is left of the bytes
 abbrev pub headToldBy : Span → List ℕ → List Line

@@ -29,7 +29,7 @@ use Rattle.spans.specs.Report.{Known, lineOf, ended, readerAfter, packet
 use Rattle.hearing.specs.Hearing.{lowHigh, taking, formNow, positionNow, lacksFirst, heardCode, accepting, closes, settled, reaching}
 use Rattle.hearing.specs.Inside.{goesOn}
 use Rattle.spans.specs.Eating.{endedNow, heardLines}
-use Rattle.hearing.proofs.Heard.{codeBy, heard-by, settled-by, accepted}
+use Rattle.hearing.proofs.Heard.{codeBy, heard-by, settled-by, accepted-fits}
 use Rattle.hearing.proofs.Reaches.{heard-waits, tallied, reach-whole, packet-parts, total-least}
 use Rattle.spans.proofs.Telling.{endLines, byReach, toldBy, told-wait, told-due, afterReach, told-reach, reach-from}
 use Rattle.spans.proofs.Wholes.{formAt, not-whole, packet-length, whole-form, whole-packet}
@@ -67,15 +67,6 @@ header-kept t b some = rw (ne-eqb (t .taken) 0 (λ e. omega arith), ne-eqb (t .t
 one-more : (t : Tally) (b : ℕ) → taking t b .taken ≡ t .taken + 1
 unfolding taking
 one-more t b = refl
-
--- a byte changes nothing of the open capture, nor where the packet begins
-pub ended-taking : (h : Head) (t : Tally) (b : ℕ) → endedNow h (taking t b) ≡ endedNow h t
-unfolding taking
-ended-taking h t b = refl
-
-begins-taking : (t : Tally) (b : ℕ) → taking t b .begins ≡ t .begins
-unfolding taking
-begins-taking t b = refl
 
 -- the lines of a packet that is refused
 abbrev pub refusedAt : Head → Tally → ℕ → List Line
@@ -326,7 +317,7 @@ module _ (h : Head) (t : Tally) (k : Known) (m : Knows t k) (own : listed (formI
             ∙ counts (eqb (field 2 2 rest) 0) (k .accepted)
             ∙ ap (λ (x : ℕ). suc (length (pick (eqb x 0) [] (k .accepted)))) (sym number-same);
         position = sym position-same;
-        allowed = accepted (formIn h) w one .fits;
+        allowed = accepted-fits (formIn h) w one;
       }
     where
       counts : (zero′ : Bool) (l : List ℕ) → pick zero′ 1 (length l + 1) ≡ suc (length (pick zero′ [] l))
