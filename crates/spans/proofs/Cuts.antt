@@ -24,7 +24,7 @@ use Rattle.lines.specs.Lines.{Line, textOf, openingLine, refusalLine}
 use Rattle.hearing.specs.Hearing.{farthest, accepting, reaching}
 use Rattle.spans.specs.Eating.{freshSpan, headOf, withTally, lacking, headTaken, headLines, headRead, heardLines, heardSpan, Eating, silently, saying, opening, openingBy, listening, listeningBy, eatingOf, lastLines, finishingOf}
 use Rattle.lines.specs.Due.{Telling, telling}
-use Rattle.spans.specs.Pieces.{room, Handed, handing, handed, printedFrom, printed, CutsDoNotMatter}
+use Rattle.spans.specs.Pieces.{room, Handed, handing, handed, handedAll, printedFrom, printed, CutsDoNotMatter}
 use Rattle.lines.proofs.Dues.{text-append}
 use Rattle.hearing.proofs.Heard.{accepted-fits, heard-small, sane-accepting}
 use Rattle.hearing.proofs.Goings.{Is-due, reach-due}
@@ -407,11 +407,13 @@ end-told s used good near = by (s .stopped) refl
             says′ ∙ ap (λ (ls : List Line). telling (textOf ls) room .bytes) last ∙ whole-text lines (end-room (headOf s) (s .tally) (going-short s used (good e) near all′)) ∙ ap textOf (sym (told-packets s [] e all′ ∙ told-end (headOf s) (s .tally)))
 
 pub printed-told : (pieces : List (List ℕ)) (s : Span) (used : ℕ) → (s .stopped ≡ false → Going s used) → used + length (joined pieces) ≤ farthest → printedFrom s pieces ≡ textOf (told s (joined pieces))
-unfolding printedFrom
+unfolding handedAll
 printed-told [] s used good near = end-told s used good (omega arith)
 printed-told (p ∷ ps) s used good near =
     let calls = all-calls (length p) s used p (joined ps) (omega arith) good (omega (arith, length-append p (joined ps))) in
-    ap (λ (l : List ℕ). handed s p .text ++ l) (printed-told ps (handed s p .span) (used + length p) (calls .goes) (omega (arith, length-append p (joined ps)))) ∙ sym (calls .text)
+    let next : Handed = handedAll (handed s p .span) ps in
+    append-assoc (handed s p .text) (next .text) (finishingOf (next .span) room .bytes)
+    ∙ ap (λ (l : List ℕ). handed s p .text ++ l) (printed-told ps (handed s p .span) (used + length p) (calls .goes) (omega (arith, length-append p (joined ps)))) ∙ sym (calls .text)
 
 -- All that is printed for pieces is what their bytes bring.
 pub printed-is : (pieces : List (List ℕ)) → length (joined pieces) ≤ farthest → printed pieces ≡ textOf (told freshSpan (joined pieces))

@@ -37,10 +37,14 @@ handing (suc n) s piece =
 abbrev pub handed : Span → List ℕ → Handed
 handed s piece = handing (length piece) s piece
 
--- all that is written for pieces, from a span on
-unfoldable pub printedFrom : Span → List (List ℕ) → List ℕ
-printedFrom s [] = finishingOf s room .bytes
-printedFrom s (p ∷ ps) = handed s p .text ++ printedFrom (handed s p .span) ps
+-- one piece after the other, each to the span that the one before it left
+unfoldable pub handedAll : Span → List (List ℕ) → Handed
+handedAll s [] = nothingHanded s
+handedAll s (p ∷ ps) = before (handed s p .text) (handedAll (handed s p .span) ps)
+
+-- all that is written for pieces and then for the end, from a span on
+abbrev pub printedFrom : Span → List (List ℕ) → List ℕ
+printedFrom s pieces = handedAll s pieces .text ++ finishingOf (handedAll s pieces .span) room .bytes
 
 -- all that is written
 abbrev pub printed : List (List ℕ) → List ℕ
