@@ -11,10 +11,10 @@ use borrow.Author.Tests.{ne-eqb, eqb-false}
 use Rattle.packets.specs.declared.Form.{Form}
 use Rattle.hearing.specs.declared.Tally.{Tally}
 use Rattle.hearing.specs.declared.Reach.{Reach}
-use Rattle.hearing.specs.Hearing.{taking, heardCode, closes, cameTo, reaching}
+use Rattle.hearing.specs.Hearing.{taking, heardCode, closes, settled, reaching}
 use Rattle.hearing.specs.Inside.{goesOn, Sane, Goes, Samples, skipped}
-use Rattle.hearing.proofs.Heard.{sane-taking, sane-came}
-use Rattle.hearing.proofs.Reaches.{came-at, reach-byte, reach-skip}
+use Rattle.hearing.proofs.Heard.{sane-taking, sane-settled}
+use Rattle.hearing.proofs.Reaches.{settled-at, reach-byte, reach-skip}
 
 -- samples that are skipped
 pub goes-skip : (f : Form) (t : Tally) (piece : List ℕ) (at k : ℕ) → at + k ≤ length piece → Samples t k → Sane (length piece - at) t
@@ -33,19 +33,19 @@ goes-skip f t piece at k room s sane =
 
 -- one byte
 pub goes-byte : (f : Form) (t : Tally) (piece : List ℕ) (at : ℕ) → at < length piece → Sane (length piece - at) t
-    → Goes f t piece at (cameTo (at + 1) f (taking t (getD piece at 0)))
+    → Goes f t piece at (settled (at + 1) f (taking t (getD piece at 0)))
 unfolding taking
 goes-byte f t piece at h sane =
     let b : ℕ = getD piece at 0 in
-    let there : cameTo (at + 1) f (taking t b) .at ≡ at + 1 = came-at (at + 1) f (taking t b) in
+    let there : settled (at + 1) f (taking t b) .at ≡ at + 1 = settled-at (at + 1) f (taking t b) in
     let left : length piece - (at + 1) + 1 ≡ length piece - at = omega arith in
     let after : Sane (length piece - (at + 1)) (taking t b) = sane-taking (length piece - (at + 1)) t b (rw left sane) in
     record {
-      same = ap (λ (k : ℕ). goesOn f (cameTo (at + 1) f (taking t b)) (drop k piece)) there ∙ reach-byte f t piece at h;
+      same = ap (λ (k : ℕ). goesOn f (settled (at + 1) f (taking t b)) (drop k piece)) there ∙ reach-byte f t piece at h;
       inside = omega (arith, there);
       sane =
-          subst (λ (k : ℕ). Sane (length piece - k) (cameTo (at + 1) f (taking t b) .tally)) (sym there)
-          (sane-came (length piece - (at + 1)) (at + 1) f (taking t b) after (omega arith));
+          subst (λ (k : ℕ). Sane (length piece - k) (settled (at + 1) f (taking t b) .tally)) (sym there)
+          (sane-settled (length piece - (at + 1)) (at + 1) f (taking t b) after (omega arith));
     }
 
 -- where a line is due, that is where all leads
@@ -69,11 +69,11 @@ unfolding taking
 taken-some t b = omega arith
 
 -- a packet has its code, and is left before its effect
-pub came-due : (n : ℕ) (f : Form) (t : Tally) → (cameTo n f t .code ≡ 0 → ⊥) → cameTo n f t ≡ record { at = n; code = heardCode f t; tally = t }
-unfolding cameTo
-came-due n f t due = by (eqb (heardCode f t) 0) (eqb (heardCode f t) 1 && not (closes t)) refl refl
+pub settled-due : (n : ℕ) (f : Form) (t : Tally) → (settled n f t .code ≡ 0 → ⊥) → settled n f t ≡ record { at = n; code = heardCode f t; tally = t }
+unfolding settled
+settled-due n f t due = by (eqb (heardCode f t) 0) (eqb (heardCode f t) 1 && not (closes t)) refl refl
   where
-    by : (waits quiet : Bool) → eqb (heardCode f t) 0 ≡ waits → (eqb (heardCode f t) 1 && not (closes t)) ≡ quiet → cameTo n f t ≡ record { at = n; code = heardCode f t; tally = t }
+    by : (waits quiet : Bool) → eqb (heardCode f t) 0 ≡ waits → (eqb (heardCode f t) 1 && not (closes t)) ≡ quiet → settled n f t ≡ record { at = n; code = heardCode f t; tally = t }
     by true quiet p q = absurd (due (rw p))
     by false true p q = absurd (due (rw (p, q)))
     by false false p q = rw (p, q)
@@ -86,13 +86,13 @@ pub record Is-due (f : Form) (r : Reach) : Type 0 where
 pub reach-due : (bs : List ℕ) (n : ℕ) (f : Form) (t : Tally) → (reaching n f t bs .code ≡ 0 → ⊥) → Is-due f (reaching n f t bs)
 unfolding reaching
 reach-due [] n f t due = absurd (due refl)
-reach-due (b ∷ bs) n f t due = by (eqb (cameTo (n + 1) f (taking t b) .code) 0) refl (reach-due bs (n + 1) f (cameTo (n + 1) f (taking t b) .tally))
+reach-due (b ∷ bs) n f t due = by (eqb (settled (n + 1) f (taking t b) .code) 0) refl (reach-due bs (n + 1) f (settled (n + 1) f (taking t b) .tally))
   where
     later : Tally
-    later = cameTo (n + 1) f (taking t b) .tally
+    later = settled (n + 1) f (taking t b) .tally
 
-    by : (none : Bool) → eqb (cameTo (n + 1) f (taking t b) .code) 0 ≡ none → ((reaching (n + 1) f later bs .code ≡ 0 → ⊥) → Is-due f (reaching (n + 1) f later bs)) → Is-due f (reaching n f t (b ∷ bs))
+    by : (none : Bool) → eqb (settled (n + 1) f (taking t b) .code) 0 ≡ none → ((reaching (n + 1) f later bs .code ≡ 0 → ⊥) → Is-due f (reaching (n + 1) f later bs)) → Is-due f (reaching n f t (b ∷ bs))
     by true e ih = rw e (ih (λ z. due (rw e z)))
     by false e ih =
-        let here = came-due (n + 1) f (taking t b) (λ z. eqb-false _ _ e z) in
+        let here = settled-due (n + 1) f (taking t b) (λ z. eqb-false _ _ e z) in
         rw (e, here) (record { code = refl; some = taken-some t b })

@@ -9,6 +9,7 @@ use lib.Dec.{eqb, ltb}
 use lib.ListN.{getD}
 use borrow.Author.Tests.{ltb-false, eqb-true}
 use Rattle.wire.proofs.Laws.{true-not-false, and-left, pick-keeps}
+use Rattle.wire.proofs.Checks.{absent, given-below}
 use Rattle.wire.specs.Choice.{pick, check, firstOf}
 use Rattle.packets.specs.declared.Form.{Form}
 use Rattle.packets.specs.Forms.{sameForm, totalOf, listed}
@@ -16,7 +17,7 @@ use Rattle.packets.specs.Numbers.{stepOf, last}
 use Rattle.packets.proofs.Numbers.{step-above, step-not-above}
 use Rattle.hearing.specs.declared.Tally.{Tally}
 use Rattle.hearing.specs.declared.Reach.{Reach}
-use Rattle.hearing.specs.Hearing.{formNow, positionNow, orphan, heardCode, taking, accepting, closes, cameTo}
+use Rattle.hearing.specs.Hearing.{formNow, positionNow, lacksFirst, heardChecks, heardCode, taking, accepting, closes, settled}
 use Rattle.hearing.specs.Inside.{Sane, wordAt, twoAt}
 
 abbrev pub codeBy : Bool → Bool → Bool → Bool → Bool → Bool → ℕ
@@ -26,7 +27,7 @@ codeBy few ok short same lone past =
     1
 
 pub heard-by : (f : Form) (t : Tally) {few ok short same lone past : Bool} → ltb (t .taken) 2 ≡ few → listed (formNow t) ≡ ok → ltb (t .taken) (totalOf (formNow t)) ≡ short
-    → sameForm (formNow t) f ≡ same → orphan t ≡ lone → ltb last (positionNow t) ≡ past → heardCode f t ≡ codeBy few ok short same lone past
+    → sameForm (formNow t) f ≡ same → lacksFirst t ≡ lone → ltb last (positionNow t) ≡ past → heardCode f t ≡ codeBy few ok short same lone past
 unfolding heardCode
 heard-by f t a b c d e g = cc
 
@@ -35,22 +36,14 @@ reachBy n code close t =
     pick (eqb code 0) (record { at = n; code = 0; tally = t })
     (pick (eqb code 1 && not close) (record { at = n; code = 0; tally = accepting t }) (record { at = n; code = code; tally = t }))
 
-pub came-by : (n : ℕ) (f : Form) (t : Tally) {code : ℕ} {close : Bool} → heardCode f t ≡ code → closes t ≡ close → cameTo n f t ≡ reachBy n code close t
-unfolding cameTo
-came-by n f t p q = cc
+pub settled-by : (n : ℕ) (f : Form) (t : Tally) {code : ℕ} {close : Bool} → heardCode f t ≡ code → closes t ≡ close → settled n f t ≡ reachBy n code close t
+unfolding settled
+settled-by n f t p q = cc
 
 -- a code is at most 33
-pub heard-small : (f : Form) (t : Tally) → heardCode f t ≤ 33
+pub heard-small : (f : Form) (t : Tally) → heardCode f t < 34
 unfolding heardCode
-heard-small f t =
-    pick-keeps (λ (n : ℕ). n ≤ 33) (ltb (t .taken) 2) _ _ (λ e. omega arith)
-    (λ e.
-    pick-keeps (λ (n : ℕ). n ≤ 33) (not (listed (formNow t))) _ _ (λ e. omega arith)
-    (λ e.
-    pick-keeps (λ (n : ℕ). n ≤ 33) (ltb (t .taken) (totalOf (formNow t))) _ _ (λ e. omega arith)
-    (λ e.
-    pick-keeps (λ (n : ℕ). n ≤ 33) (not (sameForm (formNow t) f)) _ _ (λ e. omega arith)
-    (λ e. pick-keeps (λ (n : ℕ). n ≤ 33) (orphan t) _ _ (λ e. omega arith) (λ e. pick-keeps (λ (n : ℕ). n ≤ 33) (ltb last (positionNow t)) _ _ (λ e. omega arith) (λ e. omega arith))))))
+heard-small f t = given-below 34 (heardChecks f t) 1 refl (omega arith)
 
 -- what `total_of` answers for a listed form
 pub total-is : (f g : Form) (n : ℕ) → n ≡ pick (listed g) (totalOf g) 0 → g ≡ f → listed f ≡ true → n ≡ totalOf f
@@ -85,29 +78,10 @@ total-some g n is some = by (listed g) refl
         let none : n ≡ 0 = is ∙ rw e in
         absurd (omega arith)
 
--- What an accepted packet has.
-pub record Accepted (f : Form) (t : Tally) : Type 0 where
-  pub some : 2 ≤ t .taken
-  pub form : listed (formNow t) ≡ true
-  pub whole : totalOf (formNow t) ≤ t .taken
-  pub same : sameForm (formNow t) f ≡ true
-  pub belongs : orphan t ≡ false
-  pub fits : positionNow t ≤ last
-
-pub accepted : (f : Form) (t : Tally) → heardCode f t ≡ 1 → Accepted f t
-accepted f t e = by (ltb (t .taken) 2) (listed (formNow t)) (ltb (t .taken) (totalOf (formNow t))) (sameForm (formNow t) f) (orphan t) (ltb last (positionNow t)) refl refl refl refl refl refl
-  where
-    by : (few ok short same lone past : Bool) → ltb (t .taken) 2 ≡ few → listed (formNow t) ≡ ok → ltb (t .taken) (totalOf (formNow t)) ≡ short → sameForm (formNow t) f ≡ same → orphan t ≡ lone
-        → ltb last (positionNow t) ≡ past
-        → Accepted f t
-    by true ok short same lone past a b c d g h = absurd (omega (arith, heard-by f t a b c d g h))
-    by false false short same lone past a b c d g h = absurd (omega (arith, heard-by f t a b c d g h))
-    by false true true same lone past a b c d g h = absurd (omega (arith, heard-by f t a b c d g h))
-    by false true false false lone past a b c d g h = absurd (omega (arith, heard-by f t a b c d g h))
-    by false true false true true past a b c d g h = absurd (omega (arith, heard-by f t a b c d g h))
-    by false true false true false true a b c d g h = absurd (omega (arith, heard-by f t a b c d g h))
-    by false true false true false false a b c d g h =
-        record { some = ltb-false _ _ a; form = b; whole = ltb-false _ _ c; same = d; belongs = g; fits = ltb-false _ _ h }
+-- the position of an accepted packet is one that there is
+pub accepted-fits : (f : Form) (t : Tally) → heardCode f t ≡ 1 → positionNow t ≤ last
+unfolding heardCode
+accepted-fits f t e = ltb-false _ _ (absent (heardChecks f t) 1 refl e .1 .1 .1 .1 .1 .0)
 
 -- ---- sums that fit
 
@@ -127,13 +101,13 @@ pub sane-taking : (rest : ℕ) (t : Tally) (b : ℕ) → Sane (rest + 1) t → S
 unfolding taking
 sane-taking rest t b s = record { room = omega (arith, s .room); heard = s .heard; captures = s .captures; position = s .position }
 
-pub sane-came : (rest n : ℕ) (f : Form) (t : Tally) → Sane rest t → 0 < t .taken → Sane rest (cameTo n f t .tally)
-unfolding cameTo
-sane-came rest n f t s some =
+pub sane-settled : (rest n : ℕ) (f : Form) (t : Tally) → Sane rest t → 0 < t .taken → Sane rest (settled n f t .tally)
+unfolding settled
+sane-settled rest n f t s some =
     pick-keeps (λ (r : Reach). Sane rest (r .tally)) (eqb (heardCode f t) 0) _ _ (λ e. s)
     (λ e.
     pick-keeps (λ (r : Reach). Sane rest (r .tally)) (eqb (heardCode f t) 1 && not (closes t)) _ _
-    (λ q. sane-accepting rest t s some (accepted f t (eqb-true _ _ (and-left (eqb (heardCode f t) 1) (not (closes t)) q)) .fits))
+    (λ q. sane-accepting rest t s some (accepted-fits f t (eqb-true _ _ (and-left (eqb (heardCode f t) 1) (not (closes t)) q))))
     (λ q. s))
 
 pub sane-less : {rest : ℕ} (less : ℕ) {t : Tally} → less ≤ rest → Sane rest t → Sane less t

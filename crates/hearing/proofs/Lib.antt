@@ -1,5 +1,5 @@
 pub mod Heard
 pub mod Reaches
-pub mod Runs
+pub mod WholePackets
 pub mod Goings
 pub mod Ranges

@@ -13,9 +13,9 @@ use Rattle.packets.specs.Forms.{listed}
 use Rattle.packets.specs.Numbers.{last}
 use Rattle.hearing.specs.declared.Tally.{Tally}
 use Rattle.hearing.specs.declared.Reach.{Reach}
-use Rattle.hearing.specs.Hearing.{farthest, inRange, taking, cameTo, reaching, outcome, hearingOf}
+use Rattle.hearing.specs.Hearing.{farthest, inRange, taking, settled, reaching, outcome, hearingOf}
 use Rattle.hearing.specs.Inside.{Sane}
-use Rattle.hearing.proofs.Heard.{sane-taking, sane-came, sane-less}
+use Rattle.hearing.proofs.Heard.{sane-taking, sane-settled, sane-less}
 use Rattle.hearing.proofs.Goings.{taken-some}
 
 pub range-by : (t : Tally) {a b c d : Bool} → leb (t .begins + t .taken) farthest ≡ a → leb (t .heard) (t .begins) ≡ b → leb (t .captures) (t .begins) ≡ c → leb (t .position) last ≡ d
@@ -45,9 +45,9 @@ reach-sane [] n rest f t s = sane-less rest (omega arith) s
 reach-sane (b ∷ bs) n rest f t s =
     let more : rest + length bs + 1 ≡ rest + length (b ∷ bs) = omega arith in
     let after : Sane (rest + length bs) (taking t b) = sane-taking (rest + length bs) t b (rw more s) in
-    let came = sane-came (rest + length bs) (n + 1) f (taking t b) after (taken-some t b) in
-    pick-keeps (λ (r : Reach). Sane rest (r .tally)) (eqb (cameTo (n + 1) f (taking t b) .code) 0) _ _
-    (λ e. reach-sane bs (n + 1) rest f (cameTo (n + 1) f (taking t b) .tally) came) (λ e. sane-less rest (omega arith) came)
+    let came = sane-settled (rest + length bs) (n + 1) f (taking t b) after (taken-some t b) in
+    pick-keeps (λ (r : Reach). Sane rest (r .tally)) (eqb (settled (n + 1) f (taking t b) .code) 0) _ _
+    (λ e. reach-sane bs (n + 1) rest f (settled (n + 1) f (taking t b) .tally) came) (λ e. sane-less rest (omega arith) came)
 
 -- ---- what hearing a piece answers
 

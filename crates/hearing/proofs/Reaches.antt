@@ -18,32 +18,32 @@ use Rattle.packets.specs.Numbers.{numberAt, stepOf, last}
 use Rattle.packets.proofs.Forms.{of-listed, same-is}
 use Rattle.hearing.specs.declared.Tally.{Tally}
 use Rattle.hearing.specs.declared.Reach.{Reach}
-use Rattle.hearing.specs.Hearing.{joined, taking, formNow, positionNow, heardCode, accepting, closes, cameTo, reaching}
+use Rattle.hearing.specs.Hearing.{lowHigh, taking, formNow, positionNow, heardCode, accepting, closes, settled, reaching}
 use Rattle.hearing.specs.Inside.{goesOn, Follows, Samples, skipped, twoAt}
-use Rattle.hearing.proofs.Heard.{heard-by, came-by}
+use Rattle.hearing.proofs.Heard.{heard-by, settled-by}
 
 -- ---- one byte
 
 -- what a byte comes to is reached where it ends
-pub came-at : (n : ℕ) (f : Form) (t : Tally) → cameTo n f t .at ≡ n
-unfolding cameTo
-came-at n f t =
+pub settled-at : (n : ℕ) (f : Form) (t : Tally) → settled n f t .at ≡ n
+unfolding settled
+settled-at n f t =
     pick-keeps (λ (r : Reach). r .at ≡ n) (eqb (heardCode f t) 0) _ _ (λ e. refl)
     (λ e. pick-keeps (λ (r : Reach). r .at ≡ n) (eqb (heardCode f t) 1 && not (closes t)) _ _ (λ d. refl) (λ d. refl))
 
-pub reach-cons : (n : ℕ) (f : Form) (t : Tally) (b : ℕ) (bs : List ℕ) → reaching n f t (b ∷ bs) ≡ goesOn f (cameTo (n + 1) f (taking t b)) bs
+pub reach-cons : (n : ℕ) (f : Form) (t : Tally) (b : ℕ) (bs : List ℕ) → reaching n f t (b ∷ bs) ≡ goesOn f (settled (n + 1) f (taking t b)) bs
 unfolding reaching goesOn
-reach-cons n f t b bs = rw (came-at (n + 1) f (taking t b))
+reach-cons n f t b bs = rw (settled-at (n + 1) f (taking t b))
 
 pub reach-byte : (f : Form) (t : Tally) (piece : List ℕ) (at : ℕ) → at < length piece
-    → goesOn f (cameTo (at + 1) f (taking t (getD piece at 0))) (drop (at + 1) piece) ≡ reaching at f t (drop at piece)
+    → goesOn f (settled (at + 1) f (taking t (getD piece at 0))) (drop (at + 1) piece) ≡ reaching at f t (drop at piece)
 reach-byte f t piece at h =
     rw (drop-cons piece at 0 h) (rw (← add-one at) (sym (reach-cons at f t (getD piece at 0) (drop (at + 1) piece))))
 
 -- a byte after which more is waited for
 pub reach-wait : (n : ℕ) (f : Form) (t : Tally) (b : ℕ) (bs : List ℕ) → heardCode f (taking t b) ≡ 0 → reaching n f t (b ∷ bs) ≡ reaching (n + 1) f (taking t b) bs
 unfolding reaching
-reach-wait n f t b bs w = rw (came-by (n + 1) f (taking t b) w refl)
+reach-wait n f t b bs w = rw (settled-by (n + 1) f (taking t b) w refl)
 
 -- the header is listed and the packet not whole
 pub heard-waits : (f : Form) (t : Tally) → 2 ≤ t .taken → listed (formNow t) ≡ true → t .taken < totalOf (formNow t) → heardCode f t ≡ 0
@@ -83,33 +83,33 @@ tallied t taken header number =
     }
 
 -- the first four bytes of a packet whose header is listed
-pub reach-front : (n : ℕ) (f : Form) (t : Tally) (a b c d : ℕ) (rest : List ℕ) → t .taken ≡ 0 → listed (formWithHeader (joined a b)) ≡ true → 4 < totalOf (formWithHeader (joined a b))
-    → reaching n f t (a ∷ b ∷ c ∷ d ∷ rest) ≡ reaching (n + 4) f (tallied t 4 (joined a b) (joined c d)) rest
+pub reach-front : (n : ℕ) (f : Form) (t : Tally) (a b c d : ℕ) (rest : List ℕ) → t .taken ≡ 0 → listed (formWithHeader (lowHigh a b)) ≡ true → 4 < totalOf (formWithHeader (lowHigh a b))
+    → reaching n f t (a ∷ b ∷ c ∷ d ∷ rest) ≡ reaching (n + 4) f (tallied t 4 (lowHigh a b) (lowHigh c d)) rest
 unfolding taking
 reach-front n f t a b c d rest none ok long =
     let start : t ≡ tallied t 0 (t .header) (t .number) = ap (λ (k : ℕ). tallied t k (t .header) (t .number)) none in
     let zero′ : heardCode f (taking (tallied t 0 (t .header) (t .number)) a) ≡ 0 = heard-by f (tallied t 1 a (t .number)) refl refl refl refl refl refl in
-    let one : heardCode f (taking (tallied t 1 a (t .number)) b) ≡ 0 = heard-waits f (tallied t 2 (joined a b) (t .number)) (omega arith) ok (omega arith) in
-    let two : heardCode f (taking (tallied t 2 (joined a b) (t .number)) c) ≡ 0 = heard-waits f (tallied t 3 (joined a b) c) (omega arith) ok (omega arith) in
-    let three : heardCode f (taking (tallied t 3 (joined a b) c) d) ≡ 0 = heard-waits f (tallied t 4 (joined a b) (joined c d)) (omega arith) ok (omega arith) in
+    let one : heardCode f (taking (tallied t 1 a (t .number)) b) ≡ 0 = heard-waits f (tallied t 2 (lowHigh a b) (t .number)) (omega arith) ok (omega arith) in
+    let two : heardCode f (taking (tallied t 2 (lowHigh a b) (t .number)) c) ≡ 0 = heard-waits f (tallied t 3 (lowHigh a b) c) (omega arith) ok (omega arith) in
+    let three : heardCode f (taking (tallied t 3 (lowHigh a b) c) d) ≡ 0 = heard-waits f (tallied t 4 (lowHigh a b) (lowHigh c d)) (omega arith) ok (omega arith) in
     let count : n + 1 + 1 + 1 + 1 ≡ n + 4 = omega arith in
     ap (λ (u : Tally). reaching n f u (a ∷ b ∷ c ∷ d ∷ rest)) start
     ∙ reach-wait n f (tallied t 0 (t .header) (t .number)) a (b ∷ c ∷ d ∷ rest) zero′
     ∙ reach-wait (n + 1) f (tallied t 1 a (t .number)) b (c ∷ d ∷ rest) one
-    ∙ reach-wait (n + 1 + 1) f (tallied t 2 (joined a b) (t .number)) c (d ∷ rest) two
-    ∙ reach-wait (n + 1 + 1 + 1) f (tallied t 3 (joined a b) c) d rest three
-    ∙ ap (λ (k : ℕ). reaching k f (tallied t 4 (joined a b) (joined c d)) rest) count
+    ∙ reach-wait (n + 1 + 1) f (tallied t 2 (lowHigh a b) (t .number)) c (d ∷ rest) two
+    ∙ reach-wait (n + 1 + 1 + 1) f (tallied t 3 (lowHigh a b) c) d rest three
+    ∙ ap (λ (k : ℕ). reaching k f (tallied t 4 (lowHigh a b) (lowHigh c d)) rest) count
 
 -- all bytes of a packet whose header is listed: the last one decides
-pub reach-whole : (n : ℕ) (f : Form) (t : Tally) (a b c d : ℕ) (xs : List ℕ) (z : ℕ) (ys : List ℕ) → t .taken ≡ 0 → listed (formWithHeader (joined a b)) ≡ true
-    → length xs + 5 ≡ totalOf (formWithHeader (joined a b))
-    → reaching n f t (a ∷ b ∷ c ∷ d ∷ (xs ++ z ∷ ys)) ≡ goesOn f (cameTo (n + (length xs + 5)) f (tallied t (length xs + 5) (joined a b) (joined c d))) ys
+pub reach-whole : (n : ℕ) (f : Form) (t : Tally) (a b c d : ℕ) (xs : List ℕ) (z : ℕ) (ys : List ℕ) → t .taken ≡ 0 → listed (formWithHeader (lowHigh a b)) ≡ true
+    → length xs + 5 ≡ totalOf (formWithHeader (lowHigh a b))
+    → reaching n f t (a ∷ b ∷ c ∷ d ∷ (xs ++ z ∷ ys)) ≡ goesOn f (settled (n + (length xs + 5)) f (tallied t (length xs + 5) (lowHigh a b) (lowHigh c d))) ys
 reach-whole n f t a b c d xs z ys none ok long =
-    let front : Tally = tallied t 4 (joined a b) (joined c d) in
+    let front : Tally = tallied t 4 (lowHigh a b) (lowHigh c d) in
     let past : Samples front (length xs) = record { past = omega arith; form = ok; short = omega arith } in
     let before : Tally = skipped front (length xs) in
-    let last : taking before z ≡ tallied t (length xs + 5) (joined a b) (joined c d)
-    = taking-sample before z (omega arith) ∙ ap (λ (k : ℕ). tallied t k (joined a b) (joined c d)) (omega arith) in
+    let last : taking before z ≡ tallied t (length xs + 5) (lowHigh a b) (lowHigh c d)
+    = taking-sample before z (omega arith) ∙ ap (λ (k : ℕ). tallied t k (lowHigh a b) (lowHigh c d)) (omega arith) in
     let count : n + 4 + length xs + 1 ≡ n + (length xs + 5) = omega arith in
     reach-front n f t a b c d (xs ++ z ∷ ys) none ok (omega arith)
     ∙ reach-skip xs (z ∷ ys) (n + 4) f front past
@@ -164,8 +164,8 @@ module _ (f : Form) (t : Tally) (ok : listed f ≡ true) (form : formNow t ≡ f
   unfolding accepting
   quiet-accepting = rw (numbered, here)
 
-  pub quiet-came : (n : ℕ) → cameTo n f t ≡ record { at = n; code = 0; tally = accepting t }
-  quiet-came n = came-by n f t quiet-code (and-not-left (eqb (t .number) 0) (not (eqb (t .heard) 0)) numbered)
+  pub quiet-settled : (n : ℕ) → settled n f t ≡ record { at = n; code = 0; tally = accepting t }
+  quiet-settled n = settled-by n f t quiet-code (and-not-left (eqb (t .number) 0) (not (eqb (t .heard) 0)) numbered)
 
 -- the tally after such a packet, of a form, at a position
 abbrev pub followed : Tally → ℕ → ℕ → Tally
@@ -190,14 +190,14 @@ follows-of f t piece at k q ok none some long x =
     let ys : List ℕ = drop (at + (k + 5)) piece in
     let counted : length xs ≡ k = length-take-le k (drop (at + 4) piece) (simp length-drop (omega (arith, x .room))) in
     let third : at + 3 ≡ at + 2 + 1 = omega arith in
-    let number : joined (getD piece (at + 2) 0) (getD piece (at + 3) 0) ≡ twoAt piece (at + 2) = ap (λ (i : ℕ). joined (getD piece (at + 2) 0) (getD piece i 0)) third in
+    let number : lowHigh (getD piece (at + 2) 0) (getD piece (at + 3) 0) ≡ twoAt piece (at + 2) = ap (λ (i : ℕ). lowHigh (getD piece (at + 2) 0) (getD piece i 0)) third in
     let form : formWithHeader (twoAt piece at) ≡ f = ap formWithHeader (x .header) ∙ form-with-own f ok in
     let size : length xs + 5 ≡ totalOf (formWithHeader (twoAt piece at)) = omega (arith, counted, long, ap totalOf form) in
     let packet : Tally = tallied t (k + 5) (twoAt piece at) (twoAt piece (at + 2)) in
     ap (reaching at f t) (packet-parts piece at k (x .room))
     ∙ reach-whole at f t (getD piece at 0) (getD piece (at + 1) 0) (getD piece (at + 2) 0) (getD piece (at + 3) 0) xs z ys none (ap listed form ∙ ok) size
     ∙ rw (counted, number) refl
-    ∙ ap (λ (r : Reach). goesOn f r ys) (quiet-came f packet ok form long some (x .above) q (x .here) (x .fits) (at + (k + 5)))
+    ∙ ap (λ (r : Reach). goesOn f r ys) (quiet-settled f packet ok form long some (x .above) q (x .here) (x .fits) (at + (k + 5)))
     ∙ ap (λ (u : Tally). reaching (at + (k + 5)) f u ys) (quiet-accepting f packet ok form long some (x .above) q (x .here) (x .fits))
 
 pub reach-follows : (f : Form) (t : Tally) (piece : List ℕ) (at total q : ℕ) → listed f ≡ true → t .taken ≡ 0 → 0 < t .heard → total ≡ totalOf f

@@ -1,5 +1,6 @@
--- A capture's packets as they come, byte by byte. What 01 says of the whole input stands in spans/specs/Report; `report-is`
--- (spans/proofs/Inputs) ties the two.
+-- A capture's packets as they come, byte by byte: what the code keeps between two bytes, and what a byte makes of it. A reader
+-- of 01 needs only spans/specs/Report, which says what is printed of the whole input; `report-is` (spans/proofs/Inputs)
+-- proves that the two agree.
 use Prim.Native.Nat.{ℕ, _+_, _*_, _%_}
 use mathlib.Core.Bool.{Bool, _&&_, not}
 use mathlib.Core.List.{List, [], _∷_}
@@ -33,12 +34,12 @@ inRange t =
 -- ---- one byte
 
 -- the number of a low byte and a high byte. (Of a low byte that is none its last eight bits count.)
-abbrev pub joined : ℕ → ℕ → ℕ
-joined low high = low % 256 + 256 * high
+abbrev pub lowHigh : ℕ → ℕ → ℕ
+lowHigh low high = low % 256 + 256 * high
 
 -- a 16-bit field that begins at a place of the packet, after one byte more
 abbrev pub fieldWith : ℕ → ℕ → ℕ → ℕ → ℕ
-fieldWith place taken field b = pick (eqb taken place) b (pick (eqb taken (place + 1)) (joined field b) field)
+fieldWith place taken field b = pick (eqb taken place) b (pick (eqb taken (place + 1)) (lowHigh field b) field)
 
 -- One byte of the packet more. "Header, 16-bit packet number, then I and Q in turn": all but the first four are skipped.
 unfoldable pub taking : Tally → ℕ → Tally
@@ -65,9 +66,9 @@ readerNow t = record { heard = not (eqb (t .heard) 0); position = t .position; f
 abbrev pub positionNow : Tally → ℕ
 positionNow t = positionAfter (readerNow t) (t .number)
 
--- a packet with a number above 0 where no capture is open
-abbrev pub orphan : Tally → Bool
-orphan t = not (eqb (t .number) 0) && eqb (t .heard) 0
+-- "no packet numbered 0 yet": its number is above 0, and no capture is open
+abbrev pub lacksFirst : Tally → Bool
+lacksFirst t = not (eqb (t .number) 0) && eqb (t .heard) 0
 
 -- What the bytes taken come to, in a capture of a form: 0 waits for more. A header that is not listed is refused at once;
 -- all else waits for the whole packet.
@@ -77,7 +78,7 @@ heardChecks f t =
     ∷ check Code.notAPacket (not (listed (formNow t)))
     ∷ check Code.waiting (ltb (t .taken) (totalOf (formNow t)))
     ∷ check Code.formChanged (not (sameForm (formNow t) f))
-    ∷ check Code.noFirstPacket (orphan t)
+    ∷ check Code.noFirstPacket (lacksFirst t)
     ∷ check Code.pastLast (ltb last (positionNow t))
     ∷ []
 
@@ -101,10 +102,10 @@ accepting t =
 abbrev pub closes : Tally → Bool
 closes t = eqb (t .number) 0 && not (eqb (t .heard) 0)
 
--- What a byte comes to, with n bytes taken in all and the tally after it: a code other than 0 says that a line is due, and
--- the tally is then left before the packet's effect.
-unfoldable pub cameTo : ℕ → Form → Tally → Reach
-cameTo n f t =
+-- What the bytes of a packet come to, with n bytes taken in all: more are waited for, or the packet is accepted, or a code
+-- other than 0 says that a line is due, and the tally is then left before the packet's effect.
+unfoldable pub settled : ℕ → Form → Tally → Reach
+settled n f t =
     pick (eqb (heardCode f t) Code.waiting) (record { at = n; code = Code.waiting; tally = t })
     (pick (eqb (heardCode f t) Code.done && not (closes t)) (record { at = n; code = Code.waiting; tally = accepting t })
     (record { at = n; code = heardCode f t; tally = t }))
@@ -113,8 +114,8 @@ cameTo n f t =
 unfoldable pub reaching : ℕ → Form → Tally → List ℕ → Reach
 reaching n f t [] = record { at = n; code = Code.waiting; tally = t }
 reaching n f t (b ∷ bs) =
-    pick (eqb (cameTo (n + 1) f (taking t b) .code) Code.waiting) (reaching (n + 1) f (cameTo (n + 1) f (taking t b) .tally) bs)
-    (cameTo (n + 1) f (taking t b))
+    pick (eqb (settled (n + 1) f (taking t b) .code) Code.waiting) (reaching (n + 1) f (settled (n + 1) f (taking t b) .tally) bs)
+    (settled (n + 1) f (taking t b))
 
 -- ---- a piece
 

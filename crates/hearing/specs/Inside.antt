@@ -1,5 +1,5 @@
 -- What the functions inside promise each other: parts of the way through a piece. Nothing of document 01 rests on these
--- definitions; Reaches, Runs and Goings in proofs/ tie them to Hearing.
+-- definitions; Reaches, WholePackets and Goings in proofs/ tie them to Hearing.
 use Prim.Native.Nat.{ℕ, _+_, _*_, _-_, _≤_, _<_}
 use mathlib.Core.Path.{_≡_}
 use mathlib.Core.Bool.{true}
@@ -13,7 +13,7 @@ use Rattle.packets.specs.Forms.{totalOf, listed}
 use Rattle.packets.specs.Numbers.{stepOf, last}
 use Rattle.hearing.specs.declared.Tally.{Tally}
 use Rattle.hearing.specs.declared.Reach.{Reach}
-use Rattle.hearing.specs.Hearing.{joined, formNow, reaching}
+use Rattle.hearing.specs.Hearing.{lowHigh, formNow, reaching}
 
 -- going on from what was reached, with the bytes that are left
 unfoldable pub goesOn : Form → Reach → List ℕ → Reach
@@ -34,7 +34,7 @@ pub record Goes (f : Form) (t : Tally) (piece : List ℕ) (at : ℕ) (r : Reach)
 
 -- the byte at a place, and the number of two
 abbrev pub twoAt : List ℕ → ℕ → ℕ
-twoAt piece at = joined (getD piece at 0) (getD piece (at + 1) 0)
+twoAt piece at = lowHigh (getD piece at 0) (getD piece (at + 1) 0)
 
 -- the four bytes at a place as one number
 abbrev pub wordAt : List ℕ → ℕ → ℕ

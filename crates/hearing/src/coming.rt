@@ -2,8 +2,9 @@
 ghost use mathlib.Core.Path.{_≡_};
 ghost use Prim.Native.Nat.{_+_, _≤_, _<_};
 ghost use Rattle.packets.specs.Numbers.{last};
-ghost use Rattle.hearing.specs.Hearing.{inRange, joined, fieldWith, taking, positionNow, orphan, heardCode, accepting, closes, cameTo};
+ghost use Rattle.hearing.specs.Hearing.{inRange, fieldWith, taking, positionNow, lacksFirst, heardCode, accepting, closes, settled};
 ghost use Rattle.hearing.specs.Inside.{Sane};
+use crate::FARTHEST;
 use crate::Reach;
 use crate::Tally;
 use packets::Form;
@@ -13,10 +14,10 @@ use wire::codes;
 pub fn in_range(t: Tally) -> bool
     ensures { λ r. ⌜ r ≡ inRange t ⌝ }
 {
-    if 0x8000_0000_0000_0000 < t.begins {
+    if FARTHEST < t.begins {
         return false;
     }
-    if 0x8000_0000_0000_0000 - t.begins < t.taken {
+    if FARTHEST - t.begins < t.taken {
         return false;
     }
     if t.begins < t.heard {
@@ -28,13 +29,6 @@ pub fn in_range(t: Tally) -> bool
     t.position <= packets::LAST
 }
 
-// The number of a low byte and a high byte.
-fn joined_of(low: u16, high: u8) -> u16
-    ensures { λ r. ⌜ r ≡ joined low high ⌝ }
-{
-    low % 256 + 256 * high as u16
-}
-
 // A 16-bit field that begins at a place of the packet, after one byte more.
 fn field_with(place: u64, taken: u64, field: u16, b: u8) -> u16
     requires { ⌜ place ≤ 2 ⌝ }
@@ -44,7 +38,7 @@ fn field_with(place: u64, taken: u64, field: u16, b: u8) -> u16
         return b as u16;
     }
     if taken == place + 1 {
-        return joined_of(field, b);
+        return field % 256 + 256 * b as u16;
     }
     field
 }
@@ -76,9 +70,9 @@ fn position_now(t: Tally) -> u64
     t.position + packets::step(packets::number_at_position(t.position), t.number)
 }
 
-// Whether a packet has a number above 0 where no capture is open.
-fn is_orphan(t: Tally) -> bool
-    ensures { λ r. ⌜ r ≡ orphan t ⌝ }
+// Whether no packet numbered 0 has come yet: the number is above 0, and no capture is open.
+fn lacks_first(t: Tally) -> bool
+    ensures { λ r. ⌜ r ≡ lacksFirst t ⌝ }
 {
     if t.number == 0 {
         return false;
@@ -95,7 +89,7 @@ fn code_of(f: Form, t: Tally) -> u8
     let known = packets::is_listed(now);
     let total = packets::total_of(now);
     let same = packets::same_form(now, f);
-    let lone = is_orphan(t);
+    let no_first = lacks_first(t);
     let position = position_now(t);
     if t.taken < 2 {
         return codes::WAITING;
@@ -109,7 +103,7 @@ fn code_of(f: Form, t: Tally) -> u8
     if !same {
         return codes::FORM_CHANGED;
     }
-    if lone {
+    if no_first {
         return codes::NO_FIRST_PACKET;
     }
     if packets::LAST < position {
@@ -148,7 +142,7 @@ pub(crate) fn accept(t: Tally) -> Tally
 }
 
 // Whether the open capture ends with the packet.
-fn is_close(t: Tally) -> bool
+fn closes(t: Tally) -> bool
     ensures { λ r. ⌜ r ≡ closes t ⌝ }
 {
     if t.number == 0 {
@@ -157,10 +151,11 @@ fn is_close(t: Tally) -> bool
     false
 }
 
-// What a byte comes to, with n bytes taken in all and the tally after it.
-pub(crate) fn come_to(n: usize, f: Form, t: Tally) -> Reach
+// Settles what the bytes of a packet come to, with n bytes taken in all: more are waited for, or the packet is accepted, or
+// a line is due.
+pub(crate) fn settle(n: usize, f: Form, t: Tally) -> Reach
     requires { ⌜ Sane 0 t × (0 < t .taken) ⌝ }
-    ensures { λ r. ⌜ r ≡ cameTo n f t ⌝ }
+    ensures { λ r. ⌜ r ≡ settled n f t ⌝ }
 {
     let code = code_of(f, t);
     if code == codes::WAITING {
@@ -171,7 +166,7 @@ pub(crate) fn come_to(n: usize, f: Form, t: Tally) -> Reach
         };
     }
     if code == codes::DONE {
-        if is_close(t) {
+        if closes(t) {
             return Reach {
                 at: n,
                 code: codes::DONE,

@@ -5,6 +5,9 @@ mod pieces;
 pub use coming::in_range;
 pub use pieces::hear;
 
+// The last input byte that a tally counts up to, 2^63.
+pub const FARTHEST: u64 = 0x8000_0000_0000_0000;
+
 // What is known while packets come: the packet that comes now, and the open capture.
 pub struct Tally {
     // the input byte where the packet begins

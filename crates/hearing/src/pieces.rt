@@ -12,8 +12,8 @@ use crate::Outcome;
 use crate::Reach;
 use crate::Tally;
 use crate::coming::accept;
-use crate::coming::come_to;
 use crate::coming::in_range;
+use crate::coming::settle;
 use crate::coming::take_byte;
 use packets::Form;
 use wire::codes;
@@ -76,7 +76,7 @@ fn follow(piece: &[u8], at: usize, header: u32, total: usize, before: u16, posit
 }
 
 // Takes whole packets of the capture's form, as long as they follow in the open capture and no line is due.
-fn run(f: Form, t: Tally, piece: &[u8], from: usize) -> Reach
+fn whole_packets(f: Form, t: Tally, piece: &[u8], from: usize) -> Reach
     requires { ⌜ (listed f ≡ true) × (from ≤ length (now piece)) × Sane (length (now piece) - from) t ⌝ }
     ensures { λ r. ⌜ Goes f t (now (piece .entry)) from r × (from ≤ r .at) ⌝ }
 {
@@ -156,7 +156,7 @@ fn hear_some(f: Form, t: Tally, piece: &[u8], at: usize) -> Reach
     requires { ⌜ (listed f ≡ true) × (at < length (now piece)) × Sane (length (now piece) - at) t ⌝ }
     ensures { λ r. ⌜ Goes f t (now (piece .entry)) at r × (at < r .at) ⌝ }
 {
-    let r = run(f, t, piece, at);
+    let r = whole_packets(f, t, piece, at);
     if at < r.at {
         return r;
     }
@@ -168,7 +168,7 @@ fn hear_some(f: Form, t: Tally, piece: &[u8], at: usize) -> Reach
             tally: skip(t, k),
         };
     }
-    come_to(at + 1, f, take_byte(t, piece[at]))
+    settle(at + 1, f, take_byte(t, piece[at]))
 }
 
 // Takes a piece, until a line is due or the piece is used up.
@@ -195,7 +195,7 @@ fn hear_all(f: Form, t: Tally, piece: &[u8]) -> Reach
 }
 
 // The tally with which hearing goes on from what was reached.
-fn after(r: Reach) -> Tally
+fn next_tally(r: Reach) -> Tally
     requires { ⌜ (r .code ≡ Code.done → Sane 0 (r .tally) × (0 < r .tally .taken)) ⌝ }
     ensures { λ t. ⌜ t ≡ nextTally r ⌝ }
 {
@@ -234,6 +234,6 @@ pub fn hear(f: Form, t: Tally, piece: &[u8]) -> Outcome
     let reach = hear_all(f, t, piece);
     Outcome {
         reach,
-        next: after(reach),
+        next: next_tally(reach),
     }
 }

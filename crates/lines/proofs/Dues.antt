@@ -14,7 +14,7 @@ use Rattle.wire.proofs.Stores.{sets-taken}
 use Rattle.lines.specs.declared.Due.{Due}
 use Rattle.lines.specs.Lines.{Line, lineText, textOf}
 use Rattle.lines.specs.Inside.{Stored}
-use Rattle.lines.specs.Due.{openingIf, captureIf, endingIf, dueLines, sized, silentWith, telling, tellingOf}
+use Rattle.lines.specs.Due.{openingIf, captureIf, endingLines, dueLines, sized, silentWith, telling, tellingOf}
 use Rattle.lines.proofs.Texts.{stored-after, stored-within}
 
 -- a line alone
@@ -27,9 +27,9 @@ text-append (l ∷ ls) ms = ap (λ (t : List ℕ). lineText l ++ t) (text-append
 
 -- the three parts, one behind the other
 pub due-stored : (d : Due) (a b c e : List ℕ) (first second end : ℕ) → Stored 26 a 0 (textOf (openingIf (d .opening))) b first
-    → Stored 149 b first (textOf (captureIf d)) c second → Stored 44 c second (textOf (endingIf d)) e end → Stored 219 a 0 (textOf (dueLines d)) e end
+    → Stored 149 b first (textOf (captureIf d)) c second → Stored 44 c second (textOf (endingLines (d .ending))) e end → Stored 219 a 0 (textOf (dueLines d)) e end
 due-stored d a b c e first second end x y z =
-    rw (text-append (openingIf (d .opening)) (captureIf d ++ endingIf d), text-append (captureIf d) (endingIf d))
+    rw (text-append (openingIf (d .opening)) (captureIf d ++ endingLines (d .ending)), text-append (captureIf d) (endingLines (d .ending)))
     (stored-within 219 (omega arith) (stored-after x (stored-after y z)))
 
 -- ---- the products of a capture's line

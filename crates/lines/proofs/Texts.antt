@@ -6,31 +6,15 @@ use native.Mathlib.Decide.{decLt}
 use native.Mathlib.Nat.{pow-le-pow-right}
 use native.Mathlib.Omega.{arith}
 use native.Mathlib.Numerals.{add-one}
-use lib.ListN.{length, getD, set, take, drop, length-append, drop-of-length-le}
-use lib.Seq.{sets, drop-cons, take-all}
+use lib.ListN.{length, getD, take, length-append}
+use lib.Seq.{sets, take-all}
 use borrow.Author.Tests.{lt-ltb, le-ltb}
 use Rattle.io.specs.Digits.{digits, Fewest}
 use Rattle.wire.specs.Number.{bytes}
-use Rattle.wire.proofs.Stores.{sets-out, sets-append}
+use Rattle.wire.proofs.Stores.{sets-append}
 use Rattle.wire.proofs.Numbers.{length-bytes}
 use Rattle.lines.specs.Lines.{digitsIn, decimal, numbersText, textWith}
 use Rattle.lines.specs.Inside.{Stored}
-
--- ---- copying
-
--- One turn: the i-th byte is stored, and what is still to be stored gives the whole.
-pub copy-turn : (src dst whole : List ℕ) (at i : ℕ) → i < length src → sets dst (at + i) (drop i src) ≡ whole
-    → sets (set dst (at + i) (getD src i 0)) (at + (i + 1)) (drop (i + 1) src) ≡ whole
-copy-turn src dst whole at i inside is =
-    let next : at + suc i ≡ suc (at + i) = omega arith in
-    rw (add-one i, next) (rw (drop-cons src i 0) at is)
-
--- no place is left
-pub copy-full : (src dst whole : List ℕ) (at i : ℕ) → length dst ≤ at + i → sets dst (at + i) (drop i src) ≡ whole → dst ≡ whole
-copy-full src dst whole at i full is = rw (sets-out dst (at + i) (drop i src) full) at is
-
-pub copy-end : (src dst whole : List ℕ) (at i : ℕ) → length src ≤ i → sets dst (at + i) (drop i src) ≡ whole → dst ≡ whole
-copy-end src dst whole at i done is = rw (drop-of-length-le src done) at is
 
 -- ---- decimal
 

@@ -1,5 +1,5 @@
--- The lines that are due at one moment, and what writing them answers. What 01 says of the whole input stands in
--- spans/specs/Report.
+-- The lines that are due at one moment, and what writing them answers. A reader of 01 needs only Lines and spans/specs/Report,
+-- which says what is printed of the whole input.
 use Prim.Native.Nat.{ℕ}
 use mathlib.Core.Bool.{Bool, _&&_, not}
 use mathlib.Core.List.{List, [], _∷_, _++_}
@@ -9,6 +9,8 @@ use Rattle.wire.specs.Choice.{pick}
 use Rattle.wire.specs.Codes as Code
 use Rattle.packets.specs.Numbers.{last}
 use Rattle.lines.specs.declared.Due.{Due}
+use Rattle.lines.specs.declared.Ending.{Ending}
+use Rattle.lines.specs.declared.Ending.the-variants.{Nothing, Refusal, Captures}
 use Rattle.lines.specs.declared.Told.{Told}
 use Rattle.lines.specs.Lines.{Line, textOf, openingLine, captureLine, refusalLine, endLine}
 
@@ -21,13 +23,13 @@ captureIf d =
     pick (eqb (d .heard) 0) []
     (captureLine (record { bits = d .bits; pairs = d .pairs }) (d .divisor) (d .capture) (d .heard) (d .position) ∷ [])
 
-abbrev pub endingIf : Due → List Line
-endingIf d =
-    pick (eqb (d .ending) 1) (refusalLine (d .code) (d .offset) ∷ [])
-    (pick (eqb (d .ending) 2) (endLine (d .capture) ∷ []) [])
+abbrev pub endingLines : Ending → List Line
+endingLines Nothing = []
+endingLines (Refusal code offset) = refusalLine code offset ∷ []
+endingLines (Captures captures) = endLine captures ∷ []
 
 abbrev pub dueLines : Due → List Line
-dueLines d = openingIf (d .opening) ++ (captureIf d ++ endingIf d)
+dueLines d = openingIf (d .opening) ++ (captureIf d ++ endingLines (d .ending))
 
 -- a position, pairs and a D within what a capture can have: the products of its line fit 64 bits then
 unfoldable pub sized : Due → Bool

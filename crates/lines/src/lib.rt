@@ -5,8 +5,15 @@ mod text;
 pub use telling::tell;
 pub use text::copy;
 
-// The lines that are due: the opening line, the line of the capture that ends (where packets were heard in it), and the
-// refusal or the end.
+// What comes last: a refusal with its code and the input byte, or the end of the input with the count of captures.
+pub enum Ending {
+    Nothing,
+    Refusal { code: u8, offset: u64 },
+    Captures(u64),
+}
+
+// The lines that are due: the opening line, the line of the capture that ends (where packets were heard in it), and what
+// comes last.
 pub struct Due {
     pub opening: bool,
     pub capture: u64,
@@ -15,10 +22,7 @@ pub struct Due {
     pub divisor: u64,
     pub heard: u64,
     pub position: u64,
-    // 0 none, 1 the refusal of a code at an offset, 2 the end
-    pub ending: u8,
-    pub code: u64,
-    pub offset: u64,
+    pub ending: Ending,
 }
 
 // What writing lines did: its code and how many bytes it wrote.

@@ -6,12 +6,22 @@ ghost use lib.Seq.{sets};
 ghost use mathlib.Core.Bool.{true};
 ghost use Rattle.lines.specs.Lines.{textOf};
 ghost use Rattle.lines.specs.Inside.{Stored};
-ghost use Rattle.lines.specs.Due.{openingIf, captureIf, endingIf, dueLines, sized, tellingOf};
+ghost use Rattle.lines.specs.Due.{openingIf, captureIf, endingLines, dueLines, sized, tellingOf};
 use crate::Due;
+use crate::Ending;
 use crate::Told;
 use crate::text::copy;
 use crate::text::put_line;
 use wire::codes;
+
+// The words with which lines begin, as numbers: the first letter is the least significant byte.
+const SPAN: u64 = 0x4E41_5053;
+
+const C: u64 = 0x43;
+
+const R: u64 = 0x52;
+
+const E: u64 = 0x45;
 
 // "SPAN 1", where it is due.
 fn put_opening(on: bool, buf: &mut [u8], at: usize) -> usize
@@ -20,7 +30,7 @@ fn put_opening(on: bool, buf: &mut [u8], at: usize) -> usize
 {
     if on {
         let ns = [1u64];
-        return put_line(0x4E41_5053, 4, &ns, buf, at);
+        return put_line(SPAN, 4, &ns, buf, at);
     }
     at
 }
@@ -44,23 +54,25 @@ fn put_capture(d: Due, buf: &mut [u8], at: usize) -> usize
         samples,
         samples * d.divisor / 20,
     ];
-    put_line(0x43, 1, &ns, buf, at)
+    put_line(C, 1, &ns, buf, at)
 }
 
 // The refusal or the end, where one is due.
-fn put_ending(d: Due, buf: &mut [u8], at: usize) -> usize
+fn put_ending(e: Ending, buf: &mut [u8], at: usize) -> usize
     requires { ⌜ at + 44 ≤ length (now buf) ⌝ }
-    ensures { λ r. ⌜ Stored 44 (now (buf .entry)) at (textOf (endingIf d)) (now (buf .exit)) r ⌝ }
+    ensures { λ r. ⌜ Stored 44 (now (buf .entry)) at (textOf (endingLines e)) (now (buf .exit)) r ⌝ }
 {
-    if d.ending == 1 {
-        let ns = [d.code, d.offset];
-        return put_line(0x52, 1, &ns, buf, at);
+    match e {
+        Ending::Nothing => at,
+        Ending::Refusal { code, offset } => {
+            let ns = [code as u64, offset];
+            put_line(R, 1, &ns, buf, at)
+        }
+        Ending::Captures(captures) => {
+            let ns = [captures];
+            put_line(E, 1, &ns, buf, at)
+        }
     }
-    if d.ending == 2 {
-        let ns = [d.capture];
-        return put_line(0x45, 1, &ns, buf, at);
-    }
-    at
 }
 
 // All lines that are due, at the start of a buffer.
@@ -70,7 +82,8 @@ fn put_due(d: Due, buf: &mut [u8]) -> usize
 {
     let first = put_opening(d.opening, buf, 0);
     let second = put_capture(d, buf, first);
-    put_ending(d, buf, second)
+    let ending = d.ending;
+    put_ending(ending, buf, second)
 }
 
 // Whether the products of a capture's line are those of numbers that a capture can have.

@@ -1,34 +1,20 @@
 -- What the program has written at its end is the report of the input: the lines of piece after piece, and then the last ones.
 -- Assumes nothing.
-use Prim.Native.Nat.{ℕ, zero, suc, _≤_}
+use Prim.Native.Nat.{ℕ, zero, suc}
 use native.Mathlib.Omega.{arith}
 use mathlib.Core.Path.{_≡_, refl, sym, ap, _∙_}
 use mathlib.Core.Bool.{true}
-use mathlib.Core.List.{List, [], _∷_, _++_, append-nil, append-assoc}
+use mathlib.Core.List.{List, [], _∷_, _++_, append-nil}
 use lib.ListN.{length, drop}
 use borrow.Author.Tests.{ne-eqb}
-use Rattle.hearing.specs.Hearing.{farthest}
-use Rattle.lines.specs.Due.{Telling}
 use Rattle.spans.specs.declared.Span.{Span}
-use Rattle.spans.specs.Report.{report}
 use Rattle.spans.specs.Eating.{Eating, freshSpan, finishingOf}
-use Rattle.spans.specs.Pieces.{room, nothingHanded, before, handing, handed, printedFrom, joinedOf}
+use Rattle.spans.specs.Pieces.{room, Handed, nothingHanded, before, handing, handedAll}
 use Rattle.spans.proofs.Going.{stopped-valid}
-use Rattle.spans.proofs.Eats.{eating-stopped, finishing-stopped}
-use Rattle.spans.proofs.Reported.{allBytes}
+use Rattle.spans.proofs.Eats.{eating-stopped}
 use Rattle.spans.proofs.Inputs.{report-is}
-use Rattle.span.specs.Reached.{handedAll, Reached}
-
--- all that the program writes for the pieces that it read, and then for the end
-abbrev pub written : List (List ℕ) → List ℕ
-written ps = handedAll freshSpan ps .text ++ finishingOf (handedAll freshSpan ps .span) room .bytes
-
-printed-on : (ps more : List (List ℕ)) (s : Span) → printedFrom s (ps ++ more) ≡ handedAll s ps .text ++ printedFrom (handedAll s ps .span) more
-unfolding printedFrom handedAll
-printed-on [] more s = refl
-printed-on (p ∷ ps) more s =
-    ap (λ (l : List ℕ). handed s p .text ++ l) (printed-on ps more (handed s p .span))
-    ∙ sym (append-assoc (handed s p .text) (handedAll (handed s p .span) ps .text) (printedFrom (handedAll (handed s p .span) ps .span) more))
+use Rattle.span.specs.Reached.{LastWriteEndsTheReport, StopsWithTheReport}
+use Rattle.span.proofs.Reaching.{handed-on}
 
 -- ---- a span that has stopped
 
@@ -43,33 +29,23 @@ module _ (s : Span) (stopped : s .stopped ≡ true) where
       (ap (λ (e : Eating). before (e .bytes) (handing n (e .eaten .span) (drop (e .eaten .consumed) (b ∷ bs)))) quiet
       ∙ handed-silent n (drop (length (b ∷ bs)) (b ∷ bs)))
 
-  end-silent : finishingOf s room .bytes ≡ []
-  end-silent = ap (λ (t : Telling). t .bytes) (finishing-stopped s room (stopped-valid s stopped) stopped)
-
-  printed-silent : (ps : List (List ℕ)) → printedFrom s ps ≡ []
-  unfolding printedFrom
-  printed-silent [] = end-silent
-  printed-silent (p ∷ ps) = rw (handed-silent (length p) p) (printed-silent ps)
+  all-silent : (ps : List (List ℕ)) → handedAll s ps ≡ nothingHanded s
+  unfolding handedAll
+  all-silent [] = refl
+  all-silent (p ∷ ps) = rw (handed-silent (length p) p) (all-silent ps)
 
 -- ---- the report
 
-pub written-is : (ps : List (List ℕ)) → allBytes (joinedOf ps) → length (joinedOf ps) ≤ farthest → written ps ≡ report (joinedOf ps)
-unfolding printedFrom
-written-is ps small near =
-    sym (printed-on ps [] freshSpan) ∙ ap (printedFrom freshSpan) (append-nil ps) ∙ report-is ps small near
-
--- what the last write requires makes the report whole
-pub last-ends : (s : Span) (lines : List ℕ) (r : Reached s 0) → lines ≡ finishingOf s room .bytes → allBytes (joinedOf (r .pieces))
-    → handedAll freshSpan (r .pieces) .text ++ lines ≡ report (joinedOf (r .pieces))
+pub last-ends : LastWriteEndsTheReport
 last-ends s lines r is small =
     ap (λ (l : List ℕ). handedAll freshSpan (r .pieces) .text ++ l) (is ∙ ap (λ (x : Span). finishingOf x room .bytes) (r .span))
-    ∙ written-is (r .pieces) small (omega (arith, r .room))
+    ∙ report-is (r .pieces) small (omega (arith, r .room))
 
--- once the span has stopped, nothing of the input that is not read would have changed it
-pub stopped-is : (ps more : List (List ℕ)) → handedAll freshSpan ps .span .stopped ≡ true
-    → allBytes (joinedOf (ps ++ more)) → length (joinedOf (ps ++ more)) ≤ farthest → written ps ≡ report (joinedOf (ps ++ more))
+pub stopped-is : StopsWithTheReport
 stopped-is ps more stopped small near =
-    let s : Span = handedAll freshSpan ps .span in
-    ap (λ (l : List ℕ). handedAll freshSpan ps .text ++ l) (end-silent s stopped ∙ sym (printed-silent s stopped more))
-    ∙ sym (printed-on ps more freshSpan)
+    let h : Handed = handedAll freshSpan ps in
+    let same : handedAll freshSpan (ps ++ more) ≡ before (h .text) (nothingHanded (h .span))
+    = handed-on ps more freshSpan ∙ ap (before (h .text)) (all-silent (h .span) stopped more) in
+    ap (λ (l : List ℕ). l ++ finishingOf (h .span) room .bytes) (sym (append-nil (h .text)))
+    ∙ ap (λ (x : Handed). x .text ++ finishingOf (x .span) room .bytes) (sym same)
     ∙ report-is (ps ++ more) small near

@@ -5,43 +5,52 @@ use native.Mathlib.Nat.{zero-add}
 use native.Mathlib.Omega.{arith}
 use mathlib.Core.Path.{_≡_, refl, sym, ap, subst, _∙_}
 use mathlib.Core.Bool.{false}
-use mathlib.Core.List.{List, [], _∷_, _++_}
+use mathlib.Core.List.{List, [], _∷_, _++_, append-assoc}
 use lib.ListN.{length, take, length-append, length-take}
 use lib.Seq.{length-take-le}
+use Rattle.wire.specs.Lists.{joined}
 use Rattle.hearing.specs.Hearing.{farthest}
 use Rattle.spans.specs.declared.Span.{Span}
 use Rattle.spans.specs.Eating.{freshSpan}
-use Rattle.spans.specs.Pieces.{handed, joinedOf}
+use Rattle.spans.specs.Pieces.{Handed, before, handed, handedAll}
 use Rattle.spans.proofs.Going.{Going, fresh-going}
 use Rattle.spans.proofs.Cuts.{all-calls}
-use Rattle.span.specs.Reached.{handedAll, Reached}
+use Rattle.span.specs.Reached.{Reached}
 
 -- it has stopped, or it goes on after so many bytes of input
 abbrev pub Goes : Span → ℕ → Type 0
 Goes s used = s .stopped ≡ false → Going s used
 
-all-go : (ps : List (List ℕ)) (s : Span) (used : ℕ) → Goes s used → used + length (joinedOf ps) ≤ farthest
-    → Goes (handedAll s ps .span) (used + length (joinedOf ps))
+all-go : (ps : List (List ℕ)) (s : Span) (used : ℕ) → Goes s used → used + length (joined ps) ≤ farthest
+    → Goes (handedAll s ps .span) (used + length (joined ps))
 unfolding handedAll
 all-go [] s used goes near = subst (Goes s) (omega arith) goes
 all-go (p ∷ ps) s used goes near =
-    let long = length-append p (joinedOf ps) in
+    let long = length-append p (joined ps) in
     let one = all-calls (length p) s used p [] (omega arith) goes (omega (arith, long)) in
-    let count : used + length p + length (joinedOf ps) ≡ used + length (p ++ joinedOf ps) = omega (arith, long) in
+    let count : used + length p + length (joined ps) ≡ used + length (p ++ joined ps) = omega (arith, long) in
     subst (Goes (handedAll (handed s p .span) ps .span)) count (all-go ps (handed s p .span) (used + length p) (one .goes) (omega (arith, long)))
 
-pub reached-goes : (s : Span) (more : ℕ) (r : Reached s more) → Goes s (length (joinedOf (r .pieces)))
+pub reached-goes : (s : Span) (more : ℕ) (r : Reached s more) → Goes s (length (joined (r .pieces)))
 reached-goes s more r =
-    rw (r .span, ← zero-add (length (joinedOf (r .pieces)))) (all-go (r .pieces) freshSpan 0 (λ e. fresh-going) (omega (arith, r .room)))
+    rw (r .span, ← zero-add (length (joined (r .pieces)))) (all-go (r .pieces) freshSpan 0 (λ e. fresh-going) (omega (arith, r .room)))
 
--- ---- one piece more
+-- ---- more pieces
+
+pub handed-on : (ps more : List (List ℕ)) (s : Span) → handedAll s (ps ++ more) ≡ before (handedAll s ps .text) (handedAll (handedAll s ps .span) more)
+unfolding handedAll
+handed-on [] more s = refl
+handed-on (p ∷ ps) more s =
+    let next : Handed = handedAll (handed s p .span) ps in
+    let later : Handed = handedAll (next .span) more in
+    ap (before (handed s p .text)) (handed-on ps more (handed s p .span))
+    ∙ ap (λ (l : List ℕ). record { text = l; span = later .span }) (sym (append-assoc (handed s p .text) (next .text) (later .text)))
 
 handed-last : (ps : List (List ℕ)) (s : Span) (p : List ℕ) → handedAll s (ps ++ p ∷ []) .span ≡ handed (handedAll s ps .span) p .span
 unfolding handedAll
-handed-last [] s p = refl
-handed-last (q ∷ qs) s p = handed-last qs (handed s q .span) p
+handed-last ps s p = ap (λ (h : Handed). h .span) (handed-on ps (p ∷ []) s)
 
-joined-last : (ps : List (List ℕ)) (p : List ℕ) → length (joinedOf (ps ++ p ∷ [])) ≡ length (joinedOf ps) + length p
+joined-last : (ps : List (List ℕ)) (p : List ℕ) → length (joined (ps ++ p ∷ [])) ≡ length (joined ps) + length p
 joined-last [] p = simp length-append (omega arith)
 joined-last (q ∷ qs) p = simp length-append (omega (arith, joined-last qs p))
 

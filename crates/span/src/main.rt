@@ -74,7 +74,7 @@ fn run(buf: &mut [u8], out: &mut [u8]) -> Ended
     ensures { λ r. ⌜ Reached (r .span) 0 × (length (now (out .exit)) ≡ 256) ⌝ }
 {
     let mut span = spans::fresh();
-    let mut left = 0x8000_0000_0000_0000;
+    let mut left = hearing::FARTHEST as usize;
     while !span.stopped {
         let got = libc::read(STDIN_FILENO, buf);
         if got < 0 {

@@ -10,13 +10,13 @@ use lib.ListN.{length, take, drop, length-append, length-drop, drop-of-length-le
 use lib.Seq.{sets, length-sets, take-append-le, drop-append-le, take-append-add, drop-append-add, take-all, drop-length}
 use borrow.Author.Tests.{not-false, lt-ltb, le-ltb, ne-eqb, eqb-true}
 use Rattle.wire.specs.Choice.{pick}
+use Rattle.wire.specs.Lists.{joined}
 use Rattle.wire.proofs.Laws.{true-not-false}
+use Rattle.wire.proofs.Checks.{given-below}
 use Rattle.wire.proofs.Stores.{sets-append}
 use Rattle.heads.specs.declared.Head.{Head}
-use Rattle.wire.specs.Number.{number, field}
-use Rattle.heads.specs.Head.{mark, version, headLength, formIn, allowed, headIn}
+use Rattle.heads.specs.Head.{headLength, formIn, readChecks}
 use Rattle.heads.specs.Head.{readCode as headCode}
-use Rattle.heads.proofs.Codes.{codeBy, code-by}
 use Rattle.hearing.specs.declared.Tally.{Tally}
 use Rattle.hearing.specs.declared.Reach.{Reach}
 use Rattle.spans.specs.declared.Span.{Span}
@@ -24,9 +24,9 @@ use Rattle.lines.specs.Lines.{Line, textOf, openingLine, refusalLine}
 use Rattle.hearing.specs.Hearing.{farthest, accepting, reaching}
 use Rattle.spans.specs.Eating.{freshSpan, headOf, withTally, lacking, headTaken, headLines, headRead, heardLines, heardSpan, Eating, silently, saying, opening, openingBy, listening, listeningBy, eatingOf, lastLines, finishingOf}
 use Rattle.lines.specs.Due.{Telling, telling}
-use Rattle.spans.specs.Pieces.{room, Handed, handing, handed, printedFrom, printed, joinedOf}
+use Rattle.spans.specs.Pieces.{room, Handed, handing, handed, handedAll, printedFrom, printed, CutsDoNotMatter}
 use Rattle.lines.proofs.Dues.{text-append}
-use Rattle.hearing.proofs.Heard.{accepted, heard-small, sane-accepting}
+use Rattle.hearing.proofs.Heard.{accepted-fits, heard-small, sane-accepting}
 use Rattle.hearing.proofs.Goings.{Is-due, reach-due}
 use Rattle.spans.proofs.Eats.{opening-waits, opening-says, listening-by, listening-waits, listening-says, eating-stopped, eating-head, eating-packets, finishing-stopped, finishing-says}
 use Rattle.spans.proofs.Rooms.{Short, head-room, heard-room, end-room}
@@ -155,9 +155,8 @@ module _ (s : Span) (used : ℕ) (b : ℕ) (bs rest : List ℕ) (goes : s .stopp
     -- where the open capture ends, the accepted packet leaves a span that goes on
     accepted-going : r .code ≡ 1 → Going (withTally false s (accepting (r .tally))) (used + r .at)
     accepted-going one =
-        let here = accepted (formIn h) (r .tally) (sym (packet .code) ∙ one) in
         goes-on-with (accepting (r .tally)) (passed-accepting (r .tally) ∙ behind)
-        (sane-counted (sane-accepting 0 (r .tally) (counted-sane (r .tally) 0 counted (omega (arith, behind, within))) (packet .some) (here .fits)))
+        (sane-counted (sane-accepting 0 (r .tally) (counted-sane (r .tally) 0 counted (omega (arith, behind, within))) (packet .some) (accepted-fits (formIn h) (r .tally) (sym (packet .code) ∙ one))))
 
     rest-told : pick (eqb (r .code) 1) (toldBy h (accepting (r .tally)) (drop (r .at) (piece ++ rest))) [] ≡ told (heardSpan s r) (drop (r .at) piece ++ rest)
     rest-told = by (eqb (r .code) 1) refl
@@ -201,15 +200,9 @@ module _ (s : Span) (used : ℕ) (b : ℕ) (bs rest : List ℕ) (goes : s .stopp
 
 -- ---- the head's part
 
-head-code-small : (s : List ℕ) → headCode s ≤ 41
-head-code-small s = subst (λ (n : ℕ). n ≤ 41) (sym (code-by s refl refl refl refl)) (by (ltb (length s) headLength) (eqb (field 0 3 s) (number mark)) (eqb (field 3 2 s) version) (allowed (headIn s)))
-  where
-    by : (short marked one ok : Bool) → codeBy short marked one ok ≤ 41
-    by true marked one ok = omega arith
-    by false false one ok = omega arith
-    by false true false ok = omega arith
-    by false true true false = omega arith
-    by false true true true = omega arith
+head-code-small : (s : List ℕ) → headCode s < 42
+unfolding headCode
+head-code-small s = given-below 42 (readChecks s) 1 refl (omega arith)
 
 -- the lines of a head that has been taken so far, with what is left of the bytes
 abbrev pub headToldBy : Span → List ℕ → List Line
@@ -413,18 +406,19 @@ end-told s used good near = by (s .stopped) refl
             let last : lastLines s ≡ lines = rw (le-ltb (s .taken) headLength all′) in
             says′ ∙ ap (λ (ls : List Line). telling (textOf ls) room .bytes) last ∙ whole-text lines (end-room (headOf s) (s .tally) (going-short s used (good e) near all′)) ∙ ap textOf (sym (told-packets s [] e all′ ∙ told-end (headOf s) (s .tally)))
 
-pub printed-told : (pieces : List (List ℕ)) (s : Span) (used : ℕ) → (s .stopped ≡ false → Going s used) → used + length (joinedOf pieces) ≤ farthest → printedFrom s pieces ≡ textOf (told s (joinedOf pieces))
-unfolding printedFrom
+pub printed-told : (pieces : List (List ℕ)) (s : Span) (used : ℕ) → (s .stopped ≡ false → Going s used) → used + length (joined pieces) ≤ farthest → printedFrom s pieces ≡ textOf (told s (joined pieces))
+unfolding handedAll
 printed-told [] s used good near = end-told s used good (omega arith)
 printed-told (p ∷ ps) s used good near =
-    let calls = all-calls (length p) s used p (joinedOf ps) (omega arith) good (omega (arith, length-append p (joinedOf ps))) in
-    ap (λ (l : List ℕ). handed s p .text ++ l) (printed-told ps (handed s p .span) (used + length p) (calls .goes) (omega (arith, length-append p (joinedOf ps)))) ∙ sym (calls .text)
+    let calls = all-calls (length p) s used p (joined ps) (omega arith) good (omega (arith, length-append p (joined ps))) in
+    let next : Handed = handedAll (handed s p .span) ps in
+    append-assoc (handed s p .text) (next .text) (finishingOf (next .span) room .bytes)
+    ∙ ap (λ (l : List ℕ). handed s p .text ++ l) (printed-told ps (handed s p .span) (used + length p) (calls .goes) (omega (arith, length-append p (joined ps)))) ∙ sym (calls .text)
 
 -- All that is printed for pieces is what their bytes bring.
-pub printed-is : (pieces : List (List ℕ)) → length (joinedOf pieces) ≤ farthest → printed pieces ≡ textOf (told freshSpan (joinedOf pieces))
+pub printed-is : (pieces : List (List ℕ)) → length (joined pieces) ≤ farthest → printed pieces ≡ textOf (told freshSpan (joined pieces))
 printed-is pieces near = printed-told pieces freshSpan 0 (λ e. fresh-going) (omega arith)
 
--- How the input is cut into pieces does not change the lines.
-pub cuts-do-not-matter : (ps qs : List (List ℕ)) → joinedOf ps ≡ joinedOf qs → length (joinedOf ps) ≤ farthest → printed ps ≡ printed qs
+pub cuts-do-not-matter : CutsDoNotMatter
 cuts-do-not-matter ps qs same near =
     printed-is ps near ∙ ap (λ (l : List ℕ). textOf (told freshSpan l)) same ∙ sym (printed-is qs (subst (λ (l : List ℕ). length l ≤ farthest) same near))

@@ -19,6 +19,7 @@ use Rattle.heads.specs.Head.{readCode as headCode}
 use Rattle.hearing.specs.declared.Tally.{Tally}
 use Rattle.spans.specs.declared.Span.{Span}
 use Rattle.lines.specs.declared.Due.{Due}
+use Rattle.lines.specs.declared.Ending.{Ending}
 use Rattle.lines.specs.declared.Told.{Told}
 use Rattle.spans.specs.declared.Eaten.{Eaten}
 use Rattle.hearing.specs.declared.Reach.{Reach}
@@ -49,9 +50,9 @@ head-taken s piece held k is stored = rw (stored, is)
 
 -- ---- the lines that are due
 
-pub due-sized : (h : Head) (t : Tally) (ending code offset : ℕ) → allowed h ≡ true → t .position ≤ last → sized (dueNow h t ending code offset) ≡ true
-due-sized h t ending code offset ok fits =
-    is-sized (dueNow h t ending code offset) fits (is-listed-form (formIn h) (form-listed h ok) .few) (divisor-small h ok)
+pub due-sized : (h : Head) (t : Tally) (ending : Ending) → allowed h ≡ true → t .position ≤ last → sized (dueNow h t ending) ≡ true
+due-sized h t ending ok fits =
+    is-sized (dueNow h t ending) fits (is-listed-form (formIn h) (form-listed h ok) .few) (divisor-small h ok)
 
 -- a record that is another has its lines and its sizes
 pub due-is : {d e : Due} {ls : List Line} → d ≡ e → dueLines e ≡ ls → sized e ≡ true → (dueLines d ≡ ls) × (sized d ≡ true)

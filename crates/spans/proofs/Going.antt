@@ -17,10 +17,10 @@ use Rattle.heads.proofs.Rounds.{passed}
 use Rattle.hearing.specs.declared.Tally.{Tally}
 use Rattle.hearing.specs.declared.Reach.{Reach}
 use Rattle.spans.specs.declared.Span.{Span}
-use Rattle.hearing.specs.Hearing.{farthest, inRange, taking, accepting, heardCode, closes, cameTo, reaching}
+use Rattle.hearing.specs.Hearing.{farthest, inRange, taking, accepting, heardCode, closes, settled, reaching}
 use Rattle.hearing.specs.Inside.{Sane}
 use Rattle.spans.specs.Eating.{freshTally, freshSpan, headOk, validSpan, headOf}
-use Rattle.hearing.proofs.Reaches.{came-at}
+use Rattle.hearing.proofs.Reaches.{settled-at}
 use Rattle.hearing.proofs.Ranges.{range-by}
 use Rattle.spans.proofs.Eats.{valid-by}
 use Rattle.spans.proofs.Rooms.{Short}
@@ -94,9 +94,9 @@ pub passed-accepting : (t : Tally) → passedBy (accepting t) ≡ passedBy t
 unfolding accepting
 passed-accepting t = omega arith
 
-passed-came : (n : ℕ) (f : Form) (t : Tally) → passedBy (cameTo n f t .tally) ≡ passedBy t
-unfolding cameTo
-passed-came n f t =
+passed-settled : (n : ℕ) (f : Form) (t : Tally) → passedBy (settled n f t .tally) ≡ passedBy t
+unfolding settled
+passed-settled n f t =
     pick-keeps (λ (r : Reach). passedBy (r .tally) ≡ passedBy t) (eqb (heardCode f t) 0) _ _ (λ e. refl)
     (λ e. pick-keeps (λ (r : Reach). passedBy (r .tally) ≡ passedBy t) (eqb (heardCode f t) 1 && not (closes t)) (record { at = n; code = 0; tally = accepting t }) (record { at = n; code = heardCode f t; tally = t }) (λ d. passed-accepting t) (λ d. refl))
 
@@ -104,10 +104,10 @@ pub passed-reach : (bs : List ℕ) (n : ℕ) (f : Form) (t : Tally) → passedBy
 unfolding reaching
 passed-reach [] n f t = refl
 passed-reach (b ∷ bs) n f t =
-    let next = passed-reach bs (n + 1) f (cameTo (n + 1) f (taking t b) .tally) in
-    let one = passed-came (n + 1) f (taking t b) in
-    pick-keeps (λ (r : Reach). passedBy (r .tally) + n ≡ passedBy t + r .at) (eqb (cameTo (n + 1) f (taking t b) .code) 0) _ _
-    (λ e. omega (arith, next, one, passed-taking t b)) (λ e. omega (arith, one, passed-taking t b, came-at (n + 1) f (taking t b)))
+    let next = passed-reach bs (n + 1) f (settled (n + 1) f (taking t b) .tally) in
+    let one = passed-settled (n + 1) f (taking t b) in
+    pick-keeps (λ (r : Reach). passedBy (r .tally) + n ≡ passedBy t + r .at) (eqb (settled (n + 1) f (taking t b) .code) 0) _ _
+    (λ e. omega (arith, next, one, passed-taking t b)) (λ e. omega (arith, one, passed-taking t b, settled-at (n + 1) f (taking t b)))
 
 -- counts stay counts
 pub counted-sane : (t : Tally) (rest : ℕ) → Counted t → passedBy t + rest < 2 ^ 64 → Sane rest t

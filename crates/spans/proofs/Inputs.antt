@@ -11,7 +11,9 @@ use lib.ListN.{length, take, drop, replicate, length-drop}
 use lib.Seq.{sets, take-take, take-nil, length-take-le}
 use borrow.Author.Tests.{lt-ltb, le-ltb, eqb-true}
 use Rattle.wire.specs.Choice.{pick}
+use Rattle.wire.specs.Lists.{allBytes, joined}
 use Rattle.wire.specs.Number.{number, field}
+use Rattle.wire.proofs.Lists.{bytes-drop}
 use Rattle.wire.proofs.Stores.{sets-whole}
 use Rattle.heads.specs.declared.Head.{Head}
 use Rattle.heads.specs.Head.{mark, version, headLength, allowed, headIn}
@@ -20,13 +22,12 @@ use Rattle.heads.proofs.Codes.{code-by}
 use Rattle.heads.proofs.Rounds.{passed, form-listed}
 use Rattle.spans.specs.declared.Span.{Span}
 use Rattle.lines.specs.Lines.{Line, textOf, openingLine, refusalLine}
-use Rattle.hearing.specs.Hearing.{farthest}
-use Rattle.spans.specs.Report.{nothing, linesFrom, linesOf, report}
+use Rattle.spans.specs.Report.{nothing, packetsIn, linesFrom, linesOf, report}
 use Rattle.spans.specs.Eating.{freshTally, freshSpan, lacking, headTaken, headLines}
-use Rattle.spans.specs.Pieces.{printed, joinedOf}
+use Rattle.spans.specs.Pieces.{PrintsTheReport}
 use Rattle.spans.proofs.Telling.{toldBy}
 use Rattle.spans.proofs.Cuts.{toldHead, told, told-head, headToldBy, printed-is}
-use Rattle.spans.proofs.Reported.{allBytes, Knows, bytes-left, told-lines}
+use Rattle.spans.proofs.Reported.{Knows, told-lines}
 
 -- ---- a head in the first 14 bytes
 
@@ -89,18 +90,17 @@ module _ (input : List ℕ) where
       where
         by : (one : Bool) → eqb (headCode input) 1 ≡ one
             → headLines (headCode input) ++ pick (eqb (headCode input) 1) (toldBy (headIn input) freshTally (drop headLength input)) []
-            ≡ openingLine ∷ pick (eqb (headCode input) 1) (linesFrom (length input) (headIn input) nothing (drop headLength input)) (refusalLine (headCode input) 0 ∷ [])
+            ≡ openingLine ∷ pick (eqb (headCode input) 1) (linesFrom (headIn input) nothing (packetsIn (length input) (drop headLength input))) (refusalLine (headCode input) 0 ∷ [])
         by true e =
             let ok = passed input (eqb-true (headCode input) 1 e) .ok in
             rw e
             (ap (λ (ls : List Line). openingLine ∷ ls)
-            (told-lines (length input) (headIn input) (form-listed (headIn input) ok) freshTally nothing (drop headLength input) (simp length-drop (omega arith)) nothing-known (bytes-left headLength input small)))
+            (told-lines (length input) (headIn input) (form-listed (headIn input) ok) freshTally nothing (drop headLength input) (simp length-drop (omega arith)) nothing-known (bytes-drop headLength input small)))
         by false e = rw e
 
   pub told-input : allBytes input → told freshSpan input ≡ linesOf input
   told-input small = told-head freshSpan input refl (omega arith) ∙ elim (decLt (length input) headLength) [ yes short ↦ cut-head short | no short ↦ whole-head (omega arith) small ]
 
--- However the input comes in pieces, its report is printed.
-pub report-is : (pieces : List (List ℕ)) → allBytes (joinedOf pieces) → length (joinedOf pieces) ≤ farthest → printed pieces ≡ report (joinedOf pieces)
+pub report-is : PrintsTheReport
 unfolding report
-report-is pieces small near = printed-is pieces near ∙ ap textOf (told-input (joinedOf pieces) small)
+report-is pieces small near = printed-is pieces near ∙ ap textOf (told-input (joined pieces) small)

@@ -1,17 +1,19 @@
 -- The lines that packets bring byte by byte are those of the report.
 use Prim.Native.Nat.{ℕ, zero, suc, _+_, _*_, _-_, _≤_, _<_}
-use mathlib.Core.Path.{_≡_, refl, sym, ap, subst, _∙_}
+use mathlib.Core.Path.{_≡_, refl, sym, ap, _∙_}
 use mathlib.Core.Bool.{Bool, true, false, _&&_, not}
 use mathlib.Core.List.{List, [], _∷_, _++_, append-nil}
 use native.Mathlib.Decide.{decLt, decLe, ℕ-discrete}
 use native.Mathlib.Omega.{arith}
 use lib.Dec.{eqb, leb, ltb}
 use lib.ListN.{length, getD, take, drop, length-drop}
-use lib.Seq.{length-take-le, drop-drop, getD-take, getD-drop}
+use lib.Seq.{length-take-le, drop-drop, getD-take}
 use borrow.Author.Tests.{le-ltb, le-leb, ne-eqb}
 use Rattle.wire.specs.Choice.{pick, check, firstOf}
+use Rattle.wire.specs.Lists.{allBytes}
 use Rattle.wire.specs.Number.{field}
 use Rattle.wire.proofs.Laws.{and-left, and-both, true-not-false}
+use Rattle.wire.proofs.Lists.{byte-at, bytes-drop}
 use Rattle.packets.specs.declared.Form.{Form}
 use Rattle.packets.specs.Forms.{sameForm, totalOf, listed, formWithHeader, wholeOf, isPacket}
 use Rattle.packets.specs.Numbers.{numberAt, stepOf, numberIn, last}
@@ -23,11 +25,11 @@ use Rattle.heads.specs.Head.{formIn}
 use Rattle.hearing.specs.declared.Tally.{Tally}
 use Rattle.hearing.specs.declared.Reach.{Reach}
 use Rattle.lines.specs.Lines.{Line, refusalLine}
-use Rattle.spans.specs.Report.{Known, lineOf, ended, readerAfter, packetIn, packetCode, begins, knownAfter, atEnd, atRefusal, linesFrom}
-use Rattle.hearing.specs.Hearing.{joined, taking, formNow, positionNow, orphan, heardCode, accepting, closes, cameTo, reaching}
+use Rattle.spans.specs.Report.{Known, lineOf, ended, readerAfter, packetIn, packetCode, begins, knownAfter, packetsIn, atPacket, atEnd, atRefusal, linesFrom}
+use Rattle.hearing.specs.Hearing.{lowHigh, taking, formNow, positionNow, lacksFirst, heardCode, accepting, closes, settled, reaching}
 use Rattle.hearing.specs.Inside.{goesOn}
 use Rattle.spans.specs.Eating.{endedNow, heardLines}
-use Rattle.hearing.proofs.Heard.{codeBy, heard-by, came-by, accepted}
+use Rattle.hearing.proofs.Heard.{codeBy, heard-by, settled-by, accepted-fits}
 use Rattle.hearing.proofs.Reaches.{heard-waits, tallied, reach-whole, packet-parts, total-least}
 use Rattle.spans.proofs.Telling.{endLines, byReach, toldBy, told-wait, told-due, afterReach, told-reach, reach-from}
 use Rattle.spans.proofs.Wholes.{formAt, not-whole, packet-length, whole-form, whole-packet}
@@ -66,15 +68,6 @@ one-more : (t : Tally) (b : ℕ) → taking t b .taken ≡ t .taken + 1
 unfolding taking
 one-more t b = refl
 
--- a byte changes nothing of the open capture, nor where the packet begins
-pub ended-taking : (h : Head) (t : Tally) (b : ℕ) → endedNow h (taking t b) ≡ endedNow h t
-unfolding taking
-ended-taking h t b = refl
-
-begins-taking : (t : Tally) (b : ℕ) → taking t b .begins ≡ t .begins
-unfolding taking
-begins-taking t b = refl
-
 -- the lines of a packet that is refused
 abbrev pub refusedAt : Head → Tally → ℕ → List Line
 refusedAt h t code = endedNow h t ++ refusalLine code (t .begins) ∷ []
@@ -108,12 +101,8 @@ told-refused h t b bs code is some =
     ∙ rw (ne-eqb code 1 (λ e. omega arith)) (append-nil (refusedAt h (taking t b) code))
     ∙ refused-taking h t b code
   where
-    came : cameTo 1 (formIn h) (taking t b) ≡ record { at = 1; code = code; tally = taking t b }
-    came = came-by 1 (formIn h) (taking t b) is refl ∙ rw (ne-eqb code 0 (λ e. omega arith), ne-eqb code 1 (λ e. omega arith))
-
--- each is a byte
-abbrev pub allBytes : List ℕ → Type 0
-allBytes bs = (k : ℕ) → getD bs k 0 < 256
+    came : settled 1 (formIn h) (taking t b) ≡ record { at = 1; code = code; tally = taking t b }
+    came = settled-by 1 (formIn h) (taking t b) is refl ∙ rw (ne-eqb code 0 (λ e. omega arith), ne-eqb code 1 (λ e. omega arith))
 
 -- the first two bytes of a packet
 module _ (t : Tally) (none : t .taken ≡ 0) where
@@ -127,7 +116,7 @@ module _ (t : Tally) (none : t .taken ≡ 0) where
   unfolding taking
   first-byte a = ap (λ (u : Tally). taking u a) start-is
 
-  second-byte : (a b : ℕ) → taking (tallied t 1 a (t .number)) b ≡ tallied t 2 (joined a b) (t .number)
+  second-byte : (a b : ℕ) → taking (tallied t 1 a (t .number)) b ≡ tallied t 2 (lowHigh a b) (t .number)
   unfolding taking
   second-byte a b = refl
 
@@ -146,13 +135,13 @@ module _ (t : Tally) (none : t .taken ≡ 0) where
       u = tallied t 1 a (t .number)
 
       v : Tally
-      v = tallied t 2 (joined a b) (t .number)
+      v = tallied t 2 (lowHigh a b) (t .number)
 
       after : taking u b ≡ v
       after = second-byte a b
 
-      header : joined a b ≡ field 0 2 (a ∷ b ∷ bs)
-      header = omega (arith, small 0)
+      header : lowHigh a b ≡ field 0 2 (a ∷ b ∷ bs)
+      header = omega (arith, small .0)
 
       form : formNow v ≡ formAt (a ∷ b ∷ bs)
       form = ap formWithHeader header
@@ -172,13 +161,13 @@ module _ (t : Tally) (none : t .taken ≡ 0) where
 -- ---- a whole packet
 
 -- all bytes of a packet of n bytes
-reach-of : (f : Form) (t : Tally) (rest : List ℕ) (n header number : ℕ) → t .taken ≡ 0 → 5 ≤ n → n ≤ length rest → joined (getD rest 0 0) (getD rest 1 0) ≡ header → joined (getD rest 2 0) (getD rest 3 0) ≡ number
-    → listed (formWithHeader header) ≡ true → n ≡ totalOf (formWithHeader header) → reaching 0 f t rest ≡ goesOn f (cameTo n f (tallied t n header number)) (drop n rest)
+reach-of : (f : Form) (t : Tally) (rest : List ℕ) (n header number : ℕ) → t .taken ≡ 0 → 5 ≤ n → n ≤ length rest → lowHigh (getD rest 0 0) (getD rest 1 0) ≡ header → lowHigh (getD rest 2 0) (getD rest 3 0) ≡ number
+    → listed (formWithHeader header) ≡ true → n ≡ totalOf (formWithHeader header) → reaching 0 f t rest ≡ goesOn f (settled n f (tallied t n header number)) (drop n rest)
 reach-of f t rest n header number none least room two four ok total =
     let k : ℕ = n - 5 in
     let xs : List ℕ = take k (drop 4 rest) in
     let counted : length xs ≡ k = length-take-le k (drop 4 rest) (simp length-drop (omega arith)) in
-    let form : formWithHeader (joined (getD rest 0 0) (getD rest 1 0)) ≡ formWithHeader header = ap formWithHeader two in
+    let form : formWithHeader (lowHigh (getD rest 0 0) (getD rest 1 0)) ≡ formWithHeader header = ap formWithHeader two in
     let size : length xs + 5 ≡ n = omega (arith, counted) in
     let end : 0 + (k + 5) ≡ n = omega arith in
     let all : rest ≡ getD rest 0 0 ∷ getD rest 1 0 ∷ getD rest 2 0 ∷ getD rest 3 0 ∷ (xs ++ getD rest (0 + 4 + k) 0 ∷ drop n rest)
@@ -186,18 +175,18 @@ reach-of f t rest n header number none least room two four ok total =
     let count : 0 + (length xs + 5) ≡ n = omega (arith, size) in
     ap (reaching 0 f t) all
     ∙ reach-whole 0 f t (getD rest 0 0) (getD rest 1 0) (getD rest 2 0) (getD rest 3 0) xs (getD rest (0 + 4 + k) 0) (drop n rest) none (ap listed form ∙ ok) (size ∙ total ∙ ap totalOf (sym form))
-    ∙ ap (λ (i : ℕ). goesOn f (cameTo i f (tallied t (length xs + 5) (joined (getD rest 0 0) (getD rest 1 0)) (joined (getD rest 2 0) (getD rest 3 0)))) (drop n rest)) count
-    ∙ ap (λ (i : ℕ). goesOn f (cameTo n f (tallied t i (joined (getD rest 0 0) (getD rest 1 0)) (joined (getD rest 2 0) (getD rest 3 0)))) (drop n rest)) size
-    ∙ ap (λ (i : ℕ). goesOn f (cameTo n f (tallied t n i (joined (getD rest 2 0) (getD rest 3 0)))) (drop n rest)) two
-    ∙ ap (λ (i : ℕ). goesOn f (cameTo n f (tallied t n header i)) (drop n rest)) four
+    ∙ ap (λ (i : ℕ). goesOn f (settled i f (tallied t (length xs + 5) (lowHigh (getD rest 0 0) (getD rest 1 0)) (lowHigh (getD rest 2 0) (getD rest 3 0)))) (drop n rest)) count
+    ∙ ap (λ (i : ℕ). goesOn f (settled n f (tallied t i (lowHigh (getD rest 0 0) (getD rest 1 0)) (lowHigh (getD rest 2 0) (getD rest 3 0)))) (drop n rest)) size
+    ∙ ap (λ (i : ℕ). goesOn f (settled n f (tallied t n i (lowHigh (getD rest 2 0) (getD rest 3 0)))) (drop n rest)) two
+    ∙ ap (λ (i : ℕ). goesOn f (settled n f (tallied t n header i)) (drop n rest)) four
 
 -- The lines from a whole packet on, with w the tally after its n bytes: by its code.
-module _ (h : Head) (t w : Tally) (rest : List ℕ) (n : ℕ) (reach : reaching 0 (formIn h) t rest ≡ goesOn (formIn h) (cameTo n (formIn h) w) (drop n rest)) (room : n ≤ length rest) where
+module _ (h : Head) (t w : Tally) (rest : List ℕ) (n : ℕ) (reach : reaching 0 (formIn h) t rest ≡ goesOn (formIn h) (settled n (formIn h) w) (drop n rest)) (room : n ≤ length rest) where
   -- refused
   pub whole-refused : (code : ℕ) → heardCode (formIn h) w ≡ code → 1 < code → toldBy h t rest ≡ refusedAt h w code
   unfolding goesOn
   whole-refused code is some =
-      let came : cameTo n (formIn h) w ≡ record { at = n; code = code; tally = w } = came-by n (formIn h) w is refl ∙ rw (ne-eqb code 0 (λ e. omega arith), ne-eqb code 1 (λ e. omega arith)) in
+      let came : settled n (formIn h) w ≡ record { at = n; code = code; tally = w } = settled-by n (formIn h) w is refl ∙ rw (ne-eqb code 0 (λ e. omega arith), ne-eqb code 1 (λ e. omega arith)) in
       let there : reaching 0 (formIn h) t rest ≡ record { at = n; code = code; tally = w } = reach ∙ ap (λ (r : Reach). goesOn (formIn h) r (drop n rest)) came ∙ rw (ne-eqb code 0 (λ e. omega arith)) in
       told-reach rest 0 h t
       ∙ ap (λ (r : Reach). afterReach h 0 r rest) there
@@ -210,7 +199,7 @@ module _ (h : Head) (t w : Tally) (rest : List ℕ) (n : ℕ) (reach : reaching 
     where
       by : (close : Bool) → closes w ≡ close → toldBy h t rest ≡ pick (eqb (w .number) 0) (endedNow h w) [] ++ toldBy h (accepting w) (drop n rest)
       by true e =
-          let came : cameTo n (formIn h) w ≡ record { at = n; code = 1; tally = w } = came-by n (formIn h) w is e in
+          let came : settled n (formIn h) w ≡ record { at = n; code = 1; tally = w } = settled-by n (formIn h) w is e in
           let there : reaching 0 (formIn h) t rest ≡ record { at = n; code = 1; tally = w } = reach ∙ ap (λ (r : Reach). goesOn (formIn h) r (drop n rest)) came in
           let zero′ : eqb (w .number) 0 ≡ true = and-left (eqb (w .number) 0) (not (eqb (w .heard) 0)) e in
           let from : n - 0 ≡ n = omega arith in
@@ -220,7 +209,7 @@ module _ (h : Head) (t w : Tally) (rest : List ℕ) (n : ℕ) (reach : reaching 
           ∙ ap (λ (i : ℕ). endedNow h w ++ toldBy h (accepting w) (drop i rest)) from
           ∙ ap (λ (b : Bool). pick b (endedNow h w) [] ++ toldBy h (accepting w) (drop n rest)) (sym zero′)
       by false e =
-          let came : cameTo n (formIn h) w ≡ record { at = n; code = 0; tally = accepting w } = came-by n (formIn h) w is e in
+          let came : settled n (formIn h) w ≡ record { at = n; code = 0; tally = accepting w } = settled-by n (formIn h) w is e in
           let next : Reach = reaching n (formIn h) (accepting w) (drop n rest) in
           let there : reaching 0 (formIn h) t rest ≡ next = reach ∙ ap (λ (r : Reach). goesOn (formIn h) r (drop n rest)) came in
           let ahead : n ≤ next .at = reach-from (drop n rest) n (formIn h) (accepting w) in
@@ -328,7 +317,7 @@ module _ (h : Head) (t : Tally) (k : Known) (m : Knows t k) (own : listed (formI
             ∙ counts (eqb (field 2 2 rest) 0) (k .accepted)
             ∙ ap (λ (x : ℕ). suc (length (pick (eqb x 0) [] (k .accepted)))) (sym number-same);
         position = sym position-same;
-        allowed = accepted (formIn h) w one .fits;
+        allowed = accepted-fits (formIn h) w one;
       }
     where
       counts : (zero′ : Bool) (l : List ℕ) → pick zero′ 1 (length l + 1) ≡ suc (length (pick zero′ [] l))
@@ -341,19 +330,22 @@ end-same : (h : Head) (t : Tally) (k : Known) → Knows t k → toldBy h t [] �
 unfolding toldBy
 end-same h t k m = rw (m .taken, ended-same h t k m, m .captures)
 
-pub bytes-left : (n : ℕ) (rest : List ℕ) → allBytes rest → allBytes (drop n rest)
-bytes-left n rest small k = subst (λ (x : ℕ). x < 256) (sym (getD-drop n rest k 0)) (small (n + k))
+-- the report's lines of the bytes that are left
+abbrev pub linesLeft : ℕ → Head → Known → List ℕ → List Line
+linesLeft n h k rest = linesFrom h k (packetsIn n rest)
 
--- the report's lines from a packet on, by its code
-module _ (n : ℕ) (h : Head) (k : Known) (rest : List ℕ) (some : length rest ≡ 0 → ⊥) where
-  lines-refused : (code : ℕ) → packetCode h k (packetIn rest) ≡ code → (code ≡ 1 → ⊥) → linesFrom (suc n) h k rest ≡ atRefusal h k code
-  unfolding linesFrom
-  lines-refused code is other = rw (ne-eqb (length rest) 0 some, is, ne-eqb code 1 other)
+-- the same from a packet on, by its code
+module _ (n : ℕ) (h : Head) (k : Known) (a : ℕ) (bs : List ℕ) where
+  abbrev next : List ℕ
+  next = packetIn (a ∷ bs)
 
-  lines-accepted : packetCode h k (packetIn rest) ≡ 1
-      → linesFrom (suc n) h k rest ≡ pick (begins (packetIn rest)) (ended h k) [] ++ linesFrom n h (knownAfter h k (packetIn rest)) (drop (length (packetIn rest)) rest)
-  unfolding linesFrom
-  lines-accepted is = rw (ne-eqb (length rest) 0 some, is)
+  lines-refused : (code : ℕ) → packetCode h k next ≡ code → (code ≡ 1 → ⊥) → linesLeft (suc n) h k (a ∷ bs) ≡ atRefusal h k code
+  unfolding linesFrom packetsIn
+  lines-refused code is other = rw (is, ne-eqb code 1 other)
+
+  lines-accepted : packetCode h k next ≡ 1 → linesLeft (suc n) h k (a ∷ bs) ≡ atPacket h k next ++ linesLeft n h (knownAfter h k next) (drop (length next) (a ∷ bs))
+  unfolding linesFrom packetsIn
+  lines-accepted is = rw is
 
 refused-same : (h : Head) (t : Tally) (k : Known) → Knows t k → (code : ℕ) → refusedAt h t code ≡ atRefusal h k code
 refused-same h t k m code = ap (λ (ls : List Line). ls ++ refusalLine code (t .begins) ∷ []) (ended-same h t k m) ∙ ap (λ (x : ℕ). ended h k ++ refusalLine code x ∷ []) (m .offset)
@@ -367,19 +359,16 @@ whole-some true false false = omega arith
 
 -- A packet's begin, where the lines of all that comes later agree already.
 module _ (n : ℕ) (h : Head) (own : listed (formIn h) ≡ true) (t : Tally) (k : Known) (m : Knows t k) (a : ℕ) (bs : List ℕ) (few : length (a ∷ bs) ≤ suc n) (small : allBytes (a ∷ bs))
-    (later : (u : Tally) (j : Known) (left : List ℕ) → length left ≤ n → Knows u j → allBytes left → toldBy h u left ≡ linesFrom n h j left) where
+    (later : (u : Tally) (j : Known) (left : List ℕ) → length left ≤ n → Knows u j → allBytes left → toldBy h u left ≡ linesLeft n h j left) where
   abbrev rest : List ℕ
   rest = a ∷ bs
 
-  some : length rest ≡ 0 → ⊥
-  some e = omega arith
-
   -- no whole packet
-  none-lines : (listed (formAt rest) ≡ true → totalOf (formAt rest) ≤ length rest → ⊥) → toldBy h t rest ≡ linesFrom (suc n) h k rest
+  none-lines : (listed (formAt rest) ≡ true → totalOf (formAt rest) ≤ length rest → ⊥) → toldBy h t rest ≡ linesLeft (suc n) h k rest
   none-lines no-packet =
       told-no-packet t (m .taken) h a bs small no-packet
       ∙ refused-same h t k m 30
-      ∙ sym (lines-refused n h k rest some 30 (packet-code-by h k (packetIn rest) (not-whole rest no-packet) refl refl refl refl refl) (λ e. omega arith))
+      ∙ sym (lines-refused n h k a bs 30 (packet-code-by h k (packetIn rest) (not-whole rest no-packet) refl refl refl refl refl) (λ e. omega arith))
 
   -- a whole packet
   module _ (ok : listed (formAt rest) ≡ true) (room : totalOf (formAt rest) ≤ length rest) where
@@ -392,9 +381,9 @@ module _ (n : ℕ) (h : Head) (own : listed (formIn h) ≡ true) (t : Tally) (k 
     least : 388 ≤ total
     least = total-least (formAt rest) ok
 
-    reach : reaching 0 (formIn h) t rest ≡ goesOn (formIn h) (cameTo total (formIn h) v) (drop total rest)
+    reach : reaching 0 (formIn h) t rest ≡ goesOn (formIn h) (settled total (formIn h) v) (drop total rest)
     reach =
-        reach-of (formIn h) t rest total (field 0 2 rest) (field 2 2 rest) (m .taken) (omega (arith, least)) room (omega (arith, field-two rest 0, small 0)) (omega (arith, field-two rest 2, small 2)) ok refl
+        reach-of (formIn h) t rest total (field 0 2 rest) (field 2 2 rest) (m .taken) (omega (arith, least)) room (omega (arith, field-two rest 0, byte-at rest small 0)) (omega (arith, field-two rest 2, byte-at rest small 2)) ok refl
 
     code : packetCode h k (packetIn rest) ≡ heardCode (formIn h) v
     code = code-same h t k m own rest ok room
@@ -402,39 +391,39 @@ module _ (n : ℕ) (h : Head) (own : listed (formIn h) ≡ true) (t : Tally) (k 
     long : length (packetIn rest) ≡ total
     long = packet-length rest ok room
 
-    accepted-lines : heardCode (formIn h) v ≡ 1 → toldBy h t rest ≡ linesFrom (suc n) h k rest
+    accepted-lines : heardCode (formIn h) v ≡ 1 → toldBy h t rest ≡ linesLeft (suc n) h k rest
     accepted-lines one =
-        let next : toldBy h (accepting v) (drop total rest) ≡ linesFrom n h (knownAfter h k (packetIn rest)) (drop total rest)
-        = later (accepting v) (knownAfter h k (packetIn rest)) (drop total rest) (simp length-drop (omega (arith, least))) (knows-after h t k m own rest ok room one) (bytes-left total rest small) in
-        let line : pick (eqb (field 2 2 rest) 0) (endedNow h t) [] ≡ pick (begins (packetIn rest)) (ended h k) []
+        let next : toldBy h (accepting v) (drop total rest) ≡ linesLeft n h (knownAfter h k (packetIn rest)) (drop total rest)
+        = later (accepting v) (knownAfter h k (packetIn rest)) (drop total rest) (simp length-drop (omega (arith, least))) (knows-after h t k m own rest ok room one) (bytes-drop total rest small) in
+        let line : pick (eqb (field 2 2 rest) 0) (endedNow h t) [] ≡ atPacket h k (packetIn rest)
         = ap (λ (ls : List Line). pick (eqb (field 2 2 rest) 0) ls []) (ended-same h t k m) ∙ ap (λ (x : ℕ). pick (eqb x 0) (ended h k) []) (sym (number-same h t k m own rest ok room)) in
         whole-accepted h t v rest total reach room one
         ∙ ap (λ (ls : List Line). ls ++ toldBy h (accepting v) (drop total rest)) line
-        ∙ ap (λ (ls : List Line). pick (begins (packetIn rest)) (ended h k) [] ++ ls) next
-        ∙ ap (λ (i : ℕ). pick (begins (packetIn rest)) (ended h k) [] ++ linesFrom n h (knownAfter h k (packetIn rest)) (drop i rest)) (sym long)
-        ∙ sym (lines-accepted n h k rest some (code ∙ one))
+        ∙ ap (λ (ls : List Line). atPacket h k (packetIn rest) ++ ls) next
+        ∙ ap (λ (i : ℕ). atPacket h k (packetIn rest) ++ linesLeft n h (knownAfter h k (packetIn rest)) (drop i rest)) (sym long)
+        ∙ sym (lines-accepted n h k a bs (code ∙ one))
 
-    refused-lines : (heardCode (formIn h) v ≡ 1 → ⊥) → toldBy h t rest ≡ linesFrom (suc n) h k rest
+    refused-lines : (heardCode (formIn h) v ≡ 1 → ⊥) → toldBy h t rest ≡ linesLeft (suc n) h k rest
     refused-lines other =
-        let is : heardCode (formIn h) v ≡ codeBy false true false (sameForm (formAt rest) (formIn h)) (orphan v) (ltb last (positionNow v))
+        let is : heardCode (formIn h) v ≡ codeBy false true false (sameForm (formAt rest) (formIn h)) (lacksFirst v) (ltb last (positionNow v))
         = heard-by (formIn h) v (le-ltb total 2 (omega (arith, least))) ok (le-ltb total total (omega arith)) refl refl refl in
-        let above : 1 < heardCode (formIn h) v = omega (arith, is, whole-some (sameForm (formAt rest) (formIn h)) (orphan v) (ltb last (positionNow v)), other) in
+        let above : 1 < heardCode (formIn h) v = omega (arith, is, whole-some (sameForm (formAt rest) (formIn h)) (lacksFirst v) (ltb last (positionNow v)), other) in
         whole-refused h t v rest total reach room (heardCode (formIn h) v) refl above
         ∙ refused-same h t k m (heardCode (formIn h) v)
-        ∙ sym (lines-refused n h k rest some (heardCode (formIn h) v) code other)
+        ∙ sym (lines-refused n h k a bs (heardCode (formIn h) v) code other)
 
-  packet-lines : toldBy h t rest ≡ linesFrom (suc n) h k rest
+  packet-lines : toldBy h t rest ≡ linesLeft (suc n) h k rest
   packet-lines = by (listed (formAt rest)) refl
     where
-      whole : listed (formAt rest) ≡ true → totalOf (formAt rest) ≤ length rest → toldBy h t rest ≡ linesFrom (suc n) h k rest
+      whole : listed (formAt rest) ≡ true → totalOf (formAt rest) ≤ length rest → toldBy h t rest ≡ linesLeft (suc n) h k rest
       whole ok room = elim (ℕ-discrete (heardCode (formIn h) (v ok room)) 1) [ yes one ↦ accepted-lines ok room one | no other ↦ refused-lines ok room other ]
 
-      by : (l : Bool) → listed (formAt rest) ≡ l → toldBy h t rest ≡ linesFrom (suc n) h k rest
+      by : (l : Bool) → listed (formAt rest) ≡ l → toldBy h t rest ≡ linesLeft (suc n) h k rest
       by true e = elim (decLe (totalOf (formAt rest)) (length rest)) [ yes r ↦ whole e r | no r ↦ none-lines (λ l q. r q) ]
       by false e = none-lines (λ l q. true-not-false (sym l ∙ e))
 
-pub told-lines : (n : ℕ) (h : Head) → listed (formIn h) ≡ true → (t : Tally) (k : Known) (rest : List ℕ) → length rest ≤ n → Knows t k → allBytes rest → toldBy h t rest ≡ linesFrom n h k rest
-unfolding linesFrom
+pub told-lines : (n : ℕ) (h : Head) → listed (formIn h) ≡ true → (t : Tally) (k : Known) (rest : List ℕ) → length rest ≤ n → Knows t k → allBytes rest → toldBy h t rest ≡ linesLeft n h k rest
+unfolding linesFrom packetsIn
 told-lines zero h own t k [] few m small = end-same h t k m
 told-lines zero h own t k (a ∷ bs) few m small = absurd (omega arith)
 told-lines (suc n) h own t k [] few m small = end-same h t k m

@@ -16,12 +16,12 @@ use Rattle.heads.specs.Head.{formIn}
 use Rattle.hearing.specs.declared.Tally.{Tally}
 use Rattle.hearing.specs.declared.Reach.{Reach}
 use Rattle.lines.specs.Lines.{Line, refusalLine, endLine}
-use Rattle.hearing.specs.Hearing.{taking, heardCode, closes, accepting, cameTo, reaching}
+use Rattle.hearing.specs.Hearing.{taking, heardCode, closes, accepting, settled, reaching}
 use Rattle.hearing.specs.Inside.{goesOn}
 use Rattle.spans.specs.Eating.{endedNow, heardLines}
-use Rattle.hearing.proofs.Heard.{came-by}
-use Rattle.hearing.proofs.Reaches.{came-at, reach-cons}
-use Rattle.hearing.proofs.Goings.{came-due}
+use Rattle.hearing.proofs.Heard.{settled-by}
+use Rattle.hearing.proofs.Reaches.{settled-at, reach-cons}
+use Rattle.hearing.proofs.Goings.{settled-due}
 
 -- the lines at the end of the input, with a tally
 abbrev pub endLines : Head → Tally → List Line
@@ -34,17 +34,17 @@ byReach h r silent accepted = pick (eqb (r .code) 0) silent (heardLines h r ++ p
 unfoldable pub toldBy : Head → Tally → List ℕ → List Line
 toldBy h t [] = endLines h t
 toldBy h t (b ∷ bs) =
-    byReach h (cameTo 1 (formIn h) (taking t b)) (toldBy h (cameTo 1 (formIn h) (taking t b) .tally) bs)
+    byReach h (settled 1 (formIn h) (taking t b)) (toldBy h (settled 1 (formIn h) (taking t b) .tally) bs)
     (toldBy h (accepting (taking t b)) bs)
 
 -- ---- bytes that are taken in one go
 
 -- how many bytes were taken does not change the outcome
-came-any : (n : ℕ) (f : Form) (t : Tally) → cameTo n f t ≡ record { at = n; code = cameTo 1 f t .code; tally = cameTo 1 f t .tally }
-unfolding cameTo
-came-any n f t = by (eqb (heardCode f t) 0) (eqb (heardCode f t) 1 && not (closes t)) refl refl
+settled-any : (n : ℕ) (f : Form) (t : Tally) → settled n f t ≡ record { at = n; code = settled 1 f t .code; tally = settled 1 f t .tally }
+unfolding settled
+settled-any n f t = by (eqb (heardCode f t) 0) (eqb (heardCode f t) 1 && not (closes t)) refl refl
   where
-    by : (waits quiet : Bool) → eqb (heardCode f t) 0 ≡ waits → (eqb (heardCode f t) 1 && not (closes t)) ≡ quiet → cameTo n f t ≡ record { at = n; code = cameTo 1 f t .code; tally = cameTo 1 f t .tally }
+    by : (waits quiet : Bool) → eqb (heardCode f t) 0 ≡ waits → (eqb (heardCode f t) 1 && not (closes t)) ≡ quiet → settled n f t ≡ record { at = n; code = settled 1 f t .code; tally = settled 1 f t .tally }
     by true quiet p q = rw p
     by false true p q = rw (p, q)
     by false false p q = rw (p, q)
@@ -54,41 +54,41 @@ pub reach-from : (bs : List ℕ) (n : ℕ) (f : Form) (t : Tally) → n ≤ reac
 unfolding reaching
 reach-from [] n f t = omega arith
 reach-from (b ∷ bs) n f t =
-    let next = reach-from bs (n + 1) f (cameTo (n + 1) f (taking t b) .tally) in
-    pick-keeps (λ (r : Reach). n ≤ r .at) (eqb (cameTo (n + 1) f (taking t b) .code) 0) _ _ (λ e. omega (arith, next)) (λ e. omega (arith, came-at (n + 1) f (taking t b)))
+    let next = reach-from bs (n + 1) f (settled (n + 1) f (taking t b) .tally) in
+    pick-keeps (λ (r : Reach). n ≤ r .at) (eqb (settled (n + 1) f (taking t b) .code) 0) _ _ (λ e. omega (arith, next)) (λ e. omega (arith, settled-at (n + 1) f (taking t b)))
 
 pub reach-ahead : (b : ℕ) (bs : List ℕ) (n : ℕ) (f : Form) (t : Tally) → n + 1 ≤ reaching n f t (b ∷ bs) .at
 unfolding reaching
 reach-ahead b bs n f t =
-    pick-keeps (λ (r : Reach). n + 1 ≤ r .at) (eqb (cameTo (n + 1) f (taking t b) .code) 0) _ _ (λ e. reach-from bs (n + 1) f (cameTo (n + 1) f (taking t b) .tally)) (λ e. omega (arith, came-at (n + 1) f (taking t b)))
+    pick-keeps (λ (r : Reach). n + 1 ≤ r .at) (eqb (settled (n + 1) f (taking t b) .code) 0) _ _ (λ e. reach-from bs (n + 1) f (settled (n + 1) f (taking t b) .tally)) (λ e. omega (arith, settled-at (n + 1) f (taking t b)))
 
 -- the lines from what was reached on, of bytes of which n were taken before
 abbrev pub afterReach : Head → ℕ → Reach → List ℕ → List Line
 afterReach h n r bs = byReach h r (endLines h (r .tally)) (toldBy h (accepting (r .tally)) (drop (r .at - n) bs))
 
 -- one byte, and what it comes to
-told-silent : (h : Head) (t : Tally) (b : ℕ) (bs : List ℕ) → eqb (cameTo 1 (formIn h) (taking t b) .code) 0 ≡ true → toldBy h t (b ∷ bs) ≡ toldBy h (cameTo 1 (formIn h) (taking t b) .tally) bs
+told-silent : (h : Head) (t : Tally) (b : ℕ) (bs : List ℕ) → eqb (settled 1 (formIn h) (taking t b) .code) 0 ≡ true → toldBy h t (b ∷ bs) ≡ toldBy h (settled 1 (formIn h) (taking t b) .tally) bs
 unfolding toldBy
 told-silent h t b bs e = rw e
 
 -- a byte after which more is waited for
 pub told-wait : (h : Head) (t : Tally) (b : ℕ) (bs : List ℕ) → heardCode (formIn h) (taking t b) ≡ 0 → toldBy h t (b ∷ bs) ≡ toldBy h (taking t b) bs
 told-wait h t b bs w =
-    let came = came-by 1 (formIn h) (taking t b) w refl in
+    let came = settled-by 1 (formIn h) (taking t b) w refl in
     told-silent h t b bs (ap (λ (r : Reach). eqb (r .code) 0) came) ∙ ap (λ (r : Reach). toldBy h (r .tally) bs) came
 
-pub told-due : (h : Head) (t : Tally) (b : ℕ) (bs : List ℕ) → eqb (cameTo 1 (formIn h) (taking t b) .code) 0 ≡ false
-    → toldBy h t (b ∷ bs) ≡ heardLines h (cameTo 1 (formIn h) (taking t b)) ++ pick (eqb (cameTo 1 (formIn h) (taking t b) .code) 1) (toldBy h (accepting (taking t b)) bs) []
+pub told-due : (h : Head) (t : Tally) (b : ℕ) (bs : List ℕ) → eqb (settled 1 (formIn h) (taking t b) .code) 0 ≡ false
+    → toldBy h t (b ∷ bs) ≡ heardLines h (settled 1 (formIn h) (taking t b)) ++ pick (eqb (settled 1 (formIn h) (taking t b) .code) 1) (toldBy h (accepting (taking t b)) bs) []
 unfolding toldBy
 told-due h t b bs e = rw e
 
-reach-silent : (n : ℕ) (f : Form) (t : Tally) (b : ℕ) (bs : List ℕ) → eqb (cameTo 1 f (taking t b) .code) 0 ≡ true → reaching n f t (b ∷ bs) ≡ reaching (n + 1) f (cameTo 1 f (taking t b) .tally) bs
+reach-silent : (n : ℕ) (f : Form) (t : Tally) (b : ℕ) (bs : List ℕ) → eqb (settled 1 f (taking t b) .code) 0 ≡ true → reaching n f t (b ∷ bs) ≡ reaching (n + 1) f (settled 1 f (taking t b) .tally) bs
 unfolding goesOn
-reach-silent n f t b bs e = reach-cons n f t b bs ∙ ap (λ (r : Reach). goesOn f r bs) (came-any (n + 1) f (taking t b)) ∙ rw e
+reach-silent n f t b bs e = reach-cons n f t b bs ∙ ap (λ (r : Reach). goesOn f r bs) (settled-any (n + 1) f (taking t b)) ∙ rw e
 
-reach-stops : (n : ℕ) (f : Form) (t : Tally) (b : ℕ) (bs : List ℕ) → eqb (cameTo 1 f (taking t b) .code) 0 ≡ false → reaching n f t (b ∷ bs) ≡ cameTo (n + 1) f (taking t b)
+reach-stops : (n : ℕ) (f : Form) (t : Tally) (b : ℕ) (bs : List ℕ) → eqb (settled 1 f (taking t b) .code) 0 ≡ false → reaching n f t (b ∷ bs) ≡ settled (n + 1) f (taking t b)
 unfolding goesOn
-reach-stops n f t b bs e = reach-cons n f t b bs ∙ ap (λ (r : Reach). goesOn f r bs) (came-any (n + 1) f (taking t b)) ∙ (rw e) ∙ sym (came-any (n + 1) f (taking t b))
+reach-stops n f t b bs e = reach-cons n f t b bs ∙ ap (λ (r : Reach). goesOn f r bs) (settled-any (n + 1) f (taking t b)) ∙ (rw e) ∙ sym (settled-any (n + 1) f (taking t b))
 
 shifted : (h : Head) (n : ℕ) (r : Reach) (b : ℕ) (bs : List ℕ) → n + 1 ≤ r .at → afterReach h n r (b ∷ bs) ≡ afterReach h (n + 1) r bs
 shifted h n r b bs ahead =
@@ -105,22 +105,22 @@ stopped-here h n code u b bs e =
 pub told-reach : (bs : List ℕ) (n : ℕ) (h : Head) (t : Tally) → toldBy h t bs ≡ afterReach h n (reaching n (formIn h) t bs) bs
 unfolding reaching toldBy
 told-reach [] n h t = refl
-told-reach (b ∷ bs) n h t = by (eqb (cameTo 1 (formIn h) (taking t b) .code) 0) refl (told-reach bs (n + 1) h (cameTo 1 (formIn h) (taking t b) .tally))
+told-reach (b ∷ bs) n h t = by (eqb (settled 1 (formIn h) (taking t b) .code) 0) refl (told-reach bs (n + 1) h (settled 1 (formIn h) (taking t b) .tally))
   where
     u : Tally
     u = taking t b
 
-    by : (silent : Bool) → eqb (cameTo 1 (formIn h) (taking t b) .code) 0 ≡ silent
-        → toldBy h (cameTo 1 (formIn h) (taking t b) .tally) bs ≡ afterReach h (n + 1) (reaching (n + 1) (formIn h) (cameTo 1 (formIn h) (taking t b) .tally) bs) bs
+    by : (silent : Bool) → eqb (settled 1 (formIn h) (taking t b) .code) 0 ≡ silent
+        → toldBy h (settled 1 (formIn h) (taking t b) .tally) bs ≡ afterReach h (n + 1) (reaching (n + 1) (formIn h) (settled 1 (formIn h) (taking t b) .tally) bs) bs
         → toldBy h t (b ∷ bs) ≡ afterReach h n (reaching n (formIn h) t (b ∷ bs)) (b ∷ bs)
     by true e ih =
         told-silent h t b bs e ∙ ih
-        ∙ sym (shifted h n (reaching (n + 1) (formIn h) (cameTo 1 (formIn h) (taking t b) .tally) bs) b bs (reach-from bs (n + 1) (formIn h) (cameTo 1 (formIn h) (taking t b) .tally)))
+        ∙ sym (shifted h n (reaching (n + 1) (formIn h) (settled 1 (formIn h) (taking t b) .tally) bs) b bs (reach-from bs (n + 1) (formIn h) (settled 1 (formIn h) (taking t b) .tally)))
         ∙ ap (λ (r : Reach). afterReach h n r (b ∷ bs)) (sym (reach-silent n (formIn h) t b bs e))
     by false e ih =
         let code : ℕ = heardCode (formIn h) u in
-        let first : cameTo 1 (formIn h) u ≡ record { at = 1; code = code; tally = u } = came-due 1 (formIn h) u (λ z. eqb-false _ _ e z) in
-        let then′ : cameTo (n + 1) (formIn h) u ≡ record { at = n + 1; code = code; tally = u } = came-any (n + 1) (formIn h) u ∙ ap (λ (r : Reach). record { at = n + 1; code = r .code; tally = r .tally }) first in
+        let first : settled 1 (formIn h) u ≡ record { at = 1; code = code; tally = u } = settled-due 1 (formIn h) u (λ z. eqb-false _ _ e z) in
+        let then′ : settled (n + 1) (formIn h) u ≡ record { at = n + 1; code = code; tally = u } = settled-any (n + 1) (formIn h) u ∙ ap (λ (r : Reach). record { at = n + 1; code = r .code; tally = r .tally }) first in
         told-due h t b bs e
         ∙ ap (λ (r : Reach). heardLines h r ++ pick (eqb (r .code) 1) (toldBy h (accepting u) bs) []) first
         ∙ sym
@@ -131,10 +131,10 @@ told-reach (b ∷ bs) n h t = by (eqb (cameTo 1 (formIn h) (taking t b) .code) 0
 pub reach-append : (xs ys : List ℕ) (n : ℕ) (f : Form) (t : Tally) → reaching n f t (xs ++ ys) ≡ goesOn f (reaching n f t xs) ys
 unfolding reaching goesOn
 reach-append [] ys n f t = refl
-reach-append (x ∷ xs) ys n f t = by (eqb (cameTo (n + 1) f (taking t x) .code) 0) refl (reach-append xs ys (n + 1) f (cameTo (n + 1) f (taking t x) .tally))
+reach-append (x ∷ xs) ys n f t = by (eqb (settled (n + 1) f (taking t x) .code) 0) refl (reach-append xs ys (n + 1) f (settled (n + 1) f (taking t x) .tally))
   where
-    by : (silent : Bool) → eqb (cameTo (n + 1) f (taking t x) .code) 0 ≡ silent
-        → reaching (n + 1) f (cameTo (n + 1) f (taking t x) .tally) (xs ++ ys) ≡ goesOn f (reaching (n + 1) f (cameTo (n + 1) f (taking t x) .tally) xs) ys
+    by : (silent : Bool) → eqb (settled (n + 1) f (taking t x) .code) 0 ≡ silent
+        → reaching (n + 1) f (settled (n + 1) f (taking t x) .tally) (xs ++ ys) ≡ goesOn f (reaching (n + 1) f (settled (n + 1) f (taking t x) .tally) xs) ys
         → reaching n f t (x ∷ (xs ++ ys)) ≡ goesOn f (reaching n f t (x ∷ xs)) ys
     by true e ih = rw e ih
     by false e ih = rw (e, e)
@@ -143,10 +143,10 @@ reach-append (x ∷ xs) ys n f t = by (eqb (cameTo (n + 1) f (taking t x) .code)
 pub reach-used : (bs : List ℕ) (n : ℕ) (f : Form) (t : Tally) → reaching n f t bs .code ≡ 0 → reaching n f t bs .at ≡ n + length bs
 unfolding reaching
 reach-used [] n f t e = omega arith
-reach-used (b ∷ bs) n f t e₀ = by (eqb (cameTo (n + 1) f (taking t b) .code) 0) refl (reach-used bs (n + 1) f (cameTo (n + 1) f (taking t b) .tally)) e₀
+reach-used (b ∷ bs) n f t e₀ = by (eqb (settled (n + 1) f (taking t b) .code) 0) refl (reach-used bs (n + 1) f (settled (n + 1) f (taking t b) .tally)) e₀
   where
-    by : (silent : Bool) → eqb (cameTo (n + 1) f (taking t b) .code) 0 ≡ silent
-        → (reaching (n + 1) f (cameTo (n + 1) f (taking t b) .tally) bs .code ≡ 0 → reaching (n + 1) f (cameTo (n + 1) f (taking t b) .tally) bs .at ≡ n + 1 + length bs)
+    by : (silent : Bool) → eqb (settled (n + 1) f (taking t b) .code) 0 ≡ silent
+        → (reaching (n + 1) f (settled (n + 1) f (taking t b) .tally) bs .code ≡ 0 → reaching (n + 1) f (settled (n + 1) f (taking t b) .tally) bs .at ≡ n + 1 + length bs)
         → reaching n f t (b ∷ bs) .code ≡ 0
         → reaching n f t (b ∷ bs) .at ≡ n + length (b ∷ bs)
     by true s ih e = rw s (omega (arith, ih (rw s at e)))

@@ -1,5 +1,6 @@
--- A span takes the input in pieces: what one call does with a piece, and what the end of the input brings. What 01 says of
--- the whole input stands in Report; `report-is` (proofs/Inputs) ties the two.
+-- A span takes the input in pieces: what the code keeps between two pieces, what one call does with a piece, and what the end
+-- of the input brings. A reader of 01 needs only Report, which says what is printed of the whole input; `report-is`
+-- (proofs/Inputs) proves that the two agree.
 use Prim.Native.Nat.{ℕ, _+_, _-_, min}
 use mathlib.Core.Bool.{Bool, false, _&&_, _||_, not}
 use mathlib.Core.List.{List, [], _∷_, _++_}

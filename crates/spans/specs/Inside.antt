@@ -1,15 +1,15 @@
 -- What the functions inside promise each other: the lines of a call as they are handed on to be written. Eats in proofs/
 -- ties it to Eating.
-use Prim.Native.Nat.{ℕ}
 use mathlib.Core.Bool.{false}
 use Rattle.heads.specs.declared.Head.{Head}
 use Rattle.heads.specs.Head.{formIn}
 use Rattle.hearing.specs.declared.Tally.{Tally}
 use Rattle.lines.specs.declared.Due.{Due}
+use Rattle.lines.specs.declared.Ending.{Ending}
 
--- the open capture's line, and a refusal (1) or the end (2) behind it
-abbrev pub dueNow : Head → Tally → ℕ → ℕ → ℕ → Due
-dueNow h t ending code offset =
+-- the open capture's line, and what comes behind it
+abbrev pub dueNow : Head → Tally → Ending → Due
+dueNow h t ending =
     record {
       opening = false;
       capture = t .captures;
@@ -19,6 +19,4 @@ dueNow h t ending code offset =
       heard = t .heard;
       position = t .position;
       ending = ending;
-      code = code;
-      offset = offset;
     }

@@ -1,10 +1,15 @@
 -- The whole input, handed over in pieces: each piece until it is used up, with room for 256 bytes of lines, and then the end.
-use Prim.Native.Nat.{ℕ, zero, suc}
+-- What is printed so is the report of the whole input, at the end of this file.
+use Prim.Native.Nat.{ℕ, zero, suc, _≤_}
+use mathlib.Core.Path.{_≡_}
 use mathlib.Core.List.{List, [], _∷_, _++_}
 use lib.Dec.{eqb}
 use lib.ListN.{length, drop}
 use Rattle.wire.specs.Choice.{pick}
+use Rattle.wire.specs.Lists.{allBytes, joined}
+use Rattle.hearing.specs.Hearing.{farthest}
 use Rattle.spans.specs.declared.Span.{Span}
+use Rattle.spans.specs.Report.{report}
 use Rattle.spans.specs.Eating.{eatingOf, finishingOf, freshSpan}
 
 abbrev pub room : ℕ
@@ -32,16 +37,30 @@ handing (suc n) s piece =
 abbrev pub handed : Span → List ℕ → Handed
 handed s piece = handing (length piece) s piece
 
--- all that is written for pieces, from a span on
-unfoldable pub printedFrom : Span → List (List ℕ) → List ℕ
-printedFrom s [] = finishingOf s room .bytes
-printedFrom s (p ∷ ps) = handed s p .text ++ printedFrom (handed s p .span) ps
+-- one piece after the other, each to the span that the one before it left
+unfoldable pub handedAll : Span → List (List ℕ) → Handed
+handedAll s [] = nothingHanded s
+handedAll s (p ∷ ps) = before (handed s p .text) (handedAll (handed s p .span) ps)
+
+-- all that is written for pieces and then for the end, from a span on
+abbrev pub printedFrom : Span → List (List ℕ) → List ℕ
+printedFrom s pieces = handedAll s pieces .text ++ finishingOf (handedAll s pieces .span) room .bytes
 
 -- all that is written
 abbrev pub printed : List (List ℕ) → List ℕ
 printed pieces = printedFrom freshSpan pieces
 
--- the input that the pieces are of
-abbrev pub joinedOf : List (List ℕ) → List ℕ
-joinedOf [] = []
-joinedOf (p ∷ ps) = p ++ joinedOf ps
+-- ---- what is proved of it: proofs/Inputs, proofs/Cuts
+
+-- However an input of bytes comes in pieces, its report is what is printed: up to 2 ^ 63 bytes, as many as a span counts. So
+-- a `C` line has the count of accepted packets, the last position and one, and the time of Report's `lineOf`.
+abbrev pub PrintsTheReport : Type 0
+PrintsTheReport =
+    (pieces : List (List ℕ)) → allBytes (joined pieces) → length (joined pieces) ≤ farthest
+    → printed pieces ≡ report (joined pieces)
+
+-- How the input is cut into pieces does not change the lines.
+abbrev pub CutsDoNotMatter : Type 0
+CutsDoNotMatter =
+    (ps qs : List (List ℕ)) → joined ps ≡ joined qs → length (joined ps) ≤ farthest
+    → printed ps ≡ printed qs

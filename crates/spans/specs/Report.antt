@@ -1,4 +1,6 @@
--- What the span program prints for a whole input.
+-- What the span program prints for a whole input: a head, and then packets. Of the crates lines, hearing, spans and span this
+-- is all that a reader of 01 needs, with the text of the lines (lines/specs/Lines); that it is what is printed, however the
+-- input comes, is said in Pieces (`PrintsTheReport`) and proved in proofs/Inputs (`report-is`).
 use Prim.Native.Nat.{ℕ, zero, suc, _+_}
 use mathlib.Core.Bool.{Bool, true, not}
 use mathlib.Core.List.{List, [], _∷_, _++_}
@@ -16,35 +18,48 @@ use Rattle.heads.specs.Head.{headLength, formIn, headIn}
 use Rattle.heads.specs.Head.{readCode as headCode}
 use Rattle.lines.specs.Lines.{Line, textOf, openingLine, captureLine, refusalLine, endLine}
 
--- What is known where a packet begins: how many captures have begun, the positions of the packets that the open one has
+-- ---- the packets of the input
+
+-- the bytes of the next packet: as many as the form with its header has, or what is left of the input
+abbrev pub packetIn : List ℕ → List ℕ
+packetIn rest = take (totalOf (formWithHeader (field 0 2 rest))) rest
+
+-- All of them, in order. (Where a header is not listed, some bytes are taken for the packet that is refused.) The first
+-- argument counts those that may still come; of n bytes there are at most n.
+unfoldable pub packetsIn : ℕ → List ℕ → List (List ℕ)
+packetsIn zero rest = []
+packetsIn (suc n) [] = []
+packetsIn (suc n) (b ∷ bs) = packetIn (b ∷ bs) ∷ packetsIn n (drop (length (packetIn (b ∷ bs))) (b ∷ bs))
+
+-- ---- where a packet begins
+
+-- What is known there: how many captures have begun, the positions of the packets that the open one has
 -- had accepted, the last first (none: no capture is open), and the input byte.
 pub record Known : Type 0 where
   pub captures : ℕ
   pub accepted : List ℕ
   pub offset : ℕ
 
--- the line of a capture that ends: packets heard are those accepted, and positions are covered up to the last one's
-abbrev pub lineOf : Head → ℕ → List ℕ → List Line
-lineOf h capture [] = []
-lineOf h capture (last ∷ before) = captureLine (formIn h) (h .divisor) capture (length (last ∷ before)) last ∷ []
-
-abbrev pub ended : Head → Known → List Line
-ended h k = lineOf h (k .captures) (k .accepted)
+-- nothing heard, after the head
+abbrev pub nothing : Known
+nothing = record { captures = 0; accepted = []; offset = headLength }
 
 -- the packet reader after the packets accepted
 abbrev pub readerAfter : Head → List ℕ → Reader
 readerAfter h [] = silent
 readerAfter h (last ∷ before) = record { heard = true; position = last; form = formIn h }
 
--- the bytes of the next packet: as many as the form with its header has, or what is left of the input
-abbrev pub packetIn : List ℕ → List ℕ
-packetIn rest = take (totalOf (formWithHeader (field 0 2 rest))) rest
+-- ---- one packet
 
 -- "A form unlike the head's is 32, checked after 30 and before 31; a cut-off packet is 30." The rest is the packet reader's.
 unfoldable pub packetCode : Head → Known → List ℕ → ℕ
 packetCode h k packet =
     firstOf (check Code.notAPacket (not (isPacket packet)) ∷ check Code.formChanged (not (sameForm (wholeOf packet) (formIn h))) ∷ [])
     (readCode (readerAfter h (k .accepted)) packet)
+
+-- "done": the packet is accepted
+abbrev pub accepts : Head → Known → List ℕ → Bool
+accepts h k packet = eqb (packetCode h k packet) Code.done
 
 -- "Number 0 begins a new capture, at any moment": the open one ends
 abbrev pub begins : List ℕ → Bool
@@ -60,6 +75,21 @@ knownAfter h k packet =
       offset = k .offset + length packet;
     }
 
+-- ---- the lines
+
+-- the line of a capture that ends: packets heard are those accepted, and positions are covered up to the last one's
+abbrev pub lineOf : Head → ℕ → List ℕ → List Line
+lineOf h capture [] = []
+lineOf h capture (last ∷ before) = captureLine (formIn h) (h .divisor) capture (length (last ∷ before)) last ∷ []
+
+-- the open capture's line
+abbrev pub ended : Head → Known → List Line
+ended h k = lineOf h (k .captures) (k .accepted)
+
+-- "for each capture, when it ends, `C` ..": an accepted packet ends the open one, or it brings no line
+abbrev pub atPacket : Head → Known → List ℕ → List Line
+atPacket h k packet = pick (begins packet) (ended h k) []
+
 -- "Otherwise the last line is `E` with the count of captures."
 abbrev pub atEnd : Head → Known → List Line
 atEnd h k = ended h k ++ endLine (k .captures) ∷ []
@@ -69,26 +99,18 @@ atEnd h k = ended h k ++ endLine (k .captures) ∷ []
 abbrev pub atRefusal : Head → Known → ℕ → List Line
 atRefusal h k code = ended h k ++ refusalLine code (k .offset) ∷ []
 
--- The lines from a packet's begin on: "for each capture, when it ends, `C` ..". The first argument counts the packets that
--- may still come; of n bytes there are at most n.
-unfoldable pub linesFrom : ℕ → Head → Known → List ℕ → List Line
-linesFrom zero h k rest = atEnd h k
-linesFrom (suc n) h k rest =
-    pick (eqb (length rest) 0) (atEnd h k)
-    (pick (eqb (packetCode h k (packetIn rest)) Code.done)
-    (pick (begins (packetIn rest)) (ended h k) []
-    ++ linesFrom n h (knownAfter h k (packetIn rest)) (drop (length (packetIn rest)) rest))
-    (atRefusal h k (packetCode h k (packetIn rest))))
-
--- nothing heard, after the head
-abbrev pub nothing : Known
-nothing = record { captures = 0; accepted = []; offset = headLength }
+-- The lines of the packets from one on: the input ends, or the packet is accepted and others follow, or it is refused.
+unfoldable pub linesFrom : Head → Known → List (List ℕ) → List Line
+linesFrom h k [] = atEnd h k
+linesFrom h k (packet ∷ more) =
+    pick (accepts h k packet) (atPacket h k packet ++ linesFrom h (knownAfter h k packet) more)
+    (atRefusal h k (packetCode h k packet))
 
 -- the lines of a whole input: a head that is refused begins at byte 0
 unfoldable pub linesOf : List ℕ → List Line
 linesOf input =
     openingLine
-    ∷ pick (eqb (headCode input) Code.done) (linesFrom (length input) (headIn input) nothing (drop headLength input))
+    ∷ pick (eqb (headCode input) Code.done) (linesFrom (headIn input) nothing (packetsIn (length input) (drop headLength input)))
     (refusalLine (headCode input) 0 ∷ [])
 
 -- what is printed

@@ -18,6 +18,7 @@ use heads::Opened;
 use hearing::Reach;
 use hearing::Tally;
 use lines::Due;
+use lines::Ending;
 use lines::Told;
 use wire::codes;
 
@@ -130,9 +131,7 @@ fn head_due(code: u8) -> Due
             divisor: 0,
             heard: 0,
             position: 0,
-            ending: 0,
-            code: 0,
-            offset: 0,
+            ending: Ending::Nothing,
         };
     }
     Due {
@@ -143,15 +142,13 @@ fn head_due(code: u8) -> Due
         divisor: 0,
         heard: 0,
         position: 0,
-        ending: 1,
-        code: code as u64,
-        offset: 0,
+        ending: Ending::Refusal { code, offset: 0 },
     }
 }
 
-// The line of the open capture, and a refusal (1) or the end (2) behind it.
-fn ended_due(h: Head, t: Tally, ending: u8, code: u8, offset: u64) -> Due
-    ensures { λ r. ⌜ r ≡ dueNow h t ending code offset ⌝ }
+// The line of the open capture, and what comes behind it.
+fn ended_due(h: Head, t: Tally, ending: Ending) -> Due
+    ensures { λ r. ⌜ r ≡ dueNow h t ending ⌝ }
 {
     let f = heads::form_in(h);
     Due {
@@ -163,8 +160,6 @@ fn ended_due(h: Head, t: Tally, ending: u8, code: u8, offset: u64) -> Due
         heard: t.heard,
         position: t.position,
         ending,
-        code: code as u64,
-        offset,
     }
 }
 
@@ -175,9 +170,13 @@ fn heard_due(h: Head, r: Reach) -> Due
 {
     let t = r.tally;
     if r.code == codes::DONE {
-        return ended_due(h, t, 0, 0, 0);
+        return ended_due(h, t, Ending::Nothing);
     }
-    ended_due(h, t, 1, r.code, t.begins)
+    let refusal = Ending::Refusal {
+        code: r.code,
+        offset: t.begins,
+    };
+    ended_due(h, t, refusal)
 }
 
 // The lines that the end of the input brings.
@@ -192,13 +191,17 @@ fn last_due(s: Span) -> Due
     let h = heads::head_in(&held);
     let t = s.tally;
     if t.taken == 0 {
-        return ended_due(h, t, 2, 0, 0);
+        return ended_due(h, t, Ending::Captures(t.captures));
     }
-    ended_due(h, t, 1, codes::NOT_A_PACKET, t.begins)
+    let refusal = Ending::Refusal {
+        code: codes::NOT_A_PACKET,
+        offset: t.begins,
+    };
+    ended_due(h, t, refusal)
 }
 
 // The span after a whole head that reads with a code.
-fn read_span(code: u8, s: Span) -> Span
+fn after_head(code: u8, s: Span) -> Span
     ensures { λ r. ⌜ r ≡ headRead code s ⌝ }
 {
     let held = s.held;
@@ -238,7 +241,7 @@ fn open(s: Span, piece: &[u8], out: &mut [u8]) -> Eaten
         code: codes::DONE,
         consumed: k,
         wrote: told.wrote,
-        span: read_span(code, after),
+        span: after_head(code, after),
     }
 }
 

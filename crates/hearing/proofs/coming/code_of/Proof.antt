@@ -6,7 +6,7 @@ use lib.Dec.{ltb}
 use borrow.Author.Tests.{not-true, not-false, lt-ltb, le-ltb}
 use Rattle.packets.specs.declared.Form.{Form}
 use Rattle.packets.specs.Forms.{listed, sameForm, totalOf}
-use Rattle.hearing.specs.Hearing.{formNow, orphan}
+use Rattle.hearing.specs.Hearing.{formNow, lacksFirst}
 use Rattle.hearing.proofs.Heard.{heard-by, total-is}
 use Rattle.hearing.proofs.coming.code_of.Statement.{statement}
 use Rattle.hearing.proofs.coming.code_of.Tie as tie
@@ -30,8 +30,8 @@ alike c =
     let s = c .before .before in
     ap (λ (x : Form). sameForm x (a .f)) (sym (s .before .before .before .form-of-header .ensures)) ∙ sym (s .same-form .ensures)
 
-alone : (c : tie.After-position-now) → orphan (c .before .before .before .before .before .before .args .t) ≡ c .before .is-orphan .result
-alone c = sym (c .before .is-orphan .ensures)
+alone : (c : tie.After-position-now) → lacksFirst (c .before .before .before .before .before .before .args .t) ≡ c .before .lacks-first .result
+alone c = sym (c .before .lacks-first .ensures)
 
 -- past the first test, the second, ..
 enough : (c : tie.Else1) → ltb (c .before .before .before .before .before .before .before .before .args .t .taken) 2 ≡ false
@@ -59,8 +59,8 @@ total-of-requires c κs = search needs
 same-form-requires : tie.Need-same-form-requires
 same-form-requires c κs = search needs
 
-is-orphan-requires : tie.Need-is-orphan-requires
-is-orphan-requires c κs = search needs
+lacks-first-requires : tie.Need-lacks-first-requires
+lacks-first-requires c κs = search needs
 
 position-now-requires : tie.Need-position-now-requires
 position-now-requires c κs = search needs
@@ -122,7 +122,7 @@ code-of-spec =
     is-listed-requires
     total-of-requires
     same-form-requires
-    is-orphan-requires
+    lacks-first-requires
     position-now-requires
     returns
     returns-2

@@ -10,14 +10,17 @@ returns c = rw (eq-eqb _ _ (c .if1 .taken))
 add-if2 : tie.Need-add-if2
 add-if2 c = search needs
 
-joined-of-requires : tie.Need-joined-of-requires
-joined-of-requires c κs = search needs
+mul-result : tie.Need-mul-result
+mul-result c = search needs
+
+add-result : tie.Need-add-result
+add-result c = search needs
 
 returns-2 : tie.Need-returns-2
-returns-2 c = rw (ne-eqb _ _ (c .before .before .if1 .left), eq-eqb _ _ (c .before .if2 .taken)) (c .joined-of .ensures)
+returns-2 c = rw (ne-eqb _ _ (c .before .if1 .left), eq-eqb _ _ (c .if2 .taken))
 
 returns-3 : tie.Need-returns-3
 returns-3 c = rw (ne-eqb _ _ (c .before .if1 .left), ne-eqb _ _ (c .if2 .left))
 
 pub field-with-spec : {M : Type 1} → statement M
-field-with-spec = tie.close (tie.spec returns add-if2 joined-of-requires returns-2 returns-3)
+field-with-spec = tie.close (tie.spec returns add-if2 mul-result add-result returns-2 returns-3)

@@ -52,8 +52,8 @@ hear-all-requires c κs =
     let s = c .before .before .before .before .before in
     (known c, range-sane (s .args .t) _ (ranged (c .before .before)) (omega (arith, s .good)))
 
-after-requires : tie.Need-after-requires
-after-requires c κs =
+next-tally-requires : tie.Need-next-tally-requires
+next-tally-requires c κs =
     let a = c .before .before .before .before .before .before .args in
     let h = c .hear-all .ensures in
     λ one. (
@@ -66,7 +66,7 @@ returns-3 c =
     let h = c .before in
     let e = h .before in
     let a = e .before .before .before .before .before .args in
-    ap (λ (n : Tally). record { reach = h .hear-all .result; next = n }) (c .after .ensures)
+    ap (λ (n : Tally). record { reach = h .hear-all .result; next = n }) (c .next-tally .ensures)
     ∙ ap outcome (h .hear-all .ensures .is)
     ∙ sym (hearing-is (a .f) (a .t) (now (a .piece)) (ranged (e .before .before)) (known e))
 
@@ -81,5 +81,5 @@ hear-spec =
     broken-requires-2
     returns-2
     hear-all-requires
-    after-requires
+    next-tally-requires
     returns-3)

@@ -4,13 +4,13 @@ use mathlib.Core.Path.{_≡_, sym, ap, subst, _∙_}
 use native.Mathlib.Omega.{arith}
 use denote.Ref.{now}
 use Rattle.hearing.proofs.Heard.{sane-taking, sane-less}
-use Rattle.hearing.proofs.Reaches.{came-at}
+use Rattle.hearing.proofs.Reaches.{settled-at}
 use Rattle.hearing.proofs.Goings.{goes-skip, goes-byte}
 use Prim.Native.Nat.{_+_, _<_}
 use lib.ListN.{getD}
 use Rattle.hearing.specs.declared.Tally.{Tally}
 use Rattle.hearing.specs.declared.Reach.{Reach}
-use Rattle.hearing.specs.Hearing.{taking, cameTo}
+use Rattle.hearing.specs.Hearing.{taking, settled}
 use Rattle.hearing.specs.Inside.{Sane, Goes}
 use Rattle.hearing.proofs.pieces.hear_some.Statement.{statement}
 use Rattle.hearing.proofs.pieces.hear_some.Tie as tie
@@ -22,8 +22,8 @@ taken c =
     let one : c .take-byte .result .taken ≡ t .taken + 1 = ap (λ (u : Tally). u .taken) (c .take-byte .ensures) in
     omega (arith, one)
 
-run-requires : tie.Need-run-requires
-run-requires c κs = search needs
+whole-packets-requires : tie.Need-whole-packets-requires
+whole-packets-requires c κs = search needs
 
 returns : tie.Need-returns
 returns c = search needs
@@ -51,8 +51,8 @@ returns-2 c =
       omega arith,
     )
 
-add-come-to : tie.Need-add-come-to
-add-come-to c = search needs
+add-settle : tie.Need-add-settle
+add-settle c = search needs
 
 shared-slice-read-take-byte : tie.Need-shared-slice-read-take-byte
 shared-slice-read-take-byte c = search needs
@@ -60,8 +60,8 @@ shared-slice-read-take-byte c = search needs
 take-byte-requires : tie.Need-take-byte-requires
 take-byte-requires c κs = search needs
 
-come-to-requires : tie.Need-come-to-requires
-come-to-requires c κs =
+settle-requires : tie.Need-settle-requires
+settle-requires c κs =
     let s = c .before .before .before .before .before .before .before .before in
     let a = s .args in
     (subst (Sane 0) (sym (c .take-byte .ensures)) (sane-taking 0 (a .t) _ (sane-less 1 (omega arith) (s .pre .2))), taken c)
@@ -71,24 +71,24 @@ returns-3 c =
     let byte = c .before in
     let s = byte .before .before .before .before .before .before .before .before in
     let a = s .args in
-    let came : c .come-to .result ≡ cameTo (a .at + 1) (a .f) (taking (a .t) (getD (now (a .piece)) (a .at) 0))
-    = c .come-to .ensures ∙ ap (cameTo (a .at + 1) (a .f)) (byte .take-byte .ensures) in
-    let there : c .come-to .result .at ≡ a .at + 1 = ap (λ (r : Reach). r .at) came ∙ came-at (a .at + 1) (a .f) _ in
+    let came : c .settle .result ≡ settled (a .at + 1) (a .f) (taking (a .t) (getD (now (a .piece)) (a .at) 0))
+    = c .settle .ensures ∙ ap (settled (a .at + 1) (a .f)) (byte .take-byte .ensures) in
+    let there : c .settle .result .at ≡ a .at + 1 = ap (λ (r : Reach). r .at) came ∙ settled-at (a .at + 1) (a .f) _ in
     (subst (Goes (a .f) (a .t) (now (a .piece)) (a .at)) (sym came) (goes-byte (a .f) (a .t) (now (a .piece)) (a .at) (s .pre .1) (s .pre .2)), omega (arith, there))
 
 pub hear-some-spec : {M : Type 1} → statement M
 hear-some-spec =
     tie.close
     (tie.spec
-    run-requires
+    whole-packets-requires
     returns
     sub-skippable
     skippable-requires
     add-t10
     skip-requires
     returns-2
-    add-come-to
+    add-settle
     shared-slice-read-take-byte
     take-byte-requires
-    come-to-requires
+    settle-requires
     returns-3)

@@ -5,7 +5,7 @@ use native.Mathlib.Nat.{add-zero}
 use native.Mathlib.Omega.{arith}
 use lib.ListN.{length, drop, length-set}
 use lib.Seq.{sets}
-use Rattle.lines.proofs.Texts.{copy-turn, copy-full, copy-end}
+use Rattle.wire.proofs.Stores.{copy-turn, copy-end}
 use Rattle.lines.proofs.text.copy.Statement.{statement}
 use Rattle.lines.proofs.text.copy.Tie as tie
 
@@ -28,7 +28,7 @@ same-length c = omega arith
 returns : tie.Need-returns Inv-loop μ-loop
 returns c =
     let l = c .before .before .loop in
-    copy-full _ _ _ _ (l .i) (omega arith) (l .inv .3)
+    copy-end _ _ _ _ (l .i) (omega arith) (l .inv .3)
 
 shared-slice-read-dst : tie.Need-shared-slice-read-dst Inv-loop μ-loop
 shared-slice-read-dst c = omega arith
@@ -48,7 +48,7 @@ loop-less c = omega arith
 loop-again : tie.Need-loop-again Inv-loop μ-loop
 loop-again c =
     let l = c .before .before .before .loop in
-    (omega arith, simp length-set (omega arith), simp length-set (l .inv .2), copy-turn _ _ _ _ (l .i) (omega arith) (l .inv .3))
+    (omega arith, simp length-set (omega arith), simp length-set (l .inv .2), copy-turn _ _ _ _ (l .i) _ (omega arith) refl (l .inv .3))
 
 same-length-2 : tie.Need-same-length-2 Inv-loop μ-loop
 same-length-2 c = omega arith

@@ -6,11 +6,11 @@ use Rattle.spans.proofs.eating.ended_due.Tie as tie
 form-in-requires : tie.Need-form-in-requires
 form-in-requires c κs = search needs
 
-cast-t7 : tie.Need-cast-t7
-cast-t7 c = search needs
+cast-t5 : tie.Need-cast-t5
+cast-t5 c = search needs
 
 returns : tie.Need-returns
 returns c = rw (c .before .form-in .ensures)
 
 pub ended-due-spec : {M : Type 1} → statement M
-ended-due-spec = tie.close (tie.spec form-in-requires cast-t7 returns)
+ended-due-spec = tie.close (tie.spec form-in-requires cast-t5 returns)

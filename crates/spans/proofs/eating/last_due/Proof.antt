@@ -3,6 +3,7 @@ use borrow.Author.Needs.{needs}
 use mathlib.Core.Path.{ap, _∙_}
 use borrow.Author.Tests.{lt-ltb, le-ltb, eq-eqb, ne-eqb}
 use Rattle.heads.specs.declared.Head.{Head}
+use Rattle.lines.specs.declared.Ending.the-variants.{Refusal, Captures}
 use Rattle.spans.specs.Eating.{headOf}
 use Rattle.spans.specs.Inside.{dueNow}
 use Rattle.spans.proofs.Eats.{due-sized, due-is}
@@ -31,7 +32,7 @@ returns-2 c =
     let first = h .before .before .before in
     let s = first .before .before in
     let t = s .args .s .tally in
-    due-is (c .ended-due .ensures ∙ ap (λ (x : Head). dueNow x t 2 0 0) (h .head-in .ensures)) (rw (le-ltb _ _ (first .if1 .left), eq-eqb _ 0 (tested .if2 .taken))) (due-sized (headOf (s .args .s)) t _ _ _ (s .pre .1 (first .if1 .left)) (s .pre .0))
+    due-is (c .ended-due .ensures ∙ ap (λ (x : Head). dueNow x t (Captures (t .captures))) (h .head-in .ensures)) (rw (le-ltb _ _ (first .if1 .left), eq-eqb _ 0 (tested .if2 .taken))) (due-sized (headOf (s .args .s)) t _ (s .pre .1 (first .if1 .left)) (s .pre .0))
 
 ended-due-requires-2 : tie.Need-ended-due-requires-2
 ended-due-requires-2 c κs = search needs
@@ -43,7 +44,7 @@ returns-3 c =
     let first = h .before .before .before in
     let s = first .before .before in
     let t = s .args .s .tally in
-    due-is (c .ended-due2 .ensures ∙ ap (λ (x : Head). dueNow x t 1 30 (t .begins)) (h .head-in .ensures)) (rw (le-ltb _ _ (first .if1 .left), ne-eqb _ 0 (tested .if2 .left))) (due-sized (headOf (s .args .s)) t _ _ _ (s .pre .1 (first .if1 .left)) (s .pre .0))
+    due-is (c .ended-due2 .ensures ∙ ap (λ (x : Head). dueNow x t (Refusal 30 (t .begins))) (h .head-in .ensures)) (rw (le-ltb _ _ (first .if1 .left), ne-eqb _ 0 (tested .if2 .left))) (due-sized (headOf (s .args .s)) t _ (s .pre .1 (first .if1 .left)) (s .pre .0))
 
 pub last-due-spec : {M : Type 1} → statement M
 last-due-spec =

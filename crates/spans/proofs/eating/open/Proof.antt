@@ -67,8 +67,8 @@ returns-2 c =
     let code = h .head-code .result in
     no-room (a .s) (headRead code (t .take-head .result)) (t .take-head .result .taken - a .s .taken) (headLines code) (told .before .before .head-due .result) (told .before .before .head-due .ensures .0) (told .before .before .head-due .ensures .1) (now (a .out)) _ (told .tell .result) (told .tell .ensures) _ (whole told) _ (c .refuse .ensures) (tested .if2 .taken)
 
-read-span-requires : tie.Need-read-span-requires
-read-span-requires c κs = search needs
+after-head-requires : tie.Need-after-head-requires
+after-head-requires c κs = search needs
 
 same-length-2 : tie.Need-same-length-2
 same-length-2 c = search needs
@@ -81,7 +81,7 @@ returns-3 c =
     let t = told .before .before .before .before .before .before .before .before .before .before in
     let a = t .before .before .before .args in
     let code = h .head-code .result in
-    room (a .s) (headRead code (t .take-head .result)) (t .take-head .result .taken - a .s .taken) (headLines code) (told .before .before .head-due .result) (told .before .before .head-due .ensures .0) (told .before .before .head-due .ensures .1) (now (a .out)) _ (told .tell .result) (told .tell .ensures) _ (whole told) _ (ap (λ (x : Span). record { code = 1; consumed = t .take-head .result .taken - a .s .taken; wrote = told .tell .result .wrote; span = x }) (c .read-span .ensures)) (tested .if2 .left)
+    room (a .s) (headRead code (t .take-head .result)) (t .take-head .result .taken - a .s .taken) (headLines code) (told .before .before .head-due .result) (told .before .before .head-due .ensures .0) (told .before .before .head-due .ensures .1) (now (a .out)) _ (told .tell .result) (told .tell .ensures) _ (whole told) _ (ap (λ (x : Span). record { code = 1; consumed = t .take-head .result .taken - a .s .taken; wrote = told .tell .result .wrote; span = x }) (c .after-head .ensures)) (tested .if2 .left)
 
 pub open-spec : {M : Type 1} → statement M
 open-spec =
@@ -97,6 +97,6 @@ open-spec =
     refuse-requires
     same-length
     returns-2
-    read-span-requires
+    after-head-requires
     same-length-2
     returns-3)

@@ -1,4 +1,4 @@
--- A run of whole packets that bring no line: what holds from packet to packet.
+-- Whole packets, one behind the other, that bring no line: what holds from packet to packet.
 use Prim.Native.Nat.{ℕ, zero, suc, _+_, _-_, _%_, _≤_, _<_}
 use mathlib.Core.Path.{_≡_, refl, sym, ap, _∙_}
 use mathlib.Core.Bool.{true}
@@ -33,9 +33,9 @@ number-step (suc p) n some small = elim (decLt (p % 65_535 + 1) n) [ yes l ↦ u
         let go : suc p + stepOf (p % 65_535 + 1) n ≡ suc (p + (n + 65_535 - (p % 65_535 + 1))) = omega (arith, step-not-above (p % 65_535 + 1) n l) in
         rw go (omega arith)
 
--- the tally between two packets of the run
-abbrev pub runTally : Tally → ℕ → ℕ → ℕ → ℕ → Tally
-runTally t from at heard position =
+-- the tally between two of them
+abbrev pub tallyAt : Tally → ℕ → ℕ → ℕ → ℕ → Tally
+tallyAt t from at heard position =
     record {
       begins = t .begins + (at - from);
       taken = 0;
@@ -50,8 +50,8 @@ same-tally : (t : Tally) {a b c d : ℕ} → a ≡ t .begins → b ≡ t .taken 
     → record { begins = a; taken = b; header = c; number = d; captures = t .captures; heard = t .heard; position = t .position } ≡ t
 same-tally t p q r s = rw (p, q, r, s)
 
--- What holds between two packets. The run knows its form by the header.
-pub record Running (t : Tally) (piece : List ℕ) (from total front at heard position number next : ℕ) : Type 0 where
+-- What holds between two of them. The form is known by the header.
+pub record Onward (t : Tally) (piece : List ℕ) (from total front at heard position number next : ℕ) : Type 0 where
   pub low : from ≤ at
   pub inside : at ≤ length piece
   pub some : 0 < heard
@@ -59,15 +59,15 @@ pub record Running (t : Tally) (piece : List ℕ) (from total front at heard pos
   pub allowed : position ≤ last
   pub numbered : number ≡ numberAt position
   pub follows : 0 < next → Follows piece at front total number position next
-  pub same : reaching at (formWithHeader front) (runTally t from at heard position) (drop at piece) ≡ reaching from (formWithHeader front) t (drop from piece)
+  pub same : reaching at (formWithHeader front) (tallyAt t from at heard position) (drop at piece) ≡ reaching from (formWithHeader front) t (drop from piece)
 
 module _ (f : Form) (t : Tally) (piece : List ℕ) (from total front : ℕ) (ok : listed f ≡ true) (long : total ≡ totalOf f) (is-front : front ≡ headerOf typeData (totalOf f)) where
   pub form-is : formWithHeader front ≡ f
   form-is = ap formWithHeader is-front ∙ form-with-own f ok
 
-  pub running-start : (number next : ℕ) → Between t → Sane (length piece - from) t → from ≤ length piece → number ≡ numberAt (t .position)
-      → (0 < next → Follows piece from front total number (t .position) next) → Running t piece from total front from (t .heard) (t .position) number next
-  running-start number next b s inside numbered follows =
+  pub onward-start : (number next : ℕ) → Between t → Sane (length piece - from) t → from ≤ length piece → number ≡ numberAt (t .position)
+      → (0 < next → Follows piece from front total number (t .position) next) → Onward t piece from total front from (t .heard) (t .position) number next
+  onward-start number next b s inside numbered follows =
       let none : t .begins + (from - from) ≡ t .begins = omega arith in
       record {
         low = omega arith;
@@ -82,15 +82,15 @@ module _ (f : Form) (t : Tally) (piece : List ℕ) (from total front : ℕ) (ok 
             (same-tally t none (sym (b .taken)) (sym (b .header)) (sym (b .number)));
       }
 
-  pub running-turn : (at heard position number next after last′ : ℕ) → Running t piece from total front at heard position number next → 0 < next
+  pub onward-turn : (at heard position number next after last′ : ℕ) → Onward t piece from total front at heard position number next → 0 < next
       → after ≡ twoAt piece (at + 2) → after ≤ 65_535 → (0 < last′ → Follows piece (at + total) front total after next last′)
-      → Running t piece from total front (at + total) (heard + 1) next after last′
-  running-turn at heard position number next after last′ r some is small follows =
+      → Onward t piece from total front (at + total) (heard + 1) next after last′
+  onward-turn at heard position number next after last′ r some is small follows =
       let x = r .follows some in
       let least = total-least f ok in
       let go : next ≡ position + stepOf (numberAt position) after = x .here ∙ rw (r .numbered, is) in
       let packet : Follows piece at (headerOf typeData (totalOf f)) total (numberAt position) position next = rw (is-front, r .numbered) at x in
-      let now : Tally = runTally t from at heard position in
+      let now : Tally = tallyAt t from at heard position in
       let step : reaching at (formWithHeader front) now (drop at piece) ≡ reaching (at + total) (formWithHeader front) (followed now total next) (drop (at + total) piece)
       = rw form-is (reach-follows f now piece at total next ok refl (r .some) long packet) in
       let on : t .begins + (at - from) + total ≡ t .begins + (at + total - from) = omega (arith, r .low) in
@@ -105,10 +105,10 @@ module _ (f : Form) (t : Tally) (piece : List ℕ) (from total front : ℕ) (ok 
         same = ap (λ (k : ℕ). reaching (at + total) (formWithHeader front) (record { begins = k; taken = 0; header = 0; number = 0; captures = t .captures; heard = heard + 1; position = next }) (drop (at + total) piece)) (sym on) ∙ sym step ∙ r .same;
       }
 
-  pub running-end : (at heard position number next : ℕ) → Running t piece from total front at heard position number next → Sane (length piece - from) t
-      → Goes f t piece from (record { at = at; code = 0; tally = runTally t from at heard position })
+  pub onward-end : (at heard position number next : ℕ) → Onward t piece from total front at heard position number next → Sane (length piece - from) t
+      → Goes f t piece from (record { at = at; code = 0; tally = tallyAt t from at heard position })
   unfolding goesOn
-  running-end at heard position number next r s =
+  onward-end at heard position number next r s =
       record {
         same = rw form-is at (r .same);
         inside = r .inside;

@@ -4,9 +4,9 @@ use mathlib.Core.Path.{_≡_, refl, sym, ap, _∙_}
 use borrow.Author.Tests.{ne-eqb}
 use Rattle.hearing.specs.declared.Tally.{Tally}
 use Rattle.hearing.specs.Hearing.{heardCode}
-use Rattle.hearing.proofs.Heard.{came-by}
-use Rattle.hearing.proofs.coming.come_to.Statement.{statement}
-use Rattle.hearing.proofs.coming.come_to.Tie as tie
+use Rattle.hearing.proofs.Heard.{settled-by}
+use Rattle.hearing.proofs.coming.settle.Statement.{statement}
+use Rattle.hearing.proofs.coming.settle.Tie as tie
 
 one : (c : tie.Then2) → heardCode (c .before .before .before .args .f) (c .before .before .before .args .t) ≡ 1
 one c = sym (c .before .before .code-of .ensures) ∙ c .if2 .taken
@@ -15,13 +15,13 @@ code-of-requires : tie.Need-code-of-requires
 code-of-requires c κs = search needs
 
 returns : tie.Need-returns
-returns c = sym (came-by _ _ _ (sym (c .before .code-of .ensures) ∙ c .if1 .taken) refl)
+returns c = sym (settled-by _ _ _ (sym (c .before .code-of .ensures) ∙ c .if1 .taken) refl)
 
-is-close-requires : tie.Need-is-close-requires
-is-close-requires c κs = search needs
+closes-requires : tie.Need-closes-requires
+closes-requires c κs = search needs
 
 returns-2 : tie.Need-returns-2
-returns-2 c = sym (came-by _ _ _ (one (c .before .before)) (sym (c .before .is-close .ensures) ∙ c .if3 .taken))
+returns-2 c = sym (settled-by _ _ _ (one (c .before .before)) (sym (c .before .closes .ensures) ∙ c .if3 .taken))
 
 accept-requires : tie.Need-accept-requires
 accept-requires c κs = search needs
@@ -30,20 +30,20 @@ returns-3 : tie.Need-returns-3
 returns-3 c =
     let e = c .before in
     ap (λ (x : Tally). record { at = e .before .before .before .before .before .args .n; code = 0; tally = x }) (c .accept .ensures)
-    ∙ sym (came-by _ _ _ (one (e .before .before)) (sym (e .before .is-close .ensures) ∙ e .if3 .left))
+    ∙ sym (settled-by _ _ _ (one (e .before .before)) (sym (e .before .closes .ensures) ∙ e .if3 .left))
 
 returns-4 : tie.Need-returns-4
 returns-4 c =
     let h = c .before .before in
-    sym (came-by _ _ _ (sym (h .code-of .ensures)) refl ∙ rw (ne-eqb _ 0 (c .before .if1 .left), ne-eqb _ 1 (c .if2 .left)))
+    sym (settled-by _ _ _ (sym (h .code-of .ensures)) refl ∙ rw (ne-eqb _ 0 (c .before .if1 .left), ne-eqb _ 1 (c .if2 .left)))
 
-pub come-to-spec : {M : Type 1} → statement M
-come-to-spec =
+pub settle-spec : {M : Type 1} → statement M
+settle-spec =
     tie.close
     (tie.spec
     code-of-requires
     returns
-    is-close-requires
+    closes-requires
     returns-2
     accept-requires
     returns-3

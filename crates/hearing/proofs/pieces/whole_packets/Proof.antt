@@ -1,4 +1,4 @@
--- The run's law is the loop's invariant.
+-- What holds from packet to packet is the loop's invariant.
 use Prim.Native.Nat.{ℕ, _+_, _-_, _/_, _≤_, _<_}
 use mathlib.Core.Path.{_≡_, refl, ap, _∙_}
 use native.Mathlib.Omega.{arith}
@@ -11,14 +11,14 @@ use Rattle.packets.proofs.Forms.{is-listed-form}
 use Rattle.hearing.specs.Inside.{goesOn, Between, twoAt}
 use Rattle.hearing.proofs.Heard.{total-is, word-number}
 use Rattle.hearing.proofs.Reaches.{total-least}
-use Rattle.hearing.proofs.Runs.{Running, running-start, running-turn, running-end}
+use Rattle.hearing.proofs.WholePackets.{Onward, onward-start, onward-turn, onward-end}
 use borrow.Author.Needs.{needs}
-use Rattle.hearing.proofs.pieces.run.Statement.{statement}
-use Rattle.hearing.proofs.pieces.run.Tie as tie
+use Rattle.hearing.proofs.pieces.whole_packets.Statement.{statement}
+use Rattle.hearing.proofs.pieces.whole_packets.Tie as tie
 
 abbrev Inv-loop : tie.InvT-loop
 Inv-loop t piece from total header at₀ heard₀ position₀ before₀ next₀ at heard position before next =
-    Running t piece from total header at heard position before next
+    Onward t piece from total header at heard position before next
 
 abbrev μ-loop : tie.MeasureT-loop
 μ-loop t piece from total header at₀ heard₀ position₀ before₀ next₀ at heard position before next = length piece - at
@@ -81,7 +81,7 @@ loop-holds : tie.Need-loop-holds Inv-loop μ-loop
 loop-holds c =
     let d = c .before .before .before in
     let pre = d .before .before .before .before .pre in
-    running-start _ _ _ _ _ _ (pre .0) (total d) (header (c .before .before)) _ _ (between (d .before)) (pre .2) (pre .1) (c .before .number-at-position .ensures) (c .follow .ensures)
+    onward-start _ _ _ _ _ _ (pre .0) (total d) (header (c .before .before)) _ _ (between (d .before)) (pre .2) (pre .1) (c .before .number-at-position .ensures) (c .follow .ensures)
 
 word-requires : tie.Need-word-requires Inv-loop μ-loop
 word-requires c κs =
@@ -119,7 +119,7 @@ loop-again c =
     let w = c .before in
     let l = w .before .before in
     let s = l .before .before .before .before .before .before .before .before in
-    running-turn _ _ _ _ _ _ (s .pre .0) (total (l .before .before .before .before)) (header (l .before .before .before)) _ _ _ _ _ _ _ (l .loop .inv) (w .before .loop-test .taken) (number w) (omega arith) (c .follow2 .ensures)
+    onward-turn _ _ _ _ _ _ (s .pre .0) (total (l .before .before .before .before)) (header (l .before .before .before)) _ _ _ _ _ _ _ (l .loop .inv) (w .before .loop-test .taken) (number w) (omega arith) (c .follow2 .ensures)
 
 sub-t20 : tie.Need-sub-t20 Inv-loop μ-loop
 sub-t20 c = omega (arith, c .before .loop .inv .low)
@@ -134,10 +134,10 @@ returns-2 : tie.Need-returns-2 Inv-loop μ-loop
 returns-2 c =
     let l = c .before .before in
     let s = l .before .before .before .before .before .before .before .before in
-    (running-end _ _ _ _ _ _ (s .pre .0) (total (l .before .before .before .before)) (header (l .before .before .before)) _ _ _ _ _ (l .loop .inv) (s .pre .2), l .loop .inv .low)
+    (onward-end _ _ _ _ _ _ (s .pre .0) (total (l .before .before .before .before)) (header (l .before .before .before)) _ _ _ _ _ (l .loop .inv) (s .pre .2), l .loop .inv .low)
 
-pub run-spec : {M : Type 1} → statement M
-run-spec =
+pub whole-packets-spec : {M : Type 1} → statement M
+whole-packets-spec =
     tie.close
     (tie.spec
     Inv-loop
