@@ -3,8 +3,8 @@ use mathlib.Core.Path.{refl}
 use mathlib.Core.List.{[], _∷_}
 use borrow.Author.Needs.{needs}
 use Rattle.replies.proofs.Tags.{widths, width-in}
-use Rattle.replies.proofs.width_of.Statement.{statement}
-use Rattle.replies.proofs.width_of.Tie as tie
+use Rattle.replies.proofs.awaited.width_of.Statement.{statement}
+use Rattle.replies.proofs.awaited.width_of.Tie as tie
 
 enum-told : tie.Need-enum-told
 enum-told c = search needs

@@ -10,8 +10,8 @@ use Rattle.wire.specs.Number.{bytes}
 use Rattle.wire.proofs.Laws.{and-both, and-not-left}
 use Rattle.items.specs.Settings.{allSerial}
 use Rattle.replies.proofs.Bytes.{serial-turn}
-use Rattle.replies.proofs.is_serial.Statement.{statement}
-use Rattle.replies.proofs.is_serial.Tie as tie
+use Rattle.replies.proofs.awaited.is_serial.Statement.{statement}
+use Rattle.replies.proofs.awaited.is_serial.Tie as tie
 
 abbrev Inv-loop : tie.InvT-loop
 Inv-loop n rest₀ i₀ rest i = (i ≤ 8) × (allSerial (bytes (8 - i) rest) ≡ allSerial (bytes 8 n))

@@ -3,8 +3,8 @@ use mathlib.Core.Path.{refl, sym}
 use mathlib.Core.List.{_++_, [], _∷_}
 use Rattle.items.proofs.Keys.{matched, unmatched}
 use Rattle.replies.specs.Awaited.{idleShown, runShown}
-use Rattle.replies.proofs.is_state.Statement.{statement}
-use Rattle.replies.proofs.is_state.Tie as tie
+use Rattle.replies.proofs.awaited.is_state.Statement.{statement}
+use Rattle.replies.proofs.awaited.is_state.Tie as tie
 
 returns : tie.Need-returns
 returns c = sym (matched (0x180 ∷ 0x280 ∷ 0x80_0180 ∷ 0x80_0280 ∷ []) (idleShown ++ runShown) (c .before .args .n) refl (c .match .keys1))

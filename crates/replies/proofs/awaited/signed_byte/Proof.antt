@@ -4,8 +4,8 @@ use native.Mathlib.Omega.{arith}
 use mir.Facts.{toZ-ofZ}
 use borrow.Author.Needs.{needs}
 use Rattle.replies.proofs.Bytes.{byte-signed, lowered, lowered-fits, lowered-wide, lowered-signed}
-use Rattle.replies.proofs.signed_byte.Statement.{statement}
-use Rattle.replies.proofs.signed_byte.Tie as tie
+use Rattle.replies.proofs.awaited.signed_byte.Statement.{statement}
+use Rattle.replies.proofs.awaited.signed_byte.Tie as tie
 
 byte : (c : tie.Else1) → c .before .args .byte < 256
 byte c = omega arith

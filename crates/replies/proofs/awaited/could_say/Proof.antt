@@ -7,8 +7,8 @@ use Rattle.items.proofs.Keys.{matched}
 use Rattle.replies.proofs.Tags.{echoed, echoes}
 use Rattle.rates.proofs.Rates.{rate-listed}
 use Rattle.replies.proofs.Recognised.{rate-achieved}
-use Rattle.replies.proofs.could_say.Statement.{statement}
-use Rattle.replies.proofs.could_say.Tie as tie
+use Rattle.replies.proofs.awaited.could_say.Statement.{statement}
+use Rattle.replies.proofs.awaited.could_say.Tie as tie
 
 enum-told : tie.Need-enum-told
 enum-told c = search needs

@@ -7,8 +7,8 @@ use borrow.Author.Needs.{needs}
 use borrow.Author.Tests.{eq-eqb, ne-eqb}
 use Rattle.items.proofs.Keys.{matched, unmatched}
 use Rattle.replies.specs.Awaited.{idleShown}
-use Rattle.replies.proofs.state_could.Statement.{statement}
-use Rattle.replies.proofs.state_could.Tie as tie
+use Rattle.replies.proofs.awaited.state_could.Statement.{statement}
+use Rattle.replies.proofs.awaited.state_could.Tie as tie
 
 returns : tie.Need-returns
 returns c = simp (eq-eqb _ _ (c .before .if1 .taken)) (sym (matched (0x180 ∷ 0x80_0180 ∷ []) idleShown (c .before .before .before .args .n) refl (c .match .keys1)))

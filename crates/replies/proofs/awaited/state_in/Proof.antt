@@ -3,8 +3,8 @@ use Prim.Native.Nat.{_/_}
 use mathlib.Core.Path.{_≡_}
 use native.Mathlib.Omega.{arith}
 use borrow.Author.Needs.{needs}
-use Rattle.replies.proofs.state_in.Statement.{statement}
-use Rattle.replies.proofs.state_in.Tie as tie
+use Rattle.replies.proofs.awaited.state_in.Statement.{statement}
+use Rattle.replies.proofs.awaited.state_in.Tie as tie
 
 cast-t4 : tie.Need-cast-t4
 cast-t4 c = search needs

@@ -8,8 +8,8 @@ use Rattle.wire.specs.Signed.{signed}
 use Rattle.replies.specs.declared.Reply.the-variants.{Frequency, Gain, Clock, Rate, PacketSize}
 use Rattle.replies.specs.Awaited.{saysState}
 use Rattle.replies.proofs.Tags.{widths, width-in, sayings, says-in}
-use Rattle.replies.proofs.says.Statement.{statement}
-use Rattle.replies.proofs.says.Tie as tie
+use Rattle.replies.proofs.awaited.says.Statement.{statement}
+use Rattle.replies.proofs.awaited.says.Tie as tie
 
 enum-told : tie.Need-enum-told
 enum-told c = search needs
