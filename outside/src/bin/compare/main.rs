@@ -231,9 +231,10 @@ fn random_reading(c: &mut Comparison, r: &mut Random, times: u64) {
     for _ in 0..times {
         let (mut reader, packet) = inputs::reading(r);
         reader = c.read(&reader, &packet);
-        // and on from where it came to
+        // and on from where it came to, mostly in the form that it has heard
+        let heard = Form::of_packet(&packet).unwrap_or(Form::LARGE_24);
         for _ in 0..r.size(4) {
-            let form = if r.once_in(16) { inputs::form(r) } else { Form::LISTED[packet.len() % 4] };
+            let form = if r.once_in(16) { inputs::form(r) } else { heard };
             let number = if r.once_in(6) { 0 } else { r.any() as u16 };
             let packet = inputs::packet(r, form, number);
             reader = c.read(&reader, &packet);
@@ -458,10 +459,11 @@ fn every_packet_header(c: &mut Comparison) {
 
 /// A sample of each 24-bit value, cut in every form and unpacked.
 fn every_sample(c: &mut Comparison) {
-    for form in [Form::LARGE_24, Form::LARGE_16] {
+    for form in Form::LISTED {
         let mut station = outside::Station::fresh(b"MT123456").0;
         station.settings.running = true;
         station.settings.mode = if form.bits == 24 { 0x80 } else { 0x00 };
+        station.settings.size = (form == Form::SMALL_24 || form == Form::SMALL_16).into();
         let state = outside::boundary::station_bytes(&station).to_vec();
         let mut next = -8_388_608;
         while next <= 8_388_607 {
