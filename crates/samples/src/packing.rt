@@ -69,8 +69,8 @@ fn joined(code: u32, upper: u16) -> u32
 
 // Keeps of each number the 16 bits that would be sent, and tells whether all are samples. One loop does both, since it is
 // the reading of the samples that takes the time.
-fn narrow(samples: &[i32], held: &mut [u16; 512]) -> bool
-    requires { ⌜ length (now samples) ≤ 512 ⌝ }
+fn narrow(samples: &[i32], held: &mut [u16]) -> bool
+    requires { ⌜ length (now samples) ≤ length (now held) ⌝ }
     ensures { λ r.
         ⌜ (r ≡ allSamples (now (samples .entry)))
         × (now (held .exit) ≡ sets (now (held .entry)) 0 (map (λ z. coded 32 (narrowed 16 z) % 65536) (now (samples .entry)))) ⌝ }
@@ -90,15 +90,14 @@ fn narrow(samples: &[i32], held: &mut [u16; 512]) -> bool
 
 // Writes all samples in three bytes each, unless one is outside 24 bits. The upper two bytes of each are those kept for the
 // 16-bit form: bytes that come out of 16-bit numbers are sorted by fewer steps of the processor than out of 32-bit ones.
-fn pack24(samples: &[i32], packet: &mut [u8]) -> bool
-    requires { ⌜ (length (now samples) ≤ 512) × (4 + 3 * length (now samples) ≤ length (now packet)) ⌝ }
+fn pack24_by(held: &mut [u16], samples: &[i32], packet: &mut [u8]) -> bool
+    requires { ⌜ (length (now samples) ≤ length (now held)) × (4 + 3 * length (now samples) ≤ length (now packet)) ⌝ }
     ensures { λ r.
         ⌜ (r ≡ allSamples (now (samples .entry)))
         × (now (packet .exit)
         ≡ sets (now (packet .entry)) 4 (pick (allSamples (now (samples .entry))) (samplesBytes 24 (now (samples .entry))) [])) ⌝ }
 {
-    let mut held = [0u16; 512];
-    if !narrow(samples, &mut held) {
+    if !narrow(samples, held) {
         return false;
     }
     let mut i = 0;
@@ -107,6 +106,22 @@ fn pack24(samples: &[i32], packet: &mut [u8]) -> bool
         i += 1;
     }
     true
+}
+
+// Lends it an array that is not much longer than the samples need, since an array is cleared first.
+fn pack24(samples: &[i32], packet: &mut [u8]) -> bool
+    requires { ⌜ (length (now samples) ≤ 512) × (4 + 3 * length (now samples) ≤ length (now packet)) ⌝ }
+    ensures { λ r.
+        ⌜ (r ≡ allSamples (now (samples .entry)))
+        × (now (packet .exit)
+        ≡ sets (now (packet .entry)) 4 (pick (allSamples (now (samples .entry))) (samplesBytes 24 (now (samples .entry))) [])) ⌝ }
+{
+    if samples.len() <= 128 {
+        let mut few = [0u16; 128];
+        return pack24_by(&mut few, samples, packet);
+    }
+    let mut many = [0u16; 512];
+    pack24_by(&mut many, samples, packet)
 }
 
 // Writes all samples in two bytes each, I and Q of a pair at once, unless one is outside 24 bits.
