@@ -1,6 +1,5 @@
 -- `samples::packing::pack24` meets its contract: either array is long enough.
-use mathlib.Core.Path.{_≡_, refl}
-use native.Mathlib.Omega.{arith}
+use mathlib.Core.Path.{refl}
 use borrow.Author.Needs.{needs}
 use Rattle.samples.proofs.packing.pack24.Statement.{statement}
 use Rattle.samples.proofs.packing.pack24.Tie as tie
