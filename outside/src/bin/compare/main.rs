@@ -9,12 +9,15 @@ mod inputs;
 
 use std::collections::BTreeMap;
 use std::fmt::Debug;
-use std::process::ExitCode;
+use std::process::{exit, ExitCode};
 
 use outside::boundary::{station_in, wish, Library, Plain, READER_BYTES, STATION_BYTES};
 use outside::boundary::{ASK_RATE, ASK_VERSION, SET_CLOCK, SET_FREQUENCY, SET_GAIN, SET_RATE, SET_SIZE, SET_STATE};
 use outside::random::Random;
 use outside::{rate, Form, Reader};
+
+/// After so many differences the rest would say nothing new.
+const MOST_SHOWN: u64 = 10;
 
 struct Comparison<'a> {
     plain: &'a dyn Library,
@@ -37,8 +40,10 @@ impl Comparison<'_> {
         *self.seen.entry(call).or_default().entry(code).or_default() += 1;
         if ours != other {
             self.differences += 1;
-            if self.differences <= 10 {
-                println!("DIFFERENCE in {call}\n  input  {}\n  plain  {ours:02X?}\n  other  {other:02X?}", input());
+            println!("DIFFERENCE in {call}\n  input  {}\n  plain  {ours:02X?}\n  other  {other:02X?}", input());
+            if self.differences == MOST_SHOWN {
+                println!("{MOST_SHOWN} differences: no more are looked for");
+                exit(1);
             }
         }
     }
