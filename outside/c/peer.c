@@ -297,9 +297,14 @@ static int cut(struct station *s, const int32_t *samples, size_t n, uint8_t *pac
     if (s->count == 4000000000u) return 25;
     size_t pairs = s->mode ? (s->size ? 64 : 240) : (s->size ? 128 : 256);
     if (n != 2 * pairs) return 23;
-    bool bad = false;
-    for (size_t i = 0; i < n; i++) bad |= samples[i] < -8388608 || samples[i] > 8388607;
-    if (bad) return 24;
+    /* the least and the greatest: gcc makes no vectors of a flag */
+    int32_t least = 0, greatest = 0;
+    for (size_t i = 0; i < n; i++) {
+        int32_t x = samples[i];
+        least = x < least ? x : least;
+        greatest = x > greatest ? x : greatest;
+    }
+    if (least < -8388608 || greatest > 8388607) return 24;
     size_t total = 4 + n * (s->mode ? 3 : 2);
     if (room < total) return 20;
     put(packet, 0x8000 | total, 2);

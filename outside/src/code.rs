@@ -1,4 +1,5 @@
-//! What comes back: the codes of document 01 by the names that the proved crates give them, in its table's order.
+//! What comes back: the codes of document 01 in its table's order. Their names, and nothing else here, are taken from the
+//! proved crates, so that a difference can be told in one set of words.
 
 #[derive(Clone, Copy, Debug, PartialEq, Eq)]
 #[repr(u8)]

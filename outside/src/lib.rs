@@ -1,8 +1,8 @@
 //! Document 01 in plain safe Rust: the box, the harvester and the span text.
 //!
-//! Written from the document alone, without a look at the proved crates' rules, so that a difference between the two
-//! says that one of them misread it. It is also the peer that the benchmarks time: iterators over exact chunks, state
-//! behind `&mut self`, nothing copied that can be borrowed.
+//! Written from the document alone, without a look at the proved crates' rules (names of codes apart), so that a
+//! difference between the two says that one of them misread it. It is also the peer that the benchmarks time: iterators
+//! over exact chunks, state behind `&mut self`, nothing copied that can be borrowed.
 
 pub mod boundary;
 pub mod code;

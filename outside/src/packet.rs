@@ -83,12 +83,13 @@ pub fn write(form: Form, position: u64, samples: &[i32], packet: &mut [u8]) {
     packet[2..4].copy_from_slice(&number_at(position).to_le_bytes());
     let body = &mut packet[4..];
     if form.bits == 24 {
-        for (place, sample) in body.chunks_exact_mut(3).zip(samples) {
-            place.copy_from_slice(&sample.to_le_bytes()[..3]);
+        for (place, sample) in body.as_chunks_mut::<3>().0.iter_mut().zip(samples) {
+            let [a, b, c, _] = sample.to_le_bytes();
+            *place = [a, b, c];
         }
     } else {
-        for (place, sample) in body.chunks_exact_mut(2).zip(samples) {
-            place.copy_from_slice(&((sample >> 8) as i16).to_le_bytes());
+        for (place, sample) in body.as_chunks_mut::<2>().0.iter_mut().zip(samples) {
+            *place = ((sample >> 8) as i16).to_le_bytes();
         }
     }
 }

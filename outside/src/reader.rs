@@ -71,12 +71,12 @@ pub fn unpack(packet: &[u8], numbers: &mut [i32]) -> Result<usize, Code> {
     let numbers = numbers.get_mut(..form.samples()).ok_or(Code::NoRoom)?;
     let body = &packet[4..];
     if form.bits == 24 {
-        for (number, b) in numbers.iter_mut().zip(body.chunks_exact(3)) {
-            *number = i32::from_le_bytes([0, b[0], b[1], b[2]]) >> 8;
+        for (number, &[a, b, c]) in numbers.iter_mut().zip(body.as_chunks::<3>().0) {
+            *number = i32::from_le_bytes([0, a, b, c]) >> 8;
         }
     } else {
-        for (number, b) in numbers.iter_mut().zip(body.chunks_exact(2)) {
-            *number = i16::from_le_bytes([b[0], b[1]]).into();
+        for (number, &b) in numbers.iter_mut().zip(body.as_chunks::<2>().0) {
+            *number = i16::from_le_bytes(b).into();
         }
     }
     Ok(numbers.len())

@@ -1,6 +1,6 @@
 -- Two's complement without a branch: a number lifted by half a turn, which makes it whole, and by half a turn more.
 -- Assumes nothing.
-use Prim.Native.Nat.{ℕ, zero, suc, _+_, _-_, _%_, _^_, _≤_, _<_}
+use Prim.Native.Nat.{ℕ, zero, suc, _+_, _*_, _-_, _%_, _^_, _≤_, _<_}
 use mathlib.Core.Path.{_≡_, refl, ap, _∙_}
 use mathlib.Core.Bool.{true}
 use native.Mathlib.Nat.{div-one, add-mod-right, mod-eq-of-lt, mod-eq-sub-mod}
@@ -69,6 +69,11 @@ lowOf z = coded 32 (narrowed 16 z) % 65_536
 pub low-sample : (z : ℤ) → isSample z ≡ true → lowOf z ≡ coded 16 (narrowed 16 z)
 low-sample (pos n) s = omega (arith, ltb-true n 8_388_608 s)
 low-sample (negsuc n) s = omega (arith, ltb-true n 8_388_608 s)
+
+-- and the upper 16 of the 24
+pub upper-sample : (z : ℤ) → isSample z ≡ true → coded 24 (narrowed 24 z) % 256 + 256 * coded 16 (narrowed 16 z) ≡ coded 24 (narrowed 24 z)
+upper-sample (pos n) s = omega arith
+upper-sample (negsuc n) s = omega (arith, ltb-true n 8_388_608 s)
 
 -- ---- and back: a code lifted by half a turn, the whole turns taken off, and the half turn taken off again
 

@@ -43,13 +43,11 @@ fn feed_pieces(what: &str, size: usize, rounds: usize) {
     row(what, &found, None);
 }
 
+/// One call of feeding: code, bytes consumed, bytes of reply.
+type Feed = fn(&mut [u8], &[u8], &mut [u8]) -> (u8, usize, usize);
+
 /// How many bytes of reply a fresh box writes.
-fn by_pieces(
-    host: &[u8],
-    size: usize,
-    replies: &mut [u8],
-    feed: fn(&mut [u8], &[u8], &mut [u8]) -> (u8, usize, usize),
-) -> u64 {
+fn by_pieces(host: &[u8], size: usize, replies: &mut [u8], feed: Feed) -> u64 {
     let mut state = boundary::station_bytes(&Station::fresh(b"MT123456").0);
     let mut at = 0;
     for mut piece in host.chunks(size) {

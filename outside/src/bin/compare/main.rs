@@ -9,12 +9,15 @@ mod inputs;
 
 use std::collections::BTreeMap;
 use std::fmt::Debug;
-use std::process::ExitCode;
+use std::process::{exit, ExitCode};
 
 use outside::boundary::{station_in, wish, Library, Plain, READER_BYTES, STATION_BYTES};
 use outside::boundary::{ASK_RATE, ASK_VERSION, SET_CLOCK, SET_FREQUENCY, SET_GAIN, SET_RATE, SET_SIZE, SET_STATE};
 use outside::random::Random;
 use outside::{rate, Form, Reader};
+
+/// After so many differences the rest would say nothing new.
+const MOST_SHOWN: u64 = 10;
 
 struct Comparison<'a> {
     plain: &'a dyn Library,
@@ -37,8 +40,10 @@ impl Comparison<'_> {
         *self.seen.entry(call).or_default().entry(code).or_default() += 1;
         if ours != other {
             self.differences += 1;
-            if self.differences <= 10 {
-                println!("DIFFERENCE in {call}\n  input  {}\n  plain  {ours:02X?}\n  other  {other:02X?}", input());
+            println!("DIFFERENCE in {call}\n  input  {}\n  plain  {ours:02X?}\n  other  {other:02X?}", input());
+            if self.differences == MOST_SHOWN {
+                println!("{MOST_SHOWN} differences: no more are looked for");
+                exit(1);
             }
         }
     }
@@ -231,9 +236,10 @@ fn random_reading(c: &mut Comparison, r: &mut Random, times: u64) {
     for _ in 0..times {
         let (mut reader, packet) = inputs::reading(r);
         reader = c.read(&reader, &packet);
-        // and on from where it came to
+        // and on from where it came to, mostly in the form that it has heard
+        let heard = Form::of_packet(&packet).unwrap_or(Form::LARGE_24);
         for _ in 0..r.size(4) {
-            let form = if r.once_in(16) { inputs::form(r) } else { Form::LISTED[packet.len() % 4] };
+            let form = if r.once_in(16) { inputs::form(r) } else { heard };
             let number = if r.once_in(6) { 0 } else { r.any() as u16 };
             let packet = inputs::packet(r, form, number);
             reader = c.read(&reader, &packet);
@@ -458,10 +464,11 @@ fn every_packet_header(c: &mut Comparison) {
 
 /// A sample of each 24-bit value, cut in every form and unpacked.
 fn every_sample(c: &mut Comparison) {
-    for form in [Form::LARGE_24, Form::LARGE_16] {
+    for form in Form::LISTED {
         let mut station = outside::Station::fresh(b"MT123456").0;
         station.settings.running = true;
         station.settings.mode = if form.bits == 24 { 0x80 } else { 0x00 };
+        station.settings.size = (form == Form::SMALL_24 || form == Form::SMALL_16).into();
         let state = outside::boundary::station_bytes(&station).to_vec();
         let mut next = -8_388_608;
         while next <= 8_388_607 {

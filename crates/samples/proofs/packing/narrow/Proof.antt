@@ -8,7 +8,7 @@ use native.Mathlib.Omega.{arith}
 use borrow.Author.Needs.{needs, sfits-of}
 use denote.Ref.{now}
 use lib.IntN.{pos}
-use lib.ListN.{length, getD, drop}
+use lib.ListN.{length, getD, drop, length-set}
 use lib.Seq.{sets}
 use mir.Syntax.{w32}
 use mir.Val.{toZ}
@@ -23,6 +23,7 @@ use Rattle.samples.proofs.packing.narrow.Tie as tie
 abbrev Inv-loop : tie.InvT-loop
 Inv-loop samples held₀ least₀ greatest₀ i₀ held least greatest i =
     (i ≤ length samples)
+    × (length held ≡ length held₀)
     × (insideOf (toZ w32 least) (toZ w32 greatest) && allSamples (drop i samples) ≡ allSamples samples)
     × (sets held i (map lowOf (drop i samples)) ≡ sets held₀ 0 (map lowOf samples))
 
@@ -30,7 +31,7 @@ abbrev μ-loop : tie.MeasureT-loop
 μ-loop samples held₀ least₀ greatest₀ i₀ held least greatest i = length samples - i
 
 loop-holds : tie.Need-loop-holds Inv-loop μ-loop
-loop-holds c = (search needs, refl, refl)
+loop-holds c = (search needs, refl, refl, refl)
 
 mul-x : tie.Need-mul-x Inv-loop μ-loop
 mul-x c = search needs
@@ -50,8 +51,8 @@ code16-requires c κs = tt
 mul-held : tie.Need-mul-held Inv-loop μ-loop
 mul-held c = omega arith
 
-element-write-held : tie.Need-element-write-held Inv-loop μ-loop
-element-write-held c = omega arith
+slice-write-held : tie.Need-slice-write-held Inv-loop μ-loop
+slice-write-held c = omega arith
 
 add-i : tie.Need-add-i Inv-loop μ-loop
 add-i c = omega arith
@@ -60,7 +61,7 @@ loop-less : tie.Need-loop-less Inv-loop μ-loop
 loop-less c = omega arith
 
 -- what is kept is of the i-th number
-kept : (c : tie.After-code16 Inv-loop μ-loop) → c .code16 .result ≡ lowOf (getD (now (c .before .before .before .before .before .before .args .samples)) (c .before .before .before .before .before .loop .i) (pos 0))
+kept : (c : tie.After-code16 Inv-loop μ-loop) → c .code16 .result ≡ lowOf (getD (now (c .before .before .before .before .before .before .before .args .samples)) (c .before .before .before .before .before .loop .i) (pos 0))
 kept c = c .code16 .ensures ∙ rw (toZ-ofZ (sfits-of (c .before .before .before .x .given)))
 
 loop-again : tie.Need-loop-again Inv-loop μ-loop
@@ -68,22 +69,26 @@ loop-again c =
     let g = c .before in
     let x = g .before .before in
     let l = x .before .before in
-    let a = l .before .args in (
+    let a = l .before .before .args in (
       omega arith,
+      simp length-set (l .loop .inv .1),
       rw (toZ-ofZ {z = g .before .lesser .result} (sfits-of (g .before .lesser .ok)), toZ-ofZ {z = g .greater .result} (sfits-of (g .greater .ok)))
-          (look-turn (now (a .samples)) (l .loop .i) (toZ w32 (l .loop .least)) (toZ w32 (l .loop .greatest)) _ _ _ (x .before .loop-test .taken) (toZ-ofZ (sfits-of (x .x .given))) (g .before .lesser .ensures) (g .greater .ensures) (l .loop .inv .1)),
-      keep-turn lowOf (now (a .samples)) (l .loop .held) _ (l .loop .i) _ (x .before .loop-test .taken) (kept c) (l .loop .inv .2),
+          (look-turn (now (a .samples)) (l .loop .i) (toZ w32 (l .loop .least)) (toZ w32 (l .loop .greatest)) _ _ _ (x .before .loop-test .taken) (toZ-ofZ (sfits-of (x .x .given))) (g .before .lesser .ensures) (g .greater .ensures) (l .loop .inv .2)),
+      keep-turn lowOf (now (a .samples)) (l .loop .held) _ (l .loop .i) _ (x .before .loop-test .taken) (kept c) (l .loop .inv .3),
     )
 
 inside-requires : tie.Need-inside-requires Inv-loop μ-loop
 inside-requires c κs = tt
 
+same-length : tie.Need-same-length Inv-loop μ-loop
+same-length c = c .before .before .loop .inv .1
+
 returns : tie.Need-returns Inv-loop μ-loop
 returns c =
     let l = c .before .before in
-    let zs = now (l .before .args .samples) in (
-      c .inside .ensures ∙ look-end zs (l .loop .i) (toZ w32 (l .loop .least)) (toZ w32 (l .loop .greatest)) (c .before .loop-test .left) (l .loop .inv .1),
-      keep-end lowOf zs (l .loop .held) _ (l .loop .i) (c .before .loop-test .left) (l .loop .inv .2),
+    let zs = now (l .before .before .args .samples) in (
+      c .inside .ensures ∙ look-end zs (l .loop .i) (toZ w32 (l .loop .least)) (toZ w32 (l .loop .greatest)) (c .before .loop-test .left) (l .loop .inv .2),
+      keep-end lowOf zs (l .loop .held) _ (l .loop .i) (c .before .loop-test .left) (l .loop .inv .3),
     )
 
 pub narrow-spec : {M : Type 1} → statement M
@@ -99,9 +104,10 @@ narrow-spec =
     greater-requires
     code16-requires
     mul-held
-    element-write-held
+    slice-write-held
     add-i
     loop-less
     loop-again
     inside-requires
+    same-length
     returns)

@@ -56,7 +56,9 @@ pack24-requires : tie.Need-pack24-requires
 pack24-requires c κs =
     let r = c .before .before .before in
     let u = r .before .before in
-    room-for (u .before .before .before .before .before .args .f) 3 _ _ (ap (λ (b : ℕ). b / 8) (c .before .if4 .taken)) (u .if2 .left) (room r)
+    let e = u .before .before in
+    let f = e .before .before .before .args .f in
+    (omega (arith, is-listed-form f (form e) .few), room-for f 3 _ _ (ap (λ (b : ℕ). b / 8) (c .before .if4 .taken)) (u .if2 .left) (room r))
 
 same-length : tie.Need-same-length
 same-length c = search needs

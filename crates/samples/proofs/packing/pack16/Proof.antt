@@ -21,21 +21,24 @@ Inv-loop samples packet₀ pairs held i₀ packet i =
 abbrev μ-loop : tie.MeasureT-loop
 μ-loop samples packet₀ pairs held i₀ packet i = pairs - i
 
+slice-aggregate-narrow : tie.Need-slice-aggregate-narrow Inv-loop μ-loop
+slice-aggregate-narrow c = refl
+
 narrow-requires : tie.Need-narrow-requires Inv-loop μ-loop
 narrow-requires c κs = omega arith
 
 returns : tie.Need-returns Inv-loop μ-loop
 returns c =
-    let none : allSamples (now (c .before .before .before .before .args .samples)) ≡ false
-    = sym (c .before .narrow .ensures .0) ∙ not-true _ (c .if1 .taken) in
+    let none : allSamples (now (c .before .before .before .before .before .args .samples)) ≡ false
+    = sym (c .before .before .narrow .ensures .0) ∙ not-true _ (c .if1 .taken) in
     (sym none, rw none)
 
 loop-holds : tie.Need-loop-holds Inv-loop μ-loop
 loop-holds c = (omega arith, refl, refl)
 
 -- past the test all are samples
-all : (c : tie.Else1 Inv-loop μ-loop) → allSamples (now (c .before .before .before .before .args .samples)) ≡ true
-all c = sym (c .before .narrow .ensures .0) ∙ not-false _ (c .if1 .left)
+all : (c : tie.Else1 Inv-loop μ-loop) → allSamples (now (c .before .before .before .before .before .args .samples)) ≡ true
+all c = sym (c .before .before .narrow .ensures .0) ∙ not-false _ (c .if1 .left)
 
 mul-put4 : tie.Need-mul-put4 Inv-loop μ-loop
 mul-put4 c = omega arith
@@ -81,9 +84,9 @@ loop-again c =
     let p = c .before .before in
     let t = p .before .before .before in
     let l = t .before in
-    let s = l .before .before .before .before .before in
+    let s = l .before .before .before .before .before .before in
     let zs = now (s .args .samples) in
-    let n = l .before .before .narrow .ensures .1 in
+    let n = l .before .before .before .narrow .ensures .1 in
     let long : length zs ≤ 512 = omega arith in
     let i : 2 * l .loop .i < length zs = omega arith in
     let q : 2 * l .loop .i + 1 < length zs = omega arith in (
@@ -103,7 +106,7 @@ same-length c = c .before .loop .inv .1
 returns-2 : tie.Need-returns-2 Inv-loop μ-loop
 returns-2 c =
     let l = c .before in
-    let a = l .before .before .before .before .before .args in (
+    let a = l .before .before .before .before .before .before .args in (
       sym (all (l .before)),
       rw (all (l .before)) (pack-end 16 (l .loop .packet) _ (now (a .samples)) (2 * l .loop .i) (omega arith) (l .loop .inv .2)),
     )
@@ -114,6 +117,7 @@ pack16-spec =
     (tie.spec
     Inv-loop
     μ-loop
+    slice-aggregate-narrow
     narrow-requires
     returns
     loop-holds

@@ -1,118 +1,42 @@
--- `samples::packing::pack24` meets its contract. The loop's invariant: what is still to be stored gives the whole.
-use Prim.Native.Nat.{_+_, _*_, _-_, _≤_}
-use mathlib.Core.Path.{_≡_, refl, sym, _∙_}
-use mathlib.Core.Bool.{true, false}
-use native.Mathlib.Omega.{arith}
-use borrow.Author.Needs.{needs, sfits-of}
-use borrow.Author.Tests.{not-true, not-false}
-use denote.Ref.{now}
-use lib.IntN.{pos}
-use lib.ListN.{length, getD, drop}
-use lib.Seq.{sets}
-use mir.Facts.{toZ-ofZ}
-use Rattle.wire.specs.Signed.{coded}
-use Rattle.packets.specs.Samples.{allSamples, narrowed, samplesBytes}
-use Rattle.samples.proofs.Written.{sample-at, pack-turn, pack-end}
+-- `samples::packing::pack24` meets its contract: either array is long enough.
+use mathlib.Core.Path.{refl}
+use borrow.Author.Needs.{needs}
 use Rattle.samples.proofs.packing.pack24.Statement.{statement}
 use Rattle.samples.proofs.packing.pack24.Tie as tie
 
-abbrev Inv-loop : tie.InvT-loop
-Inv-loop samples packet₀ i₀ packet i =
-    (i ≤ length samples)
-    × (length packet ≡ length packet₀)
-    × (sets packet (4 + 3 * i) (samplesBytes 24 (drop i samples)) ≡ sets packet₀ 4 (samplesBytes 24 samples))
+slice-aggregate-pack24-by : tie.Need-slice-aggregate-pack24-by
+slice-aggregate-pack24-by c = refl
 
-abbrev μ-loop : tie.MeasureT-loop
-μ-loop samples packet₀ i₀ packet i = length samples - i
+pack24-by-requires : tie.Need-pack24-by-requires
+pack24-by-requires c κs = search needs
 
-all-fit-requires : tie.Need-all-fit-requires Inv-loop μ-loop
-all-fit-requires c κs = tt
+same-length : tie.Need-same-length
+same-length c = search needs
 
-returns : tie.Need-returns Inv-loop μ-loop
-returns c =
-    let none : allSamples (now (c .before .before .before .args .samples)) ≡ false
-    = sym (c .before .all-fit .ensures) ∙ not-true _ (c .if1 .taken) in
-    (sym none, rw none)
+returns : tie.Need-returns
+returns c = c .before .before .before .pack24-by .ensures
 
-loop-holds : tie.Need-loop-holds Inv-loop μ-loop
-loop-holds c = (omega arith, refl, refl)
+slice-aggregate-pack24-by-2 : tie.Need-slice-aggregate-pack24-by-2
+slice-aggregate-pack24-by-2 c = refl
 
--- past the test all are samples
-all : (c : tie.Else1 Inv-loop μ-loop) → allSamples (now (c .before .before .before .args .samples)) ≡ true
-all c = sym (c .before .all-fit .ensures) ∙ not-false _ (c .if1 .left)
+pack24-by-requires-2 : tie.Need-pack24-by-requires-2
+pack24-by-requires-2 c κs = search needs
 
-mul-put3 : tie.Need-mul-put3 Inv-loop μ-loop
-mul-put3 c = omega arith
+same-length-2 : tie.Need-same-length-2
+same-length-2 c = search needs
 
-add-put3 : tie.Need-add-put3 Inv-loop μ-loop
-add-put3 c = omega arith
-
-mul-code24 : tie.Need-mul-code24 Inv-loop μ-loop
-mul-code24 c = search needs
-
-shared-slice-copy-out-code24 : tie.Need-shared-slice-copy-out-code24 Inv-loop μ-loop
-shared-slice-copy-out-code24 c = search needs
-
-code24-requires : tie.Need-code24-requires Inv-loop μ-loop
-code24-requires c κs =
-    let l = c .before .before .before in
-    rw (toZ-ofZ (sfits-of (c .code24-arg .given)))
-    (sample-at (now (l .before .before .before .before .args .samples)) (l .loop .i) (all (l .before)) (c .before .before .loop-test .taken))
-
--- what the code is made of is the i-th sample
-code : (c : tie.After-code24 Inv-loop μ-loop)
-    → c .code24 .result ≡ coded 24 (narrowed 24 (getD (now (c .before .before .before .before .before .before .before .before .args .samples)) (c .before .before .before .before .loop .i) (pos 0)))
-code c = c .code24 .ensures ∙ rw (toZ-ofZ (sfits-of (c .before .code24-arg .given)))
-
-put3-requires : tie.Need-put3-requires Inv-loop μ-loop
-put3-requires c κs = omega arith
-
-add-i : tie.Need-add-i Inv-loop μ-loop
-add-i c = omega arith
-
-loop-less : tie.Need-loop-less Inv-loop μ-loop
-loop-less c = omega arith
-
-loop-again : tie.Need-loop-again Inv-loop μ-loop
-loop-again c =
-    let p = c .before .before in
-    let g = p .before .before in
-    let l = g .before .before .before in
-    let a = l .before .before .before .before .args in (
-      omega arith,
-      p .put3 .kept .0 ∙ l .loop .inv .1,
-      rw (p .put3 .ensures)
-          (pack-turn 24 (l .loop .packet) _ (now (a .samples)) (l .loop .i) _ (g .before .before .loop-test .taken) (code (p .before)) (l .loop .inv .2)),
-    )
-
-same-length : tie.Need-same-length Inv-loop μ-loop
-same-length c = c .before .loop .inv .1
-
-returns-2 : tie.Need-returns-2 Inv-loop μ-loop
-returns-2 c =
-    let l = c .before in
-    let a = l .before .before .before .before .args in (
-      sym (all (l .before)),
-      rw (all (l .before)) (pack-end 24 (l .loop .packet) _ (now (a .samples)) (l .loop .i) (c .loop-test .left) (l .loop .inv .2)),
-    )
+returns-2 : tie.Need-returns-2
+returns-2 c = c .before .before .before .pack24-by2 .ensures
 
 pub pack24-spec : {M : Type 1} → statement M
 pack24-spec =
     tie.close
     (tie.spec
-    Inv-loop
-    μ-loop
-    all-fit-requires
-    returns
-    loop-holds
-    mul-put3
-    add-put3
-    mul-code24
-    shared-slice-copy-out-code24
-    code24-requires
-    put3-requires
-    add-i
-    loop-less
-    loop-again
+    slice-aggregate-pack24-by
+    pack24-by-requires
     same-length
+    returns
+    slice-aggregate-pack24-by-2
+    pack24-by-requires-2
+    same-length-2
     returns-2)
