@@ -2,15 +2,14 @@
 use Prim.Native.Nat.{ℕ, zero, suc, _+_, _*_, _-_, _/_, _^_}
 use mathlib.Core.Bool.{Bool, true, _&&_}
 use mathlib.Core.List.{List, [], _∷_, _++_}
-use lib.Dec.{ltb}
-use lib.IntN.{ℤ}
-use lib.Signed.{mag, shrZ}
+use lib.IntN.{ℤ, pos, negsuc}
+use lib.Signed.{leZ, shrZ}
 use Rattle.wire.specs.Number.{bytes, field}
 use Rattle.wire.specs.Signed.{coded, signed}
 
--- -8,388,608 ≤ z ≤ 8,388,607. (`mag` is z where z is not negative, and -z - 1 where it is.)
+-- -8,388,608 ≤ z ≤ 8,388,607. (`negsuc n` is -n - 1.)
 abbrev pub isSample : ℤ → Bool
-isSample z = ltb (mag z) 8_388_608
+isSample z = leZ (negsuc 8_388_607) z && leZ z (pos 8_388_607)
 
 abbrev pub allSamples : List ℤ → Bool
 allSamples [] = true

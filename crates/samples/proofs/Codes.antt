@@ -11,7 +11,9 @@ use lib.Signed.{mag, shrZ}
 use mir.Syntax.{w32}
 use mir.Val.{SFits, toZ, ofZ}
 use mir.Facts.{toZ-ofZ, toZ-pos}
-use borrow.Author.Tests.{ltb-true, lt-ltb, le-ltb}
+use borrow.Author.Tests.{leb-true, lt-ltb, le-ltb}
+use lib.Dec.{leb}
+use Rattle.wire.proofs.Laws.{and-left}
 use Rattle.wire.specs.Signed.{coded, signed}
 use Rattle.packets.specs.Samples.{isSample, narrowed}
 
@@ -61,19 +63,24 @@ pub lowered : (z : ℤ) → mag z < 8_388_608 → lifted 8_388_608 z % 65_536 �
 lowered (pos n) l = omega arith
 lowered (negsuc n) l = omega arith
 
+-- a sample is below half a turn of 24 bits, whichever its sign
+pub sample-small : (z : ℤ) → isSample z ≡ true → mag z < 8_388_608
+sample-small (pos n) s = omega (arith, leb-true n 8_388_607 s)
+sample-small (negsuc n) s = omega (arith, leb-true n 8_388_607 (and-left (leb n 8_388_607) true s))
+
 -- the low 16 of the 32 bits that stand for what is sent of a number
 abbrev pub lowOf : ℤ → ℕ
 lowOf z = coded 32 (narrowed 16 z) % 65_536
 
 -- of a sample they are the 16 bits that are sent
 pub low-sample : (z : ℤ) → isSample z ≡ true → lowOf z ≡ coded 16 (narrowed 16 z)
-low-sample (pos n) s = omega (arith, ltb-true n 8_388_608 s)
-low-sample (negsuc n) s = omega (arith, ltb-true n 8_388_608 s)
+low-sample (pos n) s = omega (arith, sample-small (pos n) s)
+low-sample (negsuc n) s = omega (arith, sample-small (negsuc n) s)
 
 -- and the upper 16 of the 24
 pub upper-sample : (z : ℤ) → isSample z ≡ true → coded 24 (narrowed 24 z) % 256 + 256 * coded 16 (narrowed 16 z) ≡ coded 24 (narrowed 24 z)
 upper-sample (pos n) s = omega arith
-upper-sample (negsuc n) s = omega (arith, ltb-true n 8_388_608 s)
+upper-sample (negsuc n) s = omega (arith, sample-small (negsuc n) s)
 
 -- ---- and back: a code lifted by half a turn, the whole turns taken off, and the half turn taken off again
 

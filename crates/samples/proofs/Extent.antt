@@ -1,16 +1,16 @@
 -- All are samples exactly if the least and the greatest of them lie inside. Assumes nothing.
 use Prim.Native.Nat.{ℕ, _+_, _≤_, _<_}
-use mathlib.Core.Path.{_≡_, refl, sym, _∙_}
+use mathlib.Core.Path.{_≡_, refl, sym, ap, _∙_}
 use mathlib.Core.Bool.{Bool, true, false, _&&_, not, and-true, and-false, and-assoc}
 use mathlib.Core.List.{List, _∷_}
 use native.Mathlib.Numerals.{add-one}
 use native.Mathlib.Omega.{arith}
-use lib.Dec.{ltb}
+use lib.Dec.{leb, ltb}
 use lib.IntN.{ℤ, pos, negsuc}
 use lib.Signed.{ltZ}
 use lib.ListN.{length, getD, drop, drop-of-length-le}
 use lib.Seq.{drop-cons}
-use borrow.Author.Tests.{ltb-true, ltb-false, lt-ltb, le-ltb}
+use borrow.Author.Tests.{ltb-true, ltb-false, lt-ltb, le-ltb, le-leb, lt-leb}
 use Rattle.wire.specs.Choice.{pick}
 use Rattle.wire.proofs.Laws.{pick-ap, pick-same}
 use Rattle.packets.specs.Samples.{isSample, allSamples}
@@ -43,12 +43,13 @@ farther k m n = go (ltb m n) refl (ltb k m) refl
     go false q true p = rw p
     go false q false p = rw (p, le-ltb k n (omega (arith, ltb-false m n q, ltb-false k m p)))
 
-side : (n : ℕ) → ltb n 8_388_608 ≡ not (ltb 8_388_607 n)
-side n = go (ltb 8_388_607 n) refl
+-- at most k is not above k
+side : (k n : ℕ) → leb n k ≡ not (ltb k n)
+side k n = go (ltb k n) refl
   where
-    go : (t : Bool) → ltb 8_388_607 n ≡ t → ltb n 8_388_608 ≡ not t
-    go true q = le-ltb n 8_388_608 (omega (arith, ltb-true 8_388_607 n q))
-    go false q = lt-ltb n 8_388_608 (omega (arith, ltb-false 8_388_607 n q))
+    go : (t : Bool) → ltb k n ≡ t → leb n k ≡ not t
+    go true q = lt-leb n k (ltb-true k n q)
+    go false q = le-leb n k (ltb-false k n q)
 
 cross : (a b c d : Bool) → (a && b) && (c && d) ≡ (a && c) && (b && d)
 cross true true c d = refl
@@ -75,8 +76,8 @@ below-greater k (negsuc m) (negsuc n) = pick-ap (below k) (ltb n m) (negsuc n) (
 
 -- -8,388,608 ≤ z ≤ 8,388,607
 sample-inside : (z : ℤ) → isSample z ≡ insideOf z z
-sample-inside (pos n) = side n
-sample-inside (negsuc n) = side n ∙ sym (and-true (not (ltb 8_388_607 n)))
+sample-inside (pos n) = side 8_388_607 n
+sample-inside (negsuc n) = ap (λ (t : Bool). t && true) (side 8_388_607 n)
 
 pub inside-more : (least greatest z : ℤ) → insideOf (lesserOf least z) (greaterOf greatest z) ≡ insideOf least greatest && isSample z
 inside-more a b z =

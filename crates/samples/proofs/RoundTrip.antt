@@ -12,7 +12,8 @@ use lib.ListN.{length, length-append}
 use lib.Pow.{pow-pos, pow-add}
 use lib.Seq.{take-at, drop-at}
 use lib.Signed.{mag, shrZ}
-use borrow.Author.Tests.{ltb-true, lt-ltb}
+use borrow.Author.Tests.{lt-ltb}
+use Rattle.samples.proofs.Codes.{sample-small}
 use Rattle.wire.specs.Signed.{coded}
 use Rattle.wire.proofs.Laws.{and-left, and-right}
 use Rattle.wire.proofs.Numbers.{length-bytes, number-bytes}
@@ -32,7 +33,7 @@ module _ (bits : ℕ) (some : 1 ≤ bits) (most : bits ≤ 24) where
   narrowed-small z s =
       let all : (bits - 1) + (24 - bits) ≡ 23 = omega arith in
       let power : 2 ^ (bits - 1) * 2 ^ (24 - bits) ≡ 8_388_608 = sym (pow-add 2 (bits - 1) (24 - bits)) ∙ ap (λ (n : ℕ). 2 ^ n) all in
-      let h : mag z < 2 ^ (bits - 1) * 2 ^ (24 - bits) = rw power (ltb-true (mag z) 8_388_608 s) in
+      let h : mag z < 2 ^ (bits - 1) * 2 ^ (24 - bits) = rw power (sample-small z s) in
       rw (mag-shift z (2 ^ (24 - bits))) (div-lt-iff-lt-mul (pow-pos (24 - bits)) .1 h)
 
   module _ (whole : 2 ^ bits ≡ 256 ^ (bits / 8)) where

@@ -7,13 +7,12 @@ use lib.IntN.{pos, _+ℤ_}
 use lib.Signed.{mag}
 use mir.Syntax.{w32}
 use mir.Val.{toZ, ofZ}
-use borrow.Author.Tests.{ltb-true}
-use Rattle.samples.proofs.Codes.{lifted, lifted-below, lift-fits, lift-is, turned, narrowed-24}
+use Rattle.samples.proofs.Codes.{lifted, lifted-below, lift-fits, lift-is, turned, narrowed-24, sample-small}
 use Rattle.samples.proofs.packing.code24.Statement.{statement}
 use Rattle.samples.proofs.packing.code24.Tie as tie
 
 small : (c : tie.Start) → mag (c .args .x) < 8_388_608
-small c = ltb-true (mag (c .args .x)) 8_388_608 (c .pre)
+small c = sample-small (c .args .x) (c .pre)
 
 above : (c : tie.Start) → toZ w32 (ofZ w32 (toZ w32 (ofZ w32 (c .args .x)) +ℤ pos 8_388_608)) ≡ pos (lifted 8_388_608 (c .args .x))
 above c = lift-is 8_388_608 (c .args .x) (c .fits .x) (small c) (omega arith)
