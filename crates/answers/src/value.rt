@@ -6,7 +6,7 @@ ghost use Rattle.wire.specs.Choice.{pick};
 ghost use Rattle.wire.specs.Number.{bytes};
 ghost use Rattle.wire.specs.Header.{typeReply};
 ghost use Rattle.layouts.specs.Layouts.{laid};
-ghost use Rattle.items.specs.Items.{versions, rowOf};
+ghost use Rattle.items.specs.Items.{statusByte, versions, rowOf};
 ghost use Rattle.items.specs.Settings.{freshOf};
 ghost use Rattle.items.specs.Answer.{framed, replyBody};
 ghost use Rattle.answers.specs.Inside.{plainly, echoing};
@@ -79,7 +79,7 @@ fn version(id: u8) -> Layout
 
 // "0B idle, 0C running"
 fn status_value(running: bool) -> u64
-    ensures { λ r. ⌜ r ≡ pick running 0x0C 0x0B ⌝ }
+    ensures { λ r. ⌜ r ≡ statusByte running ⌝ }
 {
     if running {
         values::STATUS_RUNNING

@@ -19,7 +19,7 @@ use Rattle.station.specs.declared.Station.{Station}
 use Rattle.station.specs.Station.{freshStation}
 use Rattle.station.specs.Feeding.{Feeding, feedingOf}
 
--- a serial to ask with
+-- the box that is asked: fresh, with serial 00000000
 abbrev pub asked : Station
 asked = freshStation (replicate 8 0x30)
 

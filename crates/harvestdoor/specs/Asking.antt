@@ -1,41 +1,25 @@
--- Wishes and replies, over the door: a wish is its number in the list below, and the fields of every case.
+-- Wishes and replies, over the door: a wish is its number in `eachWish` (wishes/specs/Wishes), and the fields of every case.
 use Prim.Native.Nat.{ℕ}
-use mathlib.Core.List.{List, [], _∷_}
+use mathlib.Core.List.{List}
 use lib.Dec.{eqb}
 use lib.IntN.{ℤ, pos, negsuc}
 use lib.ListN.{length, getD}
 use Rattle.wire.specs.Choice.{pick}
 use Rattle.wire.specs.Codes as Code
+use Rattle.items.specs.Items.{gain}
 use Rattle.replies.specs.Reading.{Told}
 use Rattle.wishes.specs.declared.Wish.{Wish}
-use Rattle.wishes.specs.declared.Wish.the-variants as W
+use Rattle.wishes.specs.declared.Wish.the-variants.{AskVersion}
+use Rattle.wishes.specs.Wishes.{eachWish}
 
 -- a wish that no box grants, in the place of a number that names none
 abbrev pub noWish : Wish
-noWish = W.AskVersion 255
+noWish = AskVersion 255
 
--- 01's items in the table's order, set before request before range
+-- the wishes in the table's order, with these fields
 unfoldable pub wishTable : ℕ → ℕ → ℤ → ℕ → ℕ → List Wish
 wishTable byte mode gain word hertz =
-    W.AskName
-    ∷ W.AskSerial
-    ∷ W.AskInterface
-    ∷ W.AskVersion byte
-    ∷ W.AskStatus
-    ∷ W.SetState (record { run = byte; mode = mode })
-    ∷ W.AskState
-    ∷ W.SetFrequency hertz
-    ∷ W.AskFrequency
-    ∷ W.AskFrequencyRange
-    ∷ W.SetGain gain
-    ∷ W.AskGain
-    ∷ W.SetClock word
-    ∷ W.AskClock
-    ∷ W.SetRate word
-    ∷ W.AskRate
-    ∷ W.SetPacketSize byte
-    ∷ W.AskPacketSize
-    ∷ []
+    eachWish (record { id = byte; state = record { run = byte; mode = mode }; frequency = hertz; gain = gain; clock = word; rate = word; size = byte })
 
 abbrev pub wishOf : ℕ → ℕ → ℕ → ℤ → ℕ → ℕ → Wish
 wishOf which byte mode gain word hertz = getD (wishTable byte mode gain word hertz) which noWish
@@ -51,7 +35,7 @@ pub record Shown : Type 0 where
   pub gain : ℤ
 
 abbrev pub gainItem : ℕ
-gainItem = 0x0038
+gainItem = gain .code
 
 abbrev pub natural : ℤ → ℕ
 natural (pos n) = n

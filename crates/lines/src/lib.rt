@@ -5,7 +5,8 @@ mod text;
 pub use telling::tell;
 pub use text::copy;
 
-// What comes last: a refusal with its code and the input byte, or the end of the input with the count of captures.
+// What comes last: nothing, where only a capture ended; a refusal with its code and the input byte; or the end of the input
+// with the count of captures.
 pub enum Ending {
     Nothing,
     Refusal { code: u8, offset: u64 },

@@ -35,8 +35,9 @@ called room r host =
       replies = noting (r .replies) (feedingOf (r .station) host room .bytes);
     }
 
--- "calling again until the bytes are used up". Each call on a valid box consumes a byte (framing/proofs/Cutting:
--- `count-some`), so as many calls as there are bytes are enough. `rooms` has the room of each call, by how many may follow.
+-- "calling again until the bytes are used up". Each call on a valid box with 64 bytes of room consumes a byte (proofs/Calls:
+-- `feeding-some`), so as many calls as there are bytes are enough (`ServedToTheEnd`, below). `rooms` has the room of each
+-- call, by how many may follow.
 unfoldable pub calling : (ℕ → ℕ) → ℕ → Served → List ℕ → Served
 calling rooms zero r host = r
 calling rooms (suc calls) r [] = r

@@ -3,7 +3,7 @@ use Prim.Native.Nat.{ℕ, _+_, _≤_}
 use mathlib.Core.Path.{_≡_, refl}
 use mathlib.Core.List.{map}
 use lib.Dec.{eqb, lit≤}
-use lib.IntN.{ℤ}
+use lib.IntN.{ℤ, pos}
 use Rattle.wire.specs.Choice.{pick}
 use Rattle.layouts.specs.Layouts.{sizeOf}
 use Rattle.items.specs.Items.{echoes, Item, items, name, serial, interface, versions, status, state, frequency, gain, clock, rate, packetSize}
@@ -11,7 +11,7 @@ use Rattle.items.specs.Table.{offered}
 use Rattle.wishes.specs.declared.StateFields.{StateFields}
 use Rattle.wishes.specs.declared.Wish.{Wish}
 use Rattle.wishes.specs.declared.Wish.the-variants.{AskName, AskSerial, AskInterface, AskVersion, AskStatus, SetState, AskState, SetFrequency, AskFrequency, AskFrequencyRange, SetGain, AskGain, SetClock, AskClock, SetRate, AskRate, SetPacketSize, AskPacketSize}
-use Rattle.wishes.specs.Wishes.{asking, cellsIn, eachWish, cellAsked, widthIn, layoutOf}
+use Rattle.wishes.specs.Wishes.{asking, Held, OneForEach, Among, widthIn, layoutOf}
 
 -- what is shown of each case holds of every wish
 pub by-wish : (P : Wish → Type 0) → P AskName → P AskSerial → P AskInterface → ((id : ℕ) → P (AskVersion id)) → P AskStatus
@@ -51,6 +51,31 @@ short-message =
     (lit≤ tt) (lit≤ tt) (lit≤ tt) (lit≤ tt) (lit≤ tt) (lit≤ tt) (lit≤ tt) (lit≤ tt) (lit≤ tt) (lit≤ tt) (lit≤ tt) (lit≤ tt) (lit≤ tt) (lit≤ tt) (lit≤ tt) (lit≤ tt) (lit≤ tt) (lit≤ tt)
 
 -- "One wish for each kind and item above."
-pub one-for-each : (id : ℕ) (state : StateFields) (hz : ℕ) (gain : ℤ) (clock rate size : ℕ)
-    → map cellAsked (eachWish id state hz gain clock rate size) ≡ cellsIn items
-one-for-each id state hz gain clock rate size = refl
+pub one-for-each : OneForEach
+one-for-each v = refl
+
+-- none of these values is looked at
+abbrev any : Held
+any = record { id = 0; state = record { run = 0; mode = 0 }; frequency = 0; gain = pos 0; clock = 0; rate = 0; size = 0 }
+
+pub every-wish : (w : Wish) → Among w
+every-wish =
+    by-wish Among
+    (record { held = any; place = 0; is = refl })
+    (record { held = any; place = 1; is = refl })
+    (record { held = any; place = 2; is = refl })
+    (λ id. record { held = record { id = id; state = record { run = 0; mode = 0 }; frequency = 0; gain = pos 0; clock = 0; rate = 0; size = 0 }; place = 3; is = refl })
+    (record { held = any; place = 4; is = refl })
+    (λ f. record { held = record { id = 0; state = f; frequency = 0; gain = pos 0; clock = 0; rate = 0; size = 0 }; place = 5; is = refl })
+    (record { held = any; place = 6; is = refl })
+    (λ hz. record { held = record { id = 0; state = record { run = 0; mode = 0 }; frequency = hz; gain = pos 0; clock = 0; rate = 0; size = 0 }; place = 7; is = refl })
+    (record { held = any; place = 8; is = refl })
+    (record { held = any; place = 9; is = refl })
+    (λ g. record { held = record { id = 0; state = record { run = 0; mode = 0 }; frequency = 0; gain = g; clock = 0; rate = 0; size = 0 }; place = 10; is = refl })
+    (record { held = any; place = 11; is = refl })
+    (λ hz. record { held = record { id = 0; state = record { run = 0; mode = 0 }; frequency = 0; gain = pos 0; clock = hz; rate = 0; size = 0 }; place = 12; is = refl })
+    (record { held = any; place = 13; is = refl })
+    (λ hz. record { held = record { id = 0; state = record { run = 0; mode = 0 }; frequency = 0; gain = pos 0; clock = 0; rate = hz; size = 0 }; place = 14; is = refl })
+    (record { held = any; place = 15; is = refl })
+    (λ n. record { held = record { id = 0; state = record { run = 0; mode = 0 }; frequency = 0; gain = pos 0; clock = 0; rate = 0; size = n }; place = 16; is = refl })
+    (record { held = any; place = 17; is = refl })

@@ -1,10 +1,11 @@
 -- Harvester's wishes: "One wish for each kind and item above, channel byte 00."
 use Prim.Native.Nat.{ℕ, _+_, _-_, _^_, _≤_, _<_}
 use mathlib.Core.Bool.{Bool, true, _&&_, _||_}
-use mathlib.Core.List.{List, [], _∷_, _++_}
+use mathlib.Core.Path.{_≡_}
+use mathlib.Core.List.{List, [], _∷_, _++_, map}
 use lib.Dec.{eqb}
 use lib.IntN.{ℤ}
-use lib.ListN.{length, replicate}
+use lib.ListN.{length, getD, replicate}
 use lib.Signed.{mag}
 use Rattle.wire.specs.Choice.{pick, anyOf}
 use Rattle.wire.specs.Lists.{allBytes}
@@ -18,7 +19,7 @@ use Rattle.layouts.specs.declared.Layout.{Layout}
 use Rattle.layouts.specs.Layouts.{parametersOf, laid}
 use Rattle.items.specs.declared.Settings.{Settings}
 use Rattle.items.specs.Settings.{gains, isMode, isSize, withFrequency, withClock, withDivisor, withGain, withSize}
-use Rattle.items.specs.Items.{echoes, Offer, total, dash, Item, name, serial, interface, versions, status, state, frequency, gain, clock, rate, packetSize, idle, run, isVersion, stateTo}
+use Rattle.items.specs.Items.{echoes, Offer, total, dash, Item, items, name, serial, interface, versions, status, state, frequency, gain, clock, rate, packetSize, idle, run, isVersion, stateTo}
 use Rattle.items.specs.Table.{offered}
 use Rattle.items.specs.Answer.{Message, refusedRunning}
 use Rattle.wishes.specs.declared.StateFields.{StateFields}
@@ -89,7 +90,7 @@ asking (SetPacketSize n) = setting packetSize (whole n)
 asking AskPacketSize = request packetSize
 
 -- "One wish for each kind and item above": the cells of the table that are no dash, and a wish of each case, whatever it
--- holds. (`one-for-each`, in the proofs: they are the same, in the table's order.)
+-- holds.
 pub record Cell : Type 0 where
   pub code : ℕ
   pub kind : ℕ
@@ -106,30 +107,50 @@ cellsIn (i ∷ is) =
     ++ cellOf (i .code) typeRange (i .range)
     ++ cellsIn is
 
-abbrev pub eachWish : ℕ → StateFields → ℕ → ℤ → ℕ → ℕ → ℕ → List Wish
-eachWish id state hz gain clock rate size =
+-- the values that wishes hold
+pub record Held : Type 0 where
+  pub id : ℕ
+  pub state : StateFields
+  pub frequency : ℕ
+  pub gain : ℤ
+  pub clock : ℕ
+  pub rate : ℕ
+  pub size : ℕ
+
+abbrev pub eachWish : Held → List Wish
+eachWish v =
     AskName
     ∷ AskSerial
     ∷ AskInterface
-    ∷ AskVersion id
+    ∷ AskVersion (v .id)
     ∷ AskStatus
-    ∷ SetState state
+    ∷ SetState (v .state)
     ∷ AskState
-    ∷ SetFrequency hz
+    ∷ SetFrequency (v .frequency)
     ∷ AskFrequency
     ∷ AskFrequencyRange
-    ∷ SetGain gain
+    ∷ SetGain (v .gain)
     ∷ AskGain
-    ∷ SetClock clock
+    ∷ SetClock (v .clock)
     ∷ AskClock
-    ∷ SetRate rate
+    ∷ SetRate (v .rate)
     ∷ AskRate
-    ∷ SetPacketSize size
+    ∷ SetPacketSize (v .size)
     ∷ AskPacketSize
     ∷ []
 
 abbrev pub cellAsked : Wish → Cell
 cellAsked w = record { code = asking w .item .code; kind = asking w .kind }
+
+-- they ask for the same, in the table's order
+abbrev pub OneForEach : Type 0
+OneForEach = (v : Held) → map cellAsked (eachWish v) ≡ cellsIn items
+
+-- and there is no other wish
+pub record Among (w : Wish) : Type 0 where
+  pub held : Held
+  pub place : ℕ
+  pub is : getD (eachWish held) place AskName ≡ w
 
 -- "Lengths are totals": header and item code are four bytes, then comes the echoed byte, and the rest is the value
 abbrev pub widthIn : Item → Offer → ℕ
