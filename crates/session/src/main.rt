@@ -56,8 +56,8 @@ fn read_failed() {
     );
 }
 
-// Reads pieces as they come, until the input ends or a read fails. A proved loop has to end, and nothing says that the input does. So
-// the loop counts its turns down, from a number that no run uses up.
+// Reads pieces as they come, until the input ends or a read fails. A proved loop has to end, and nothing says that the input
+// does. So the loop counts its turns down, from a number that no run uses up.
 fn serve(s: Station, buf: &mut [u8])
     requires { ⌜ valid s ≡ true ⌝ }
 {
