@@ -7,7 +7,7 @@ use native.Mathlib.Nat.{div-one, add-mod-right, mod-eq-of-lt, mod-eq-sub-mod}
 use native.Mathlib.Decide.{decLt}
 use native.Mathlib.Omega.{arith}
 use lib.IntN.{ℤ, pos, negsuc, subℕ, _+ℤ_, _-ℤ_}
-use lib.Signed.{mag, shrZ}
+use lib.Signed.{mag, quotZ, shrZ}
 use mir.Syntax.{w32}
 use mir.Val.{SFits, toZ, ofZ}
 use mir.Facts.{toZ-ofZ, toZ-pos}
@@ -71,6 +71,12 @@ sample-small (negsuc n) s = omega (arith, leb-true n 8_388_607 (and-left (leb n 
 -- the low 16 of the 32 bits that stand for what is sent of a number
 abbrev pub lowOf : ℤ → ℕ
 lowOf z = coded 32 (narrowed 16 z) % 65_536
+
+-- "Dividing towards zero for 16 bits" gives others: -257 would be sent as FF FF.
+pub towards-zero-fails : ((z : ℤ) → isSample z ≡ true → coded 32 (quotZ z (pos 256)) % 65_536 ≡ lowOf z) → ⊥
+towards-zero-fails same =
+    let wrong : _≡_ {A = ℕ} 0xFFFF 0xFFFE = same (negsuc 256) refl in
+    omega arith
 
 -- of a sample they are the 16 bits that are sent
 pub low-sample : (z : ℤ) → isSample z ≡ true → lowOf z ≡ coded 16 (narrowed 16 z)
