@@ -1,15 +1,19 @@
 // The settings' ranges: "A box with a field outside these rules is broken (21)."
 ghost use mathlib.Core.Path.{_≡_};
+ghost use lib.ListN.{length};
 ghost use Rattle.items.specs.Settings.{inRange, freshOf, freshAnswer, isMode, isGain, isSize, isSerialByte, allSerial};
 use crate::Began;
 use crate::Settings;
 use wire::codes;
 
-// Every setting lies within its range. All are tested, with no branch between them.
+// Every setting lies within its range. The serial's bytes are tested first; of the numbers all are tested, with no branch
+// between them.
 pub fn in_range(s: Settings) -> bool
     ensures { λ r. ⌜ r ≡ inRange s ⌝ }
 {
-    let serial = s.serial;
+    if !all_serial(&s.serial) {
+        return false;
+    }
     tuning::in_bands(s.frequency)
         & (s.count <= packets::MOST)
         & tuning::is_clock(s.clock)
@@ -17,7 +21,6 @@ pub fn in_range(s: Settings) -> bool
         & is_mode(s.mode)
         & is_gain(s.gain)
         & is_size(s.size)
-        & all_serial(serial)
 }
 
 // A fresh box with a serial: 1, or 26 and the serial 00000000 where these are not eight of A-Z, 0-9.
@@ -40,7 +43,7 @@ pub fn fresh(serial: &[u8]) -> Began
         serial[6],
         serial[7],
     ];
-    if !all_serial(own) {
+    if !all_serial(&own) {
         return Began {
             code: codes::NOT_A_SERIAL,
             settings: started([b'0'; 8]),
@@ -70,8 +73,9 @@ fn started(serial: [u8; 8]) -> Settings
 }
 
 // Each of a serial's bytes is A-Z or 0-9.
-fn all_serial(serial: [u8; 8]) -> bool
-    ensures { λ r. ⌜ r ≡ allSerial serial ⌝ }
+fn all_serial(serial: &[u8; 8]) -> bool
+    requires { ⌜ length (now serial) ≡ 8 ⌝ }
+    ensures { λ r. ⌜ r ≡ allSerial (now (serial .entry)) ⌝ }
 {
     let mut all = true;
     let mut i = 0;

@@ -1,10 +1,10 @@
 -- The flag, and what is not tested yet, say together what the whole says.
-use Prim.Native.Nat.{_≤_, _<_, _-_}
+use Prim.Native.Nat.{_≤_, _-_}
 use mathlib.Core.Path.{_≡_, refl}
 use mathlib.Core.Bool.{_&&_}
 use borrow.Author.Needs.{needs}
 use native.Mathlib.Omega.{arith}
-use lib.ListN.{length, drop}
+use lib.ListN.{drop}
 use Rattle.items.specs.Settings.{allSerial}
 use Rattle.items.proofs.Serials.{serial-turn, serial-end}
 use Rattle.items.proofs.ranges.all_serial.Statement.{statement}
@@ -19,8 +19,8 @@ abbrev μ-loop : tie.MeasureT-loop
 loop-holds : tie.Need-loop-holds Inv-loop μ-loop
 loop-holds c = (search needs, refl)
 
-array-read-is-serial-byte : tie.Need-array-read-is-serial-byte Inv-loop μ-loop
-array-read-is-serial-byte c = search needs
+element-copy-out-is-serial-byte : tie.Need-element-copy-out-is-serial-byte Inv-loop μ-loop
+element-copy-out-is-serial-byte c = search needs
 
 is-serial-byte-requires : tie.Need-is-serial-byte-requires Inv-loop μ-loop
 is-serial-byte-requires c κs = search needs
@@ -31,20 +31,16 @@ add-i c = search needs
 loop-less : tie.Need-loop-less Inv-loop μ-loop
 loop-less c = search needs
 
-long : (c : tie.Start Inv-loop μ-loop) → length (c .args .t1) ≡ 8
-long c = search needs
-
 loop-again : tie.Need-loop-again Inv-loop μ-loop
 loop-again c =
-    let l = c .before .before in
-    let inside : l .loop .i < length (l .before .args .t1) = omega (arith, long (l .before)) in
-    (search needs, serial-turn (l .before .args .t1) (l .loop .i) (l .loop .all) (c .is-serial-byte .result) inside (c .is-serial-byte .ensures) (l .loop .inv .1))
+    let l = c .before .before .before in
+    let serial = l .before .args .serial .now in
+    (search needs, serial-turn serial (l .loop .i) (l .loop .all) (c .is-serial-byte .result) (omega arith) (c .is-serial-byte .ensures) (l .loop .inv .1))
 
 returns : tie.Need-returns Inv-loop μ-loop
 returns c =
     let l = c .before in
-    let past : length (l .before .args .t1) ≤ l .loop .i = omega (arith, long (l .before)) in
-    serial-end (l .before .args .t1) (l .loop .i) (l .loop .all) past (l .loop .inv .1)
+    serial-end (l .before .args .serial .now) (l .loop .i) (l .loop .all) (omega arith) (l .loop .inv .1)
 
 pub all-serial-spec : {M : Type 1} → statement M
 all-serial-spec =
@@ -53,7 +49,7 @@ all-serial-spec =
     Inv-loop
     μ-loop
     loop-holds
-    array-read-is-serial-byte
+    element-copy-out-is-serial-byte
     is-serial-byte-requires
     add-i
     loop-less

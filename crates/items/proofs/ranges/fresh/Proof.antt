@@ -48,10 +48,10 @@ started-requires-2 : tie.Need-started-requires-2
 started-requires-2 c κs = search needs
 
 abbrev bytes : tie.After-all-serial → List ℕ
-bytes c = now (c .before .before .before .before .before .before .before .before .before .before .before .args .serial)
+bytes c = now (c .before .before .before .before .before .before .before .before .before .before .before .before .args .serial)
 
 long : (c : tie.After-all-serial) → length (bytes c) ≡ 8
-long c = c .before .before .before .before .before .before .before .before .before .if1 .left
+long c = c .before .before .before .before .before .before .before .before .before .before .if1 .left
 
 tested : (c : tie.After-all-serial) → c .all-serial .result ≡ allSerial (bytes c)
 tested c = c .all-serial .ensures ∙ ap allSerial (eight (bytes c) (long c))

@@ -1,11 +1,26 @@
--- The eight tests are the definition's, one for one.
-use mathlib.Core.Path.{_≡_, refl}
+-- The eight tests are the definition's, the serial's before the others.
+use mathlib.Core.Path.{_≡_, refl, _∙_, sym}
+use mathlib.Core.Bool.{and-true, and-false}
 use lib.ListN.{length}
-use borrow.Author.Tests.{eq-eqb}
-use Rattle.items.specs.Settings.{inRange}
 use borrow.Author.Needs.{needs}
+use borrow.Author.Tests.{eq-eqb, not-true, not-false}
+use Rattle.items.specs.Settings.{inRange}
 use Rattle.items.proofs.ranges.in_range.Statement.{statement}
 use Rattle.items.proofs.ranges.in_range.Tie as tie
+
+all-serial-requires : tie.Need-all-serial-requires
+all-serial-requires c κs = search needs
+
+long : (c : tie.Start) → length (c .args .t1 .serial) ≡ 8
+long c = search needs
+
+returns : tie.Need-returns
+unfolding inRange
+returns c =
+    let d = c .before in
+    let start = d .before .before .before in
+    simp
+    (eq-eqb (length (start .args .t1 .serial)) 8 (long start), sym (d .all-serial .ensures) ∙ not-true (d .all-serial .result) (c .if1 .taken), and-false)
 
 in-bands-requires : tie.Need-in-bands-requires
 in-bands-requires c κs = search needs
@@ -25,39 +40,34 @@ is-gain-requires c κs = search needs
 is-size-requires : tie.Need-is-size-requires
 is-size-requires c κs = search needs
 
-all-serial-requires : tie.Need-all-serial-requires
-all-serial-requires c κs = search needs
-
-abbrev start : tie.After-all-serial → tie.Start
-start c = c .before .before .before .before .before .before .before .before .before
-
-long : (c : tie.Start) → length (c .args .s .serial) ≡ 8
-long c = search needs
-
-returns : tie.Need-returns
+returns-2 : tie.Need-returns-2
 unfolding inRange
-returns c =
+returns-2 c =
+    let bands = c .before .before .before .before .before in
+    let d = bands .before .before in
+    let start = d .before .before .before in
     rw (
-      c .before .before .before .before .before .before .before .in-bands .ensures,
-      c .before .before .before .before .before .is-clock .ensures,
-      c .before .before .before .before .is-d .ensures,
-      c .before .before .before .is-mode .ensures,
-      c .before .before .is-gain .ensures,
-      c .before .is-size .ensures,
-      c .all-serial .ensures,
-      eq-eqb (length (start c .args .s .serial)) 8 (long (start c)),
+      bands .in-bands .ensures,
+      c .before .before .before .before .is-clock .ensures,
+      c .before .before .before .is-d .ensures,
+      c .before .before .is-mode .ensures,
+      c .before .is-gain .ensures,
+      c .is-size .ensures,
+      eq-eqb (length (start .args .t1 .serial)) 8 (long start),
+      sym (d .all-serial .ensures) ∙ not-false (d .all-serial .result) (bands .before .if1 .left),
     )
-    refl
+    (sym (and-true _))
 
 pub in-range-spec : {M : Type 1} → statement M
 in-range-spec =
     tie.close
     (tie.spec
+    all-serial-requires
+    returns
     in-bands-requires
     is-clock-requires
     is-d-requires
     is-mode-requires
     is-gain-requires
     is-size-requires
-    all-serial-requires
-    returns)
+    returns-2)
