@@ -20,10 +20,11 @@ pub extern "C" fn skvornela_cut(
         × (now (packet .exit)
         ≡ sets (now (packet .entry)) 0 (packetOver (now (state .entry)) (now (samples .entry)) (length (now (packet .entry))))) ⌝ }
 {
-    if state.len() == 108 {
+    if state.len() == crate::states::LENGTH {
         let cut = cutting::cut_packet(crate::states::station_in(state), samples, packet);
         *wrote = cut.wrote;
-        if cut.code < 20 {
+        // "Codes from 20 consume nothing and return the state given."
+        if cut.code < codes::NO_ROOM {
             let after = cut.station;
             crate::states::put_station(state, after);
         }

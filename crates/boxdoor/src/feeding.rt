@@ -12,7 +12,7 @@ ghost use Rattle.boxdoor.specs.Feeding.{feedOver, repliedOver, freshOver
 pub extern "C" fn skvornela_fresh(serial: &[u8], state: &mut [u8]) -> u8
     ensures { λ r. ⌜ record { code = r; state = now (state .exit) } ≡ freshOver (now (serial .entry)) (now (state .entry)) ⌝ }
 {
-    if state.len() == 108 {
+    if state.len() == crate::states::LENGTH {
         let began = station::fresh(serial);
         let station = began.station;
         crate::states::put_station(state, station);
@@ -37,11 +37,12 @@ pub extern "C" fn skvornela_feed(
         × (now (reply .exit)
         ≡ sets (now (reply .entry)) 0 (repliedOver (now (state .entry)) (now (host .entry)) (length (now (reply .entry))))) ⌝ }
 {
-    if state.len() == 108 {
+    if state.len() == crate::states::LENGTH {
         let f = station::feed(crate::states::station_in(state), host, reply);
         *consumed = f.consumed;
         *wrote = f.wrote;
-        if f.code < 20 {
+        // "Codes from 20 consume nothing and return the state given."
+        if f.code < codes::NO_ROOM {
             let after = f.station;
             crate::states::put_station(state, after);
         }
@@ -78,7 +79,7 @@ fn tuned_by(t: Tuning) -> Tuned
 pub extern "C" fn skvornela_word(state: &[u8], word: &mut u32) -> u8
     ensures { λ r. ⌜ record { code = r; word = now (word .exit) } ≡ tunedOver (now (state .entry)) ⌝ }
 {
-    if state.len() == 108 {
+    if state.len() == crate::states::LENGTH {
         let t = tuned_by(station::tuning_word(crate::states::station_in(state)));
         *word = t.word;
         return t.code;

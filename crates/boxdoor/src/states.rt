@@ -8,6 +8,9 @@ ghost use lib.ListN.{length, take, drop};
 ghost use lib.Seq.{sets};
 ghost use Rattle.boxdoor.specs.States.{settingsIn, storeIn, stationIn, wideOf, narrowOf, settingsBytes, storeBytes, stationBytes};
 
+// A box in bytes: frequency 8, count 8, clock 4, D 4, running 1, mode 1, gain 1, size 1, serial 8, held 64, taken 8.
+pub(crate) const LENGTH: usize = 108;
+
 // Stores n bytes of a slice, from a place of it on, at a place of another.
 fn paste(dst: &mut [u8], to: usize, src: &[u8], from: usize, n: usize)
     requires { ⌜ (to + n ≤ length (now dst)) × (from + n ≤ length (now src)) ⌝ }

@@ -1,5 +1,6 @@
 // Wishes and replies.
 use items::table;
+use items::values;
 use replies::Reply;
 use wire::codes;
 use wishes::StateFields;
@@ -133,7 +134,11 @@ fn refusing(code: u8) -> Shown
 fn status_byte(running: bool) -> u64
     ensures { λ r. ⌜ r ≡ pick running 0x0C 0x0B ⌝ }
 {
-    if running { 0x0C } else { 0x0B }
+    if running {
+        values::STATUS_RUNNING
+    } else {
+        values::STATUS_IDLE
+    }
 }
 
 fn shown_by(reply: Reply) -> Shown

@@ -19,7 +19,7 @@ pub extern "C" fn skvornela_read(
         ⌜ record { code = r; position = now (position .exit); sample = now (sample .exit); state = now (state .exit) }
         ≡ readOver (now (state .entry)) (now (packet .entry)) ⌝ }
 {
-    if state.len() == 25 {
+    if state.len() == crate::states::LENGTH {
         let h = reader::read(crate::states::reader_in(state), packet);
         *position = h.position;
         *sample = h.sample;

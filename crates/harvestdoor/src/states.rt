@@ -5,6 +5,9 @@ ghost use mathlib.Core.Path.{_≡_};
 ghost use lib.ListN.{length};
 ghost use Rattle.harvestdoor.specs.States.{readerIn, readerBytes};
 
+// A reader in bytes: position 8, bits 8, pairs 8, heard 1.
+pub(crate) const LENGTH: usize = 25;
+
 // The reader in 25 bytes.
 pub(crate) fn reader_in(b: &[u8]) -> Reader
     requires { ⌜ length (now b) ≡ 25 ⌝ }

@@ -48,15 +48,11 @@ pub(crate) fn take_byte(t: Tally, b: u8) -> Tally
     requires { ⌜ t .taken + 1 < 0x1_0000_0000_0000_0000 ⌝ }
     ensures { λ r. ⌜ r ≡ taking t b ⌝ }
 {
-    Tally {
-        begins: t.begins,
-        taken: t.taken + 1,
-        header: field_with(0, t.taken, t.header, b),
-        number: field_with(2, t.taken, t.number, b),
-        captures: t.captures,
-        heard: t.heard,
-        position: t.position,
-    }
+    let mut next = t;
+    next.taken = t.taken + 1;
+    next.header = field_with(0, t.taken, t.header, b);
+    next.number = field_with(2, t.taken, t.number, b);
+    next
 }
 
 // The position that the packet has.

@@ -140,15 +140,9 @@ fn skip(t: Tally, k: usize) -> Tally
     requires { ⌜ t .taken + k < 0x1_0000_0000_0000_0000 ⌝ }
     ensures { λ r. ⌜ r ≡ skipped t k ⌝ }
 {
-    Tally {
-        begins: t.begins,
-        taken: t.taken + k as u64,
-        header: t.header,
-        number: t.number,
-        captures: t.captures,
-        heard: t.heard,
-        position: t.position,
-    }
+    let mut next = t;
+    next.taken = t.taken + k as u64;
+    next
 }
 
 // Takes some of a piece from a place on: whole packets, or samples, or one byte.

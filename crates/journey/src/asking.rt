@@ -3,6 +3,7 @@ use crate::saying::first;
 use crate::saying::say;
 use crate::saying::say_number;
 use crate::saying::say_signed;
+use items::values;
 use replies::Reply;
 use station::Station;
 use wishes::StateFields;
@@ -84,7 +85,10 @@ pub(crate) fn run(s: Station, mode: u8) -> Station {
     ask(
         s,
         b"SetState run",
-        Wish::SetState(StateFields { run: 2, mode }),
+        Wish::SetState(StateFields {
+            run: values::RUN,
+            mode,
+        }),
     )
 }
 
@@ -93,7 +97,10 @@ pub(crate) fn idle(s: Station) -> Station {
     ask(
         s,
         b"SetState idle",
-        Wish::SetState(StateFields { run: 1, mode: 0 }),
+        Wish::SetState(StateFields {
+            run: values::IDLE,
+            mode: 0,
+        }),
     )
 }
 
@@ -126,7 +133,7 @@ fn pace(s: Station) -> Station {
 
 // While it runs a rate is refused, and the one that was set stays.
 fn refuse_a_rate(s: Station) -> Station {
-    let a = run(s, 0x80);
+    let a = run(s, packets::MODE_24);
     let b = ask(a, b"AskStatus", Wish::AskStatus);
     let c = ask(b, b"SetRate", Wish::SetRate(55_556));
     let d = ask(c, b"AskRate", Wish::AskRate);

@@ -13,6 +13,7 @@ use items::Settings;
 use reader::Reader;
 use spans::Span;
 use station::Station;
+use wire::codes;
 use wishes::Wish;
 
 // The box, and the harvester's two readers of what it sends.
@@ -87,7 +88,7 @@ fn say_two(numbers: &[i32]) {
 fn say_numbers(packet: &[u8]) {
     let mut numbers = [0i32; 512];
     let unpacked = reader::unpack(packet, &mut numbers);
-    if unpacked.code == 1 {
+    if unpacked.code == codes::DONE {
         say_two(&numbers);
     }
 }

@@ -2,9 +2,8 @@
 ghost use mathlib.Core.Path.{_≡_};
 ghost use Prim.Native.Nat.{_≤_};
 ghost use lib.ListN.{length};
-ghost use mathlib.Core.List.{[], _∷_};
 ghost use Rattle.wire.specs.Number.{field};
-ghost use Rattle.items.specs.Items.{frequency, rowOf};
+ghost use Rattle.items.specs.Items.{versions, frequency, rowOf};
 ghost use Rattle.items.specs.Answer.{judgedOf};
 ghost use Rattle.judging.specs.Inside.{askedBy};
 use crate::sets;
@@ -53,23 +52,30 @@ fn asked_code(item: u16, p: &[u8]) -> u8
     ensures { λ r. ⌜ r ≡ askedBy (rowOf item) (now (p .entry)) ⌝ }
 {
     match item {
-        table::VERSIONS => {
-            if values::is_version(p[0]) {
-                return codes::DONE;
-            }
-            codes::VALUE_NOT_ALLOWED
-        }
-        table::FREQUENCY => asked_channel(p[0]),
-        table::GAIN => asked_channel(p[0]),
+        table::VERSIONS => asked_version(p),
+        table::FREQUENCY => asked_channel(p),
+        table::GAIN => asked_channel(p),
         _ => codes::DONE,
     }
 }
 
-// "Channel for 0020 and 0038: 00".
-fn asked_channel(byte: u8) -> u8
-    ensures { λ r. ⌜ r ≡ askedBy frequency (byte ∷ []) ⌝ }
+// Versions: id 0 to 3; "other id 16".
+fn asked_version(p: &[u8]) -> u8
+    requires { ⌜ 1 ≤ length (now p) ⌝ }
+    ensures { λ r. ⌜ r ≡ askedBy versions (now (p .entry)) ⌝ }
 {
-    if byte == 0 {
+    if values::is_version(p[0]) {
+        return codes::DONE;
+    }
+    codes::VALUE_NOT_ALLOWED
+}
+
+// "Channel for 0020 and 0038: 00".
+fn asked_channel(p: &[u8]) -> u8
+    requires { ⌜ 1 ≤ length (now p) ⌝ }
+    ensures { λ r. ⌜ r ≡ askedBy frequency (now (p .entry)) ⌝ }
+{
+    if p[0] == 0 {
         return codes::DONE;
     }
     codes::CHANNEL_NOT_ALLOWED

@@ -11,6 +11,15 @@ use items::values;
 use wishes::StateFields;
 use wishes::Wish;
 
+// 0018: "Replies hold 80, run byte, mode, 00 (house)", as numbers, least significant byte first.
+const IDLE_24: u64 = 0x00_80_01_80;
+
+const IDLE_16: u64 = 0x00_00_01_80;
+
+const RUN_24: u64 = 0x00_80_02_80;
+
+const RUN_16: u64 = 0x00_00_02_80;
+
 // How many bytes the value has in a reply to a wish.
 pub(crate) fn width_of(w: Wish) -> u8
     ensures { λ r. ⌜ r ≡ awaited w .width ⌝ }
@@ -61,7 +70,7 @@ fn is_state(n: u64) -> bool
     ensures { λ r. ⌜ r ≡ isState n ⌝ }
 {
     match n {
-        0x0080_0180 | 0x0000_0180 | 0x0080_0280 | 0x0000_0280 => true,
+        IDLE_24 | IDLE_16 | RUN_24 | RUN_16 => true,
         _ => false,
     }
 }
@@ -72,11 +81,11 @@ fn state_could(fields: StateFields, n: u64) -> bool
 {
     if fields.run == values::IDLE {
         return match n {
-            0x0080_0180 | 0x0000_0180 => true,
+            IDLE_24 | IDLE_16 => true,
             _ => false,
         };
     }
-    n == 0x0280 + 65536 * fields.mode as u64
+    n == RUN_16 + 65536 * fields.mode as u64
 }
 
 // A valid box could give the value n to the wish: a set is answered with the value that was sent, but for a rate, which is

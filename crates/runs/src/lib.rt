@@ -1,6 +1,5 @@
 // Runs of calls: many packets at once, for a program in another language that has them at once. A run crosses the boundary
 // once, so the state stays where the library keeps it. (A run of messages is a talk: crate talks.)
-use items::Settings;
 use station::Station;
 use wire::codes;
 ghost use mathlib.Core.Path.{_≡_};
@@ -42,21 +41,14 @@ pub extern "C" fn skvornela_read_run(packets: &[u8], total: usize) -> u64
 fn started(mode: u8, size: u8) -> Station
     ensures { λ r. ⌜ r ≡ started mode size ⌝ }
 {
-    let settings = Settings {
-        frequency: 10_000_000,
-        count: 0,
-        clock: 80_000_000,
-        divisor: 100,
-        running: true,
-        mode: mode,
-        gain: 0,
-        size: size,
-        serial: [0x4D, 0x54, 0x31, 0x32, 0x33, 0x34, 0x35, 0x36],
-    };
-    Station {
-        settings: settings,
-        store: framing::between(),
-    }
+    let began = station::fresh(b"MT123456");
+    let station = began.station;
+    let store = station.store;
+    let mut settings = station.settings;
+    settings.running = true;
+    settings.mode = mode;
+    settings.size = size;
+    Station { settings, store }
 }
 
 fn lesser(a: usize, b: usize) -> usize

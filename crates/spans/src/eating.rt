@@ -118,22 +118,12 @@ fn refuse(code: u8, s: Span) -> Eaten
     }
 }
 
-// The lines after a whole head that reads with a code.
-fn head_due(code: u8) -> Due
-    ensures { λ r. ⌜ (dueLines r ≡ headLines code) × (sized r ≡ true) ⌝ }
+// The opening line, and what comes behind it; no capture has ended.
+fn opening_due(ending: Ending) -> Due
+    ensures { λ r.
+        ⌜ r
+        ≡ record { opening = true; capture = 0; bits = 0; pairs = 0; divisor = 0; heard = 0; position = 0; ending = ending } ⌝ }
 {
-    if code == codes::DONE {
-        return Due {
-            opening: true,
-            capture: 0,
-            bits: 0,
-            pairs: 0,
-            divisor: 0,
-            heard: 0,
-            position: 0,
-            ending: Ending::Nothing,
-        };
-    }
     Due {
         opening: true,
         capture: 0,
@@ -142,8 +132,18 @@ fn head_due(code: u8) -> Due
         divisor: 0,
         heard: 0,
         position: 0,
-        ending: Ending::Refusal { code, offset: 0 },
+        ending,
     }
+}
+
+// The lines after a whole head that reads with a code.
+fn head_due(code: u8) -> Due
+    ensures { λ r. ⌜ (dueLines r ≡ headLines code) × (sized r ≡ true) ⌝ }
+{
+    if code == codes::DONE {
+        return opening_due(Ending::Nothing);
+    }
+    opening_due(Ending::Refusal { code, offset: 0 })
 }
 
 // The line of the open capture, and what comes behind it.
@@ -204,14 +204,7 @@ fn last_due(s: Span) -> Due
 fn after_head(code: u8, s: Span) -> Span
     ensures { λ r. ⌜ r ≡ headRead code s ⌝ }
 {
-    let held = s.held;
-    let tally = s.tally;
-    Span {
-        stopped: code != codes::DONE,
-        taken: s.taken,
-        held,
-        tally,
-    }
+    with_tally(code != codes::DONE, s, s.tally)
 }
 
 // The head's part of a piece.

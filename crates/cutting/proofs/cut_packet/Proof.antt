@@ -141,17 +141,33 @@ same-length-2 : tie.Need-same-length-2
 same-length-2 c = search needs
 
 returns-7 : tie.Need-returns-7
-returns-7 c = let a = c .before .before .before .before .before .before .before .before .before .before .before .before .before .before .before .before .before .before .before .before .before .before .before .before .before .before .before .before .args in
-    let f = c .before .before .before .before .before .before .before .before .before .before .before .before .before .before .before .before .before .before .before .before .form-for .result in
-    let form : f ≡ formNow (a .s .settings) = form-at (c .before .before .before .before .before .before .before .before .before .before .before .before .before .before .before .before .before .before .before .before) in
-    let fits : totalOf f ≤ length (now (a .packet)) = rw (total-at (c .before .before .before .before .before .before .before .before .before .before .before .before .before .before .before .before .before)) at (c .before .before .before .before .before .before .before .before .before .before .before .before .before .before .before .before .if5 .left) in
+returns-7 c =
+    -- the places on the way here, from the last call back to the start
+    let put2 = c .before .before .before in
+    let numbered = put2 .before in
+    let put = numbered .before .before .before .before in
+    let headed = put .before in
+    let good6 = headed .before .before in
+    let packed = good6 .before .before .before in
+    let roomy = packed .before .before in
+    let totalled = roomy .before in
+    let counted = totalled .before in
+    let formed = counted .before .before in
+    let unfull = formed .before in
+    let running = unfull .before in
+    let sound = running .before .before .before in
+    let a = sound .before .before .before .args in
+    let f = formed .form-for .result in
+    let n = length (now (a .packet)) in
+    let form : f ≡ formNow (a .s .settings) = form-at formed in
+    let fits : totalOf f ≤ n = rw (total-at totalled) at (roomy .if5 .left) in
     let good : allSamples (now (a .samples)) ≡ true =
-    sym (may-pack f (now (a .samples)) (length (now (a .packet))) (listed-at (c .before .before .before .before .before .before .before .before .before .before .before .before .before .before .before .before .before .before .before .before)) (many-at (c .before .before .before .before .before .before .before .before .before .before .before .before .before .before .before .before .before .before)) fits) ∙ sym (c .before .before .before .before .before .before .before .before .before .before .before .before .before .before .pack .ensures .0) ∙ not-false _ (c .before .before .before .before .before .before .before .before .before .before .before .if6 .left) in
-    rw (c .counted .ensures, ← cuts (a .s) (now (a .samples)) (length (now (a .packet))) (code-1 (a .s) (now (a .samples)) (length (now (a .packet))) (valid-at (c .before .before .before .before .before .before .before .before .before .before .before .before .before .before .before .before .before .before .before .before .before .before .before .before .before)) (running-at (c .before .before .before .before .before .before .before .before .before .before .before .before .before .before .before .before .before .before .before .before .before .before)) (c .before .before .before .before .before .before .before .before .before .before .before .before .before .before .before .before .before .before .before .before .before .if3 .left) (count-at (c .before .before .before .before .before .before .before .before .before .before .before .before .before .before .before .before .before .before)) good (rw form at fits))) (
-      rw (total-at (c .before .before .before .before .before .before .before .before .before .before .before .before .before .before .before .before .before), form),
-      packet-stored f (now (a .samples)) (length (now (a .packet))) (listed-at (c .before .before .before .before .before .before .before .before .before .before .before .before .before .before .before .before .before .before .before .before)) (many-at (c .before .before .before .before .before .before .before .before .before .before .before .before .before .before .before .before .before .before)) fits (now (a .packet)) _ _ _ (a .s .settings .count) (c .before .before .before .before .before .before .before .before .before .before .before .before .before .before .before .before .before .total-of .result)
-          (c .before .before .before .before .before .before .before .before .before .header-of .result) (c .before .before .before .before .number-at-position .result) good (total-at (c .before .before .before .before .before .before .before .before .before .before .before .before .before .before .before .before .before)) (c .before .before .before .before .before .before .before .before .before .header-of .ensures) (c .before .before .before .before .number-at-position .ensures) (c .before .before .before .before .before .before .before .before .before .before .before .before .before .before .pack .ensures .1)
-          (c .before .before .before .before .before .before .before .before .put .ensures) (c .before .before .before .put2 .ensures)
+    sym (may-pack f (now (a .samples)) n (listed-at formed) (many-at counted) fits) ∙ sym (packed .pack .ensures .0) ∙ not-false _ (good6 .if6 .left) in
+    rw (c .counted .ensures, ← cuts (a .s) (now (a .samples)) n (code-1 (a .s) (now (a .samples)) n (valid-at sound) (running-at running) (unfull .if3 .left) (count-at counted) good (rw form at fits))) (
+      rw (total-at totalled, form),
+      packet-stored f (now (a .samples)) n (listed-at formed) (many-at counted) fits (now (a .packet)) _ _ _ (a .s .settings .count) (totalled .total-of .result)
+          (headed .header-of .result) (numbered .number-at-position .result) good (total-at totalled) (headed .header-of .ensures) (numbered .number-at-position .ensures) (packed .pack .ensures .1)
+          (put .put .ensures) (put2 .put2 .ensures)
           ∙ ap (λ (g : Form). sets (now (a .packet)) 0 (packetOf g (a .s .settings .count) (now (a .samples)))) form,
     )
 

@@ -8,6 +8,7 @@ use borrow.Rule.Slice.PartMut.{putMid}
 use lib.Seq.{sets}
 use Rattle.wire.proofs.Stores.{part-sets, rest-part, rest-long}
 use Rattle.station.specs.declared.Fed.{Fed}
+use Rattle.station.specs.declared.Station.{Station}
 use lib.ListN.{length, drop, length-drop}
 use Rattle.station.specs.Feeding.{Feeding, feedingOf}
 use Rattle.station.proofs.Calls.{Within, feeding-within}
@@ -72,31 +73,54 @@ part-feed-end-2 c = search needs
 feed-requires : tie.Need-feed-requires Inv-loop μ-loop
 feed-requires c κs = search needs
 
--- what the call is of: the rest of the host's bytes, and the rest of the room
-abbrev calling : (c : tie.After-feed Inv-loop μ-loop) → Feeding
-calling c = feedingOf (c .before .before .before .before .before .before .loop .s) (drop (c .before .before .before .before .before .before .loop .i) (c .before .before .before .before .before .before .before .before .before .before .before .before .args .host .now)) (length (c .before .before .before .before .before .before .loop .replies) - c .before .before .before .before .before .before .loop .at)
+-- where the call stands in the loop, and what it is of: the rest of the host's bytes, and the rest of the room
+abbrev host : tie.After-feed Inv-loop μ-loop → List ℕ
+host c = c .before .before .before .before .before .before .before .before .before .before .before .before .args .host .now
 
-module _ (c : tie.After-feed Inv-loop μ-loop) where
-  fed : c .feed .result ≡ calling c .fed
-  fed = rw (rest-part (c .before .before .before .before .before .before .loop .i) (c .before .before .before .before .before .before .before .before .before .before .before .before .args .host .now), rest-long (c .before .before .before .before .before .before .loop .at) (c .before .before .before .before .before .before .loop .replies)) at (c .feed .ensures .0)
+abbrev replies : tie.After-feed Inv-loop μ-loop → List ℕ
+replies c = c .before .before .before .before .before .before .loop .replies
 
-  stored : putMid (c .before .before .before .before .before .before .loop .at) (length (c .before .before .before .before .before .before .loop .replies) - c .before .before .before .before .before .before .loop .at) (c .before .before .before .before .before .before .loop .replies) (c .feed .last .1 .1 .0) ≡ sets (c .before .before .before .before .before .before .loop .replies) (c .before .before .before .before .before .before .loop .at) (calling c .bytes)
-  stored =
-      ap (λ (v : List ℕ). putMid (c .before .before .before .before .before .before .loop .at) (length (c .before .before .before .before .before .before .loop .replies) - c .before .before .before .before .before .before .loop .at) (c .before .before .before .before .before .before .loop .replies) v) (rw (rest-part (c .before .before .before .before .before .before .loop .i) (c .before .before .before .before .before .before .before .before .before .before .before .before .args .host .now), rest-long (c .before .before .before .before .before .before .loop .at) (c .before .before .before .before .before .before .loop .replies)) at (c .feed .ensures .1))
-      ∙ part-sets (c .before .before .before .before .before .before .loop .at) (length (c .before .before .before .before .before .before .loop .replies) - c .before .before .before .before .before .before .loop .at) (c .before .before .before .before .before .before .loop .replies) (calling c .bytes) (omega (arith, c .before .before .before .before .before .before .loop .inv .room))
+abbrev box : tie.After-feed Inv-loop μ-loop → Station
+box c = c .before .before .before .before .before .before .loop .s
 
-  bound : Within (drop (c .before .before .before .before .before .before .loop .i) (c .before .before .before .before .before .before .before .before .before .before .before .before .args .host .now)) (length (c .before .before .before .before .before .before .loop .replies) - c .before .before .before .before .before .before .loop .at) (calling c)
-  bound = feeding-within (c .before .before .before .before .before .before .loop .s) (drop (c .before .before .before .before .before .before .loop .i) (c .before .before .before .before .before .before .before .before .before .before .before .before .args .host .now)) (length (c .before .before .before .before .before .before .loop .replies) - c .before .before .before .before .before .before .loop .at)
+abbrev eaten : tie.After-feed Inv-loop μ-loop → ℕ
+eaten c = c .before .before .before .before .before .before .loop .i
+
+abbrev place : tie.After-feed Inv-loop μ-loop → ℕ
+place c = c .before .before .before .before .before .before .loop .at
+
+abbrev rest : tie.After-feed Inv-loop μ-loop → List ℕ
+rest c = drop (eaten c) (host c)
+
+abbrev room : tie.After-feed Inv-loop μ-loop → ℕ
+room c = length (replies c) - place c
+
+abbrev calling : tie.After-feed Inv-loop μ-loop → Feeding
+calling c = feedingOf (box c) (rest c) (room c)
+
+going : (c : tie.After-feed Inv-loop μ-loop) → Going (host c) (c .before .before .before .before .before .before .before .before .before .before .before .before .args .replies .now) (replies c) (box c) (eaten c) (place c) (c .before .before .before .before .before .before .loop .left)
+going c = c .before .before .before .before .before .before .loop .inv
+
+fed : (c : tie.After-feed Inv-loop μ-loop) → c .feed .result ≡ calling c .fed
+fed c = rw (rest-part (eaten c) (host c), rest-long (place c) (replies c)) at (c .feed .ensures .0)
+
+stored : (c : tie.After-feed Inv-loop μ-loop) → putMid (place c) (room c) (replies c) (c .feed .last .1 .1 .0) ≡ sets (replies c) (place c) (calling c .bytes)
+stored c =
+    ap (λ (v : List ℕ). putMid (place c) (room c) (replies c) v) (rw (rest-part (eaten c) (host c), rest-long (place c) (replies c)) at (c .feed .ensures .1))
+    ∙ part-sets (place c) (room c) (replies c) (calling c .bytes) (omega (arith, going c .room))
+
+bound : (c : tie.After-feed Inv-loop μ-loop) → Within (rest c) (room c) (calling c)
+bound c = feeding-within (box c) (rest c) (room c)
 
 add-i : tie.Need-add-i Inv-loop μ-loop
 add-i c =
     let f = c .before .before .before .before in
-    omega (arith, ap (λ (r : Fed). r .consumed) (fed f), bound f .consumed, length-drop (f .before .before .before .before .before .before .loop .i) (f .before .before .before .before .before .before .before .before .before .before .before .before .args .host .now), f .before .before .before .before .before .before .loop .inv .inside, f .before .before .before .before .before .before .before .before .before .before .before .before .good)
+    omega (arith, ap (λ (r : Fed). r .consumed) (fed f), bound f .consumed, length-drop (eaten f) (host f), going f .inside, f .before .before .before .before .before .before .before .before .before .before .before .before .good)
 
 add-at : tie.Need-add-at Inv-loop μ-loop
 add-at c =
     let f = c .before .before .before .before .before in
-    omega (arith, ap (λ (r : Fed). r .wrote) (fed f), bound f .wrote, bound f .fits, f .before .before .before .before .before .before .loop .inv .long, f .before .before .before .before .before .before .loop .inv .room, f .before .before .before .before .before .before .before .before .before .before .before .before .good)
+    omega (arith, ap (λ (r : Fed). r .wrote) (fed f), bound f .wrote, bound f .fits, going f .long, going f .room, f .before .before .before .before .before .before .before .before .before .before .before .before .good)
 
 sub-left : tie.Need-sub-left Inv-loop μ-loop
 sub-left c = search needs
@@ -107,9 +131,7 @@ loop-less c = search needs
 loop-again : tie.Need-loop-again Inv-loop μ-loop
 loop-again c =
     let f = c .before .before .before .before .before in
-    let l = f .before .before .before .before .before .before .loop in
-    let host = f .before .before .before .before .before .before .before .before .before .before .before .before .args .host .now in
-    turns host _ (l .replies) _ (l .s) (l .i) (l .at) (l .left) (calling f) refl (l .inv) (omega arith) (omega arith) (f .before .before .before .if2 .left) (stored f) (f .feed .result) (fed f)
+    turns (host f) _ (replies f) _ (box f) (eaten f) (place f) _ (calling f) refl (going f) (omega arith) (omega arith) (f .before .before .before .if2 .left) (stored f) (f .feed .result) (fed f)
 
 same-length-3 : tie.Need-same-length-3 Inv-loop μ-loop
 same-length-3 c = c .before .loop .inv .long

@@ -4,8 +4,8 @@ use Rattle.hearing.specs.Hearing.{taking}
 use Rattle.hearing.proofs.coming.take_byte.Statement.{statement}
 use Rattle.hearing.proofs.coming.take_byte.Tie as tie
 
-add-t3 : tie.Need-add-t3
-add-t3 c = search needs
+add-next : tie.Need-add-next
+add-next c = search needs
 
 field-with-requires : tie.Need-field-with-requires
 field-with-requires c κs = search needs
@@ -18,4 +18,4 @@ unfolding taking
 returns c = rw (c .before .field-with .ensures, c .field-with2 .ensures)
 
 pub take-byte-spec : {M : Type 1} → statement M
-take-byte-spec = tie.close (tie.spec add-t3 field-with-requires field-with-requires-2 returns)
+take-byte-spec = tie.close (tie.spec add-next field-with-requires field-with-requires-2 returns)

@@ -1,5 +1,4 @@
 -- Only versions, frequency and gain ask something of a request.
-use mathlib.Core.Path.{refl, sym, _∙_}
 use denote.Ref.{now}
 use Rattle.items.specs.Items.{rowOf}
 use Rattle.judging.proofs.Parts.{asked-else}
@@ -7,42 +6,29 @@ use borrow.Author.Needs.{needs}
 use Rattle.judging.proofs.message.asked_code.Statement.{statement}
 use Rattle.judging.proofs.message.asked_code.Tie as tie
 
-shared-slice-read-is-version : tie.Need-shared-slice-read-is-version
-shared-slice-read-is-version c = search needs
-
-is-version-requires : tie.Need-is-version-requires
-is-version-requires c κs = search needs
-
-returns : tie.Need-returns
-unfolding rowOf
-returns c = rw (c .before .before .before .match .keys1, sym (c .before .is-version .ensures) ∙ c .if1 .taken) refl
-
-shared-slice-read-asked-channel : tie.Need-shared-slice-read-asked-channel
-shared-slice-read-asked-channel c = search needs
+asked-version-requires : tie.Need-asked-version-requires
+asked-version-requires c κs = search needs
 
 asked-channel-requires : tie.Need-asked-channel-requires
 asked-channel-requires c κs = search needs
 
-shared-slice-read-asked-channel-2 : tie.Need-shared-slice-read-asked-channel-2
-shared-slice-read-asked-channel-2 c = search needs
-
 asked-channel-requires-2 : tie.Need-asked-channel-requires-2
 asked-channel-requires-2 c κs = search needs
 
+returns : tie.Need-returns
+unfolding rowOf
+returns c = rw (c .before .match .keys1) (c .asked-version .ensures)
+
 returns-2 : tie.Need-returns-2
 unfolding rowOf
-returns-2 c = rw (c .before .before .before .match .keys1, sym (c .before .is-version .ensures) ∙ c .if1 .left) refl
+returns-2 c = rw (c .before .match .keys2) (c .asked-channel .ensures)
 
 returns-3 : tie.Need-returns-3
 unfolding rowOf
-returns-3 c = rw (c .before .before .match .keys2) (c .asked-channel .ensures)
+returns-3 c = rw (c .before .match .keys3) (c .asked-channel2 .ensures)
 
 returns-4 : tie.Need-returns-4
-unfolding rowOf
-returns-4 c = rw (c .before .before .match .keys3) (c .asked-channel2 .ensures)
-
-returns-5 : tie.Need-returns-5
-returns-5 c =
+returns-4 c =
     let a = c .before .before .args in
     asked-else (a .item) (c .match .rest .0 .0 .1) (c .match .rest .0 .1) (c .match .rest .1) (now (a .p))
 
@@ -50,14 +36,10 @@ pub asked-code-spec : {M : Type 1} → statement M
 asked-code-spec =
     tie.close
     (tie.spec
-    shared-slice-read-is-version
-    is-version-requires
-    returns
-    shared-slice-read-asked-channel
+    asked-version-requires
     asked-channel-requires
-    shared-slice-read-asked-channel-2
     asked-channel-requires-2
+    returns
     returns-2
     returns-3
-    returns-4
-    returns-5)
+    returns-4)

@@ -1,15 +1,22 @@
 -- The opening line, and the refusal behind it where there is one.
 use native.Mathlib.Omega.{arith}
+use borrow.Author.Needs.{needs}
 use borrow.Author.Tests.{eq-eqb, ne-eqb}
 use Rattle.lines.proofs.Dues.{is-sized}
 use Rattle.spans.proofs.eating.head_due.Statement.{statement}
 use Rattle.spans.proofs.eating.head_due.Tie as tie
 
+opening-due-requires : tie.Need-opening-due-requires
+opening-due-requires c κs = search needs
+
 returns : tie.Need-returns
-returns c = (rw (eq-eqb _ 1 (c .if1 .taken)), is-sized _ (omega arith) (omega arith) (omega arith))
+returns c = rw (c .opening-due .ensures) (rw (eq-eqb _ 1 (c .before .if1 .taken)), is-sized _ (omega arith) (omega arith) (omega arith))
+
+opening-due-requires-2 : tie.Need-opening-due-requires-2
+opening-due-requires-2 c κs = search needs
 
 returns-2 : tie.Need-returns-2
-returns-2 c = (rw (ne-eqb _ 1 (c .if1 .left)), is-sized _ (omega arith) (omega arith) (omega arith))
+returns-2 c = rw (c .opening-due2 .ensures) (rw (ne-eqb _ 1 (c .before .if1 .left)), is-sized _ (omega arith) (omega arith) (omega arith))
 
 pub head-due-spec : {M : Type 1} → statement M
-head-due-spec = tie.close (tie.spec returns returns-2)
+head-due-spec = tie.close (tie.spec opening-due-requires returns opening-due-requires-2 returns-2)
