@@ -4,7 +4,7 @@ use mathlib.Core.Path.{_≡_}
 use mathlib.Core.Bool.{true}
 use mathlib.Core.List.{List, [], _∷_, _++_}
 use Rattle.station.specs.declared.Station.{Station}
-use Rattle.station.specs.Station.{valid}
+use Rattle.station.specs.Station.{valid, freshStation, sessionSerial}
 use Rattle.station.specs.Serving.{Served, unserved, Piece, serving}
 
 -- a piece as it was read; each call has 64 bytes of room for its reply
@@ -32,3 +32,9 @@ handedAll s (p ∷ ps) = following (handed s p .replies) (handedAll (handed s p 
 abbrev pub pieces : List (List ℕ) → List Piece
 pieces [] = []
 pieces (p ∷ ps) = piece p ∷ pieces ps
+
+-- "The session program feeds standard input to a fresh box with serial MT123456": a box that pieces of an input have left
+pub record Reached (s : Station) : Type 0 where
+  pub pieces : List (List ℕ)
+  pub box : s ≡ handedAll (freshStation sessionSerial) pieces .station
+  pub valid : valid s ≡ true

@@ -6,10 +6,8 @@ use libc::STDOUT_FILENO;
 use station::Fed;
 use station::Station;
 ghost use mathlib.Core.Path.{_≡_};
-ghost use mathlib.Core.Bool.{true};
-ghost use Rattle.station.specs.Station.{valid};
 ghost use Rattle.station.specs.Feeding.{feedingOf};
-ghost use Rattle.session.specs.Session.{HandedOver};
+ghost use Rattle.session.specs.Session.{HandedOver, Reached};
 
 // Writes the reply of a box to some bytes of the host, in one write. Box and bytes are there for the contract alone, which
 // says whose reply it is. That it could not be written is said on standard error.
@@ -34,7 +32,7 @@ fn feed_once(s: Station, host: &[u8]) -> Fed
 
 // Hands a piece over by calling again until its bytes are used up.
 fn feed_piece(s: Station, piece: &[u8]) -> Station
-    requires { ⌜ valid s ≡ true ⌝ }
+    requires { ⌜ Reached s ⌝ }
     ensures { λ r. ⌜ HandedOver s (now (piece .entry)) r ⌝ }
 {
     let mut now = s;
@@ -59,7 +57,7 @@ fn read_failed() {
 // Reads pieces as they come, until the input ends or a read fails. A proved loop has to end, and nothing says that the input
 // does. So the loop counts its turns down, from a number that no run uses up.
 fn serve(s: Station, buf: &mut [u8])
-    requires { ⌜ valid s ≡ true ⌝ }
+    requires { ⌜ Reached s ⌝ }
 {
     let mut now = s;
     let mut turns = u64::MAX;

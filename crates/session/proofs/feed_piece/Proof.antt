@@ -14,7 +14,7 @@ abbrev μ-loop : tie.MeasureT-loop
 μ-loop piece now₀ at₀ now at = length piece - at
 
 loop-holds : tie.Need-loop-holds Inv-loop μ-loop
-loop-holds c = begins _ _ (c .before .pre)
+loop-holds c = begins _ _ (c .before .pre .valid)
 
 sub-feed-once : tie.Need-sub-feed-once Inv-loop μ-loop
 sub-feed-once c = search needs

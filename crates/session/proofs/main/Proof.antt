@@ -1,6 +1,6 @@
 -- A fresh box is valid.
 use borrow.Author.Needs.{needs}
-use Rattle.session.proofs.Calls.{fresh-valid}
+use Rattle.session.proofs.Reaching.{reached-fresh}
 use Rattle.session.proofs.main.Statement.{statement}
 use Rattle.session.proofs.main.Tie as tie
 
@@ -14,7 +14,7 @@ slice-aggregate-serve : tie.Need-slice-aggregate-serve
 slice-aggregate-serve c = search needs
 
 serve-requires : tie.Need-serve-requires
-serve-requires c κs = rw (c .before .fresh .ensures) fresh-valid
+serve-requires c κs = rw (c .before .fresh .ensures) reached-fresh
 
 returns : tie.Need-returns
 returns c = search needs

@@ -1,14 +1,14 @@
 -- The measure is the number of turns that are left. Reading keeps the buffer's length, and a piece leaves the box valid.
 use mathlib.Core.Path.{_≡_}
 use lib.ListN.{length}
-use mathlib.Core.Bool.{true}
-use Rattle.station.specs.Station.{valid}
+use Rattle.session.specs.Session.{Reached}
+use Rattle.session.proofs.Reaching.{reached-more}
 use borrow.Author.Needs.{needs}
 use Rattle.session.proofs.serve.Statement.{statement}
 use Rattle.session.proofs.serve.Tie as tie
 
 abbrev Inv-loop : tie.InvT-loop
-Inv-loop buf₀ now₀ turns₀ buf now turns = (length buf ≡ length buf₀) × (valid now ≡ true)
+Inv-loop buf₀ now₀ turns₀ buf now turns = (length buf ≡ length buf₀) × Reached now
 
 abbrev μ-loop : tie.MeasureT-loop
 μ-loop buf₀ now₀ turns₀ buf now turns = turns
@@ -53,7 +53,7 @@ loop-less : tie.Need-loop-less Inv-loop μ-loop
 loop-less c = search needs
 
 loop-again : tie.Need-loop-again Inv-loop μ-loop
-loop-again c = search needs
+loop-again c = search (needs, reached-more)
 
 same-length-3 : tie.Need-same-length-3 Inv-loop μ-loop
 same-length-3 c = search needs
