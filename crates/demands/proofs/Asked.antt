@@ -1,15 +1,17 @@
 -- Demand 2: what the harvester asks is what the box understands, and what the box says is what the harvester reads.
 -- Assumes nothing.
 use Prim.Native.Nat.{ℕ, _-_, _≤_}
+use native.Mathlib.Nat.{le-refl}
 use native.Mathlib.Omega.{arith}
 use borrow.Author.Tests.{lt-leb, not-false}
 use mathlib.Core.Path.{_≡_, refl, sym, ap, _∙_}
 use mathlib.Core.Bool.{true, false}
 use mathlib.Core.List.{List, [], _++_, append-nil}
+use mathlib.Core.Logic.{_⊎_, inl, inr, _↔_}
 use lib.Dec.{leb, lit≤}
 use lib.ListN.{length, replicate}
 use Rattle.wire.specs.Number.{bytes, field}
-use Rattle.wire.specs.Header.{headerOf, typeIn, lengthIn, typeData}
+use Rattle.wire.specs.Header.{nak, headerOf, typeIn, lengthIn, typeData}
 use Rattle.wire.proofs.Checks.{absent}
 use Rattle.wire.proofs.Headers.{length-header, type-header, header-below}
 use Rattle.framing.specs.Framing.{taken, between, announced, headerIn, totalOf}
@@ -20,7 +22,7 @@ use Rattle.layouts.proofs.Sizes.{least, length-laid}
 use Rattle.items.specs.declared.Settings.{Settings}
 use Rattle.items.specs.Settings.{inRange}
 use Rattle.items.specs.Answer.{Message, codeOf, settingsAfter, replyOf}
-use Rattle.station.specs.Feeding.{Feeding, feedingOf, messageIn}
+use Rattle.station.specs.Feeding.{Feeding, feedingOf, messageIn, answered}
 use Rattle.station.proofs.Valid.{valid-both}
 use Rattle.wishes.specs.declared.Wish.{Wish}
 use Rattle.wishes.specs.Wishes.{asking, layoutOf, messageOf, asMessage, allowed}
@@ -28,10 +30,11 @@ use Rattle.wishes.specs.Writing.{writeChecks, writeCode, bytesWritten}
 use Rattle.wishes.proofs.Rows.{of-row, short-message}
 use Rattle.wishes.proofs.Understood.{code-of-wish, settings-of-wish}
 use Rattle.replies.specs.Reading.{toldOf}
-use Rattle.replies.proofs.Exactly.{box-reply-is-read}
+use Rattle.replies.specs.Exactly.{Given}
+use Rattle.replies.proofs.Exactly.{box-reply-is-read, exactly}
 use Rattle.demands.specs.Shown.{resting}
-use Rattle.demands.specs.Asked.{Understands, WhatIsAskedIsUnderstood}
-use Rattle.demands.proofs.OneMessage.{holding, tookAll, one-message, whole-fed}
+use Rattle.demands.specs.Asked.{Understands, WhatIsAskedIsUnderstood, Writes, ReadsWhatBoxesWrite}
+use Rattle.demands.proofs.OneMessage.{holding, tookAll, one-message, whole-fed, whole-answered}
 
 -- ---- a message has its true length in its header
 
@@ -81,23 +84,33 @@ wish-held w =
 
 -- ---- the demand
 
-understands : (w : Wish) (s : Settings) (room : ℕ) → allowed w ≡ true → inRange s ≡ true → 64 ≤ room
+-- a call that answers the wish's message
+abbrev answering : Wish → Settings → Feeding
+answering w s = record { fed = record { code = codeOf s (asMessage w); consumed = length (messageOf w); wrote = length (replyOf s (asMessage w)); station = resting (settingsAfter s (asMessage w)) }; bytes = replyOf s (asMessage w) }
+
+answered-wish : (w : Wish) (s : Settings) → answered s (tookAll (messageOf w)) ≡ answering w s
+answered-wish w s =
+    ap (λ (m : Message). record { fed = record { code = codeOf s m; consumed = length (messageOf w); wrote = length (replyOf s m); station = resting (settingsAfter s m) }; bytes = replyOf s m }) (wish-held w)
+
+fed-wish : (w : Wish) (s : Settings) (room : ℕ) → inRange s ≡ true → (feedingOf (resting s) (messageOf w) room .fed .code ≡ 20 → ⊥)
+    → feedingOf (resting s) (messageOf w) room ≡ answering w s
+fed-wish w s room v some = whole-answered (messageOf w) s room (wish-taken w) (valid-both s between v between-left) some ∙ answered-wish w s
+
+-- 64 bytes are room enough
+roomy-wish : (w : Wish) (s : Settings) (room : ℕ) → inRange s ≡ true → 64 ≤ room → feedingOf (resting s) (messageOf w) room ≡ answering w s
+roomy-wish w s room v enough = whole-fed (messageOf w) s room (wish-taken w) (valid-both s between v between-left) enough ∙ answered-wish w s
+
+understands : (w : Wish) (s : Settings) (room : ℕ) → allowed w ≡ true → inRange s ≡ true → feedingOf (resting s) (messageOf w) room ≡ answering w s
     → Understands w (messageOf w) s room
-understands w s room e v enough =
+understands w s room e v fed =
     record {
       code = ap (λ (f : Feeding). f .fed .code) fed ∙ code-of-wish w s e;
       does = ap (λ (f : Feeding). f .fed .station) fed ∙ ap resting (settings-of-wish w s e);
       says = ap (λ (f : Feeding). toldOf w (f .bytes)) fed ∙ box-reply-is-read w s e v;
     }
-  where
-    fed : feedingOf (resting s) (messageOf w) room
-        ≡ record { fed = record { code = codeOf s (asMessage w); consumed = length (messageOf w); wrote = length (replyOf s (asMessage w)); station = resting (settingsAfter s (asMessage w)) }; bytes = replyOf s (asMessage w) }
-    fed =
-        whole-fed (messageOf w) s room (wish-taken w) (valid-both s between v between-left) enough
-        ∙ ap (λ (m : Message). record { fed = record { code = codeOf s m; consumed = length (messageOf w); wrote = length (replyOf s m); station = resting (settingsAfter s m) }; bytes = replyOf s m }) (wish-held w)
 
 -- the writer accepts exactly what is allowed, and writes its message
-accepted : (w : Wish) (buffer : ℕ) → writeCode w buffer ≡ 1 → allowed w ≡ true
+pub accepted : (w : Wish) (buffer : ℕ) → writeCode w buffer ≡ 1 → allowed w ≡ true
 unfolding writeCode
 accepted w buffer e = not-false (allowed w) (absent (writeChecks w buffer) 1 refl e .0)
 
@@ -106,5 +119,27 @@ unfolding bytesWritten
 message-written w buffer e = rw e refl
 
 pub what-is-asked-is-understood : WhatIsAskedIsUnderstood
-what-is-asked-is-understood w buffer e s v room enough =
-    rw (message-written w buffer e) (understands w s room (accepted w buffer e) v enough)
+what-is-asked-is-understood w buffer e s v room some =
+    let written = message-written w buffer e in
+    rw written (understands w s room (accepted w buffer e) v (fed-wish w s room v (rw written at some)))
+
+-- with 64 bytes of room
+pub understood-in-64 : (w : Wish) (s : Settings) → allowed w ≡ true → inRange s ≡ true → Understands w (messageOf w) s 64
+understood-in-64 w s e v = understands w s 64 e v (roomy-wish w s 64 v (le-refl 64))
+
+pub reads-what-boxes-write : ReadsWhatBoxesWrite
+reads-what-boxes-write w buffer bs e = rw (message-written w buffer e) (λ h. into (exactly w bs ok .0 h), λ h. exactly w bs ok .1 (from h))
+  where
+    ok : allowed w ≡ true
+    ok = accepted w buffer e
+
+    bytes-of : (s : Settings) → inRange s ≡ true → feedingOf (resting s) (messageOf w) 64 .bytes ≡ replyOf s (asMessage w)
+    bytes-of s v = ap (λ (f : Feeding). f .bytes) (roomy-wish w s 64 v (le-refl 64))
+
+    into : (bs ≡ nak) ⊎ Given w bs → (bs ≡ nak) ⊎ Writes (messageOf w) bs
+    into (inl n) = inl n
+    into (inr g) = inr (record { settings = g .settings; valid = g .valid; writes = bytes-of (g .settings) (g .valid) ∙ g .gives })
+
+    from : (bs ≡ nak) ⊎ Writes (messageOf w) bs → (bs ≡ nak) ⊎ Given w bs
+    from (inl n) = inl n
+    from (inr g) = inr (record { settings = g .settings; valid = g .valid; gives = sym (bytes-of (g .settings) (g .valid)) ∙ g .writes })

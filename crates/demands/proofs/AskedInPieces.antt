@@ -29,7 +29,7 @@ use Rattle.demands.specs.Shown.{resting}
 use Rattle.demands.specs.Written.{replyDue}
 use Rattle.demands.specs.Asked.{Understands}
 use Rattle.demands.specs.AskedInPieces.{UnderstandsInPieces, WhatIsAskedIsUnderstoodInPieces}
-use Rattle.demands.proofs.Asked.{wish-taken, message-written, what-is-asked-is-understood}
+use Rattle.demands.proofs.Asked.{wish-taken, accepted, message-written, understood-in-64}
 use Rattle.demands.proofs.Written.{feeds-by-the-table}
 use Rattle.demands.proofs.InPieces.{whole, message-served, pieces-served}
 
@@ -85,4 +85,4 @@ pub what-is-asked-is-understood-in-pieces : WhatIsAskedIsUnderstoodInPieces
 what-is-asked-is-understood-in-pieces w buffer e s ranged pieces enough same =
     let written = message-written w buffer e in
     understood-in-pieces w s pieces ranged enough (same ∙ written)
-    (rw written at (what-is-asked-is-understood w buffer e s ranged 64 (le-refl 64)))
+    (understood-in-64 w s (accepted w buffer e) ranged)

@@ -10,3 +10,4 @@ pub mod ShownFed
 pub mod ShownInPieces
 pub mod Refused
 pub mod Written
+pub mod Given

@@ -13,6 +13,7 @@ use lib.ListN.{length, replicate, length-append}
 use lib.Seq.{set-at, take-append-le, append-snoc}
 use Rattle.wire.specs.Number.{number}
 use Rattle.wire.specs.Header.{lengthIn, typeIn}
+use Rattle.wire.proofs.Laws.{never}
 use Rattle.framing.proofs.Cutting.{told, taking-on}
 use Rattle.framing.specs.declared.Store.{Store}
 use Rattle.framing.specs.Framing.{Taking, taking, taken, pushed, finished, announced, totalOf, between}
@@ -20,7 +21,7 @@ use Rattle.items.specs.declared.Settings.{Settings}
 use Rattle.station.specs.Station.{valid}
 use Rattle.station.specs.Feeding.{messageIn, answered, feedingOf}
 use Rattle.station.proofs.Short.{reply-short}
-use Rattle.station.proofs.Valid.{valid-settings, feeding-answered}
+use Rattle.station.proofs.Valid.{valid-settings, feeding-answered, each-way}
 use Rattle.demands.specs.Shown.{resting}
 
 -- what is held of a message's first bytes
@@ -94,3 +95,10 @@ whole-fed m s room took v enough =
     feeding-answered s between m room v (told 0 between m ∙ ap (λ (t : Taking). t .finished) took)
     (le-trans (reply-short s (messageIn (taken between m .store)) (valid-settings s between v)) enough)
     ∙ ap (answered s) took
+
+-- so does every call that is not refused for want of room
+pub whole-answered : (m : List ℕ) (s : Settings) (room : ℕ) → taken between m ≡ tookAll m → valid (resting s) ≡ true
+    → (feedingOf (resting s) m room .fed .code ≡ 20 → ⊥) → feedingOf (resting s) m room ≡ answered s (tookAll m)
+whole-answered m s room took v some =
+    each-way (λ f. (f .fed .code ≡ 20 → ⊥) → f ≡ answered s (tookAll m)) (resting s) m room (λ w h. never (sym w ∙ v)) (λ w h. absurd (h refl))
+    (λ w f h. never (sym f ∙ ap (λ (t : Taking). t .finished) took)) (λ w f enough h. ap (answered s) took) some

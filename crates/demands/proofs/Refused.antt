@@ -1,16 +1,22 @@
 -- Demand 1: what a refused call leaves.
 -- Assumes nothing.
 use Prim.Native.Nat.{ℕ, _≤_, _<_}
-use mathlib.Core.Path.{_≡_, refl}
-use mathlib.Core.List.{List}
+use mathlib.Core.Path.{_≡_, refl, sym, _∙_}
+use mathlib.Core.List.{List, [], _∷_}
 use native.Mathlib.Omega.{arith}
-use borrow.Author.Tests.{ne-eqb}
-use lib.Dec.{eqb}
+use native.Mathlib.Nat.{zero-add}
+use borrow.Author.Tests.{ne-eqb, lt-leb}
+use mathlib.Core.Bool.{true, false, and-false}
+use lib.ListN.{length, replicate}
+use lib.Dec.{eqb, lit≤}
 use lib.IntN.{ℤ}
 use Rattle.wire.specs.Header.{nak}
 use Rattle.wire.proofs.Checks.{given-below}
 use Rattle.wire.proofs.Laws.{pick-keeps}
-use Rattle.framing.specs.Framing.{taken}
+use Rattle.framing.specs.Framing.{taking, taken, finished, announced, couldBeLeft}
+use Rattle.items.specs.Settings.{inRange}
+use Rattle.station.specs.Station.{valid, freshStation}
+use Rattle.framing.proofs.Cutting.{told, count-all}
 use Rattle.items.specs.declared.Settings.{Settings}
 use Rattle.items.specs.Answer.{Message, checks, codeOf, settingsAfter, replyOf}
 use Rattle.reader.specs.declared.Reader.{Reader}
@@ -19,14 +25,14 @@ use Rattle.reader.specs.Reading.{positionAfter, readCode, readingOf, heardAt, u
 use Rattle.station.specs.declared.Station.{Station}
 use Rattle.station.specs.Feeding.{messageIn, feedingOf}
 use Rattle.station.proofs.Kept.{refused-leaves}
-use Rattle.station.proofs.Valid.{each-way}
+use Rattle.station.proofs.Valid.{each-way, feeding-waiting}
 use Rattle.cutting.specs.Cutting.{cuttingOf}
 use Rattle.cutting.proofs.Ways.{each-cut}
 use Rattle.packets.specs.Forms.{wholeOf}
-use Rattle.demands.specs.Refused.{NakOnly, FeedsNothing, CutsNothing, HearsNothing}
+use Rattle.demands.specs.Refused.{NakOnly, FeedsNothing, CutsNothing, HearsNothing, WaitsForTheEnd, naksAt64}
 
 -- a message's own code is under 20
-code-below : (s : Settings) (m : Message) → codeOf s m < 20
+pub code-below : (s : Settings) (m : Message) → codeOf s m < 20
 unfolding codeOf
 code-below s m = given-below 20 (checks s m) 1 refl (omega arith)
 
@@ -62,3 +68,19 @@ unfolding readingOf
 read-refused r packet =
     pick-keeps (HearsNothing r) (eqb (readCode r packet) 1) (heardAt (positionAfter r (numberIn packet)) (wholeOf packet)) (unheard (readCode r packet) r)
     (λ e h. absurd (omega arith)) (λ e h. refl)
+
+-- ---- a message that is not fully taken
+
+pub waits-for-the-end : WaitsForTheEnd feedingOf
+waits-for-the-end s host room v less =
+    let t = taken (s .store) host in
+    let open-still : finished (t .store) ≡ false = rw (lt-leb (announced (t .store .held)) (t .store .taken) less, and-false) refl in
+    let is = feeding-waiting (s .settings) (s .store) host room v open-still in
+    rw is (refl, count-all 0 (s .store) host (sym (told 0 (s .store) host) ∙ open-still) ∙ zero-add (length host), refl)
+
+-- 64 bytes of a set of 65 are not answered yet
+pub naks-early-fails : WaitsForTheEnd naksAt64 → ⊥
+unfolding valid inRange couldBeLeft taking
+naks-early-fails waits =
+    let wrong : _≡_ {A = ℕ} 10 0 = waits (freshStation (replicate 8 0x30)) (0x41 ∷ 0x00 ∷ replicate 62 0x00) 64 refl (lit≤ tt) .0 in
+    omega arith

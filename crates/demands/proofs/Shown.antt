@@ -220,7 +220,7 @@ same-answer s ms q asked none = answered-alike s (afterAll s ms) q asked (messag
 
 -- The one exception: after an accepted set of the state, and any messages that do not change what the status shows, an
 -- accepted request of the status shows it, "0B idle, 0C running".
-status-value : (s : Settings) (m : Message) → codeOf s m ≡ 1 → m .type ≡ typeSet → itemIn m ≡ state .code
+pub status-value : (s : Settings) (m : Message) → codeOf s m ≡ 1 → m .type ≡ typeSet → itemIn m ≡ state .code
     → (q : List ℕ) → rowOf (status .code) .rule .value (settingsAfter s m) q ≡ pick (eqb (runByte (parameters m)) idle) 0x0B 0x0C ∷ []
 unfolding rowOf
 status-value s m h kind item q =

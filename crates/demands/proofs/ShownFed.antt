@@ -18,7 +18,7 @@ use Rattle.wire.proofs.Lists.{bytes-append, bytes-zero}
 use Rattle.items.proofs.Rows.{found-at}
 use Rattle.items.specs.declared.Settings.{Settings}
 use Rattle.items.specs.Settings.{inRange, freshOf, withCount}
-use Rattle.items.specs.Items.{rowOf, listed}
+use Rattle.items.specs.Items.{status, idle, runByte, rowOf, listed}
 use Rattle.items.specs.Answer.{Message, itemIn, row, parameters, codeOf, settingsAfter, replyOf}
 use Rattle.station.specs.declared.Station.{Station}
 use Rattle.station.specs.Station.{valid}
@@ -28,8 +28,8 @@ use Rattle.cutting.specs.Cutting.{cuttingOf}
 use Rattle.cutting.proofs.Ways.{each-cut, cutting-keeps}
 use Rattle.demands.proofs.OneMessage.{tookAll, one-message, whole-fed}
 use Rattle.station.proofs.Calls.{feeding-keeps}
-use Rattle.demands.specs.Shown.{shownBy, valueSet, Held, showing, OneMessage, messageOf, resting, repliesWith, ShowsSets, finishedBy, naksAll, echoesOnly, Undisturbed, still, fed, cut, FedSetShowsLater, FedSameAnswer}
-use Rattle.demands.proofs.Shown.{Same, message-leaves, asked-alike, asked-shows, answered-alike, has-value-set, set-replies}
+use Rattle.demands.specs.Shown.{shownBy, valueSet, Held, showing, OneMessage, messageOf, resting, repliesWith, ShowsSets, finishedBy, naksAll, echoesOnly, Undisturbed, still, fed, cut, FedSetShowsLater, FedSameAnswer, FedStateShowsInStatus}
+use Rattle.demands.proofs.Shown.{Same, message-leaves, asked-alike, asked-shows, answered-alike, has-value-set, set-replies, status-value}
 
 -- ---- one whole message, fed in one call to a box between messages
 
@@ -123,6 +123,22 @@ fed-set-shows-later s m room t q later v enough more one kind h calm two asked s
     k .same (parameters (messageOf q))
     ∙ ap (λ (b : Station). row (messageOf m) .rule .value (b .settings) (parameters (messageOf q))) (f .1)
     ∙ has-value-set s (messageOf m) h kind (held-whole m one) (parameters (messageOf q)) in (
+      g .0 ∙ now,
+      g .2
+          ∙ asked-shows t (messageOf q) asked now
+          ∙ ap (showing (messageOf q)) (ap (λ (code : ℕ). rowOf code .rule .value t (parameters (messageOf q))) same ∙ value),
+    )
+
+pub fed-state-shows : FedStateShowsInStatus
+fed-state-shows s m room t q later v enough more one kind item h calm two asked same answered =
+    let f = message-fed m one s room v enough in
+    let k = kept (status .code) (feedingOf (resting s) m room .fed .station) (resting t) calm in
+    let g = message-fed q two t later (k .stays (feeding-keeps (resting s) m room v)) more in
+    let now : codeOf t (messageOf q) ≡ 1 = asked-alike s t (messageOf q) asked ∙ answered in
+    let value : rowOf (status .code) .rule .value t (parameters (messageOf q)) ≡ pick (eqb (runByte (parameters (messageOf m))) idle) 0x0B 0x0C ∷ [] =
+    k .same (parameters (messageOf q))
+    ∙ ap (λ (b : Station). rowOf (status .code) .rule .value (b .settings) (parameters (messageOf q))) (f .1)
+    ∙ status-value s (messageOf m) h kind item (parameters (messageOf q)) in (
       g .0 ∙ now,
       g .2
           ∙ asked-shows t (messageOf q) asked now

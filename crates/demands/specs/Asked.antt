@@ -1,17 +1,19 @@
 -- Demand 2: "What the harvester asks is what the box understands."
-use Prim.Native.Nat.{ℕ, _≤_}
+use Prim.Native.Nat.{ℕ}
 use mathlib.Core.Path.{_≡_}
 use mathlib.Core.Bool.{true}
 use mathlib.Core.List.{List}
+use mathlib.Core.Logic.{_⊎_, _↔_}
 use Rattle.wire.specs.Choice.{pick}
 use Rattle.wire.specs.Codes as Code
+use Rattle.wire.specs.Header.{nak}
 use Rattle.items.specs.declared.Settings.{Settings}
 use Rattle.items.specs.Settings.{inRange}
 use Rattle.station.specs.Feeding.{feedingOf}
 use Rattle.wishes.specs.declared.Wish.{Wish}
 use Rattle.wishes.specs.Wishes.{granted, notNow}
 use Rattle.wishes.specs.Writing.{writeCode, bytesWritten}
-use Rattle.replies.specs.Reading.{told, toldOf}
+use Rattle.replies.specs.Reading.{readCode, told, toldOf}
 use Rattle.replies.specs.Saying.{saidBy}
 use Rattle.demands.specs.Shown.{resting}
 
@@ -23,10 +25,24 @@ pub record Understands (w : Wish) (message : List ℕ) (s : Settings) (room : �
   pub does : feedingOf (resting s) message room .fed .station ≡ resting (pick (notNow w s) s (granted w s))
   pub says : toldOf w (feedingOf (resting s) message room .bytes) ≡ told (saidBy w s)
 
--- every wish that the writer accepts, and what it writes, whatever the buffer
+-- every wish that the writer accepts, and what it writes, whatever the buffer; the call has room for its reply (else it is 20,
+-- and nothing has happened)
 abbrev pub WhatIsAskedIsUnderstood : Type 0
 WhatIsAskedIsUnderstood =
     (w : Wish) (buffer : ℕ) → writeCode w buffer ≡ Code.done
     → (s : Settings) → inRange s ≡ true
-    → (room : ℕ) → 64 ≤ room
+    → (room : ℕ) → (feedingOf (resting s) (bytesWritten w buffer) room .fed .code ≡ Code.noRoom → ⊥)
     → Understands w (bytesWritten w buffer) s room
+
+-- some valid box between messages, fed this message, writes these bytes
+pub record Writes (message bs : List ℕ) : Type 0 where
+  pub settings : Settings
+  pub valid : inRange settings ≡ true
+  pub writes : feedingOf (resting settings) message 64 .bytes ≡ bs
+
+-- "it accepts NAK for any other, and exactly those further replies that some valid box could give to it": of boxes that are fed
+-- what the writer wrote
+abbrev pub ReadsWhatBoxesWrite : Type 0
+ReadsWhatBoxesWrite =
+    (w : Wish) (buffer : ℕ) (bs : List ℕ) → writeCode w buffer ≡ Code.done
+    → (readCode w bs ≡ Code.done) ↔ ((bs ≡ nak) ⊎ Writes (bytesWritten w buffer) bs)

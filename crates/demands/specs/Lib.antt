@@ -7,3 +7,4 @@ pub mod Shown
 pub mod ShownInPieces
 pub mod Refused
 pub mod Written
+pub mod Given

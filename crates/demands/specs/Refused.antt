@@ -1,14 +1,20 @@
 -- Demand 1: "A message the box will not obey gets the two-byte NAK and touches no setting." "Any other refused call writes nothing
 -- and changes nothing."
-use Prim.Native.Nat.{ℕ, _≤_}
+use Prim.Native.Nat.{ℕ, _≤_, _<_}
 use mathlib.Core.Path.{_≡_}
+use mathlib.Core.Bool.{true}
 use mathlib.Core.List.{List, []}
+use lib.Dec.{leb}
+use lib.ListN.{length}
+use Rattle.wire.specs.Choice.{pick}
+use Rattle.wire.specs.Codes as Code
 use Rattle.wire.specs.Header.{nak}
-use Rattle.framing.specs.Framing.{between, taken}
+use Rattle.framing.specs.Framing.{between, taken, announced}
 use Rattle.reader.specs.declared.Heard.{Heard}
 use Rattle.reader.specs.declared.Reader.{Reader}
 use Rattle.station.specs.declared.Station.{Station}
-use Rattle.station.specs.Feeding.{Feeding}
+use Rattle.station.specs.Station.{valid}
+use Rattle.station.specs.Feeding.{Feeding, feedingOf}
 use Rattle.cutting.specs.Cutting.{Cutting}
 
 -- a call of feeding that came to a code from 10 to 17: "such a message is consumed and only the unfinished-message store
@@ -30,3 +36,21 @@ CutsNothing s c = 20 ≤ c .cut .code → (c .bytes ≡ []) × (c .cut .wrote �
 
 abbrev pub HearsNothing : Reader → Heard → Type 0
 HearsNothing r h = 20 ≤ h .code → h .reader ≡ r
+
+-- No "NAK before a long message is fully taken": while fewer bytes are taken than the header announces, a valid box takes all that it
+-- is handed, waits, and writes nothing.
+abbrev pub WaitsForTheEnd : (Station → List ℕ → ℕ → Feeding) → Type 0
+WaitsForTheEnd feed =
+    (s : Station) (host : List ℕ) (room : ℕ) → valid s ≡ true
+    → taken (s .store) host .store .taken < announced (taken (s .store) host .store .held)
+    → (feed s host room .fed .code ≡ Code.waiting) × (feed s host room .fed .consumed ≡ length host) × (feed s host room .bytes ≡ [])
+
+-- a box that gives up a message at its 64th byte
+abbrev pub naksAt64 : Station → List ℕ → ℕ → Feeding
+naksAt64 s host room =
+    pick (leb 64 (taken (s .store) host .store .taken))
+    (record {
+      fed = record { code = Code.tooLong; consumed = length host; wrote = 2; station = record { settings = s .settings; store = between } };
+      bytes = nak;
+    })
+    (feedingOf s host room)

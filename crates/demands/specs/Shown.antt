@@ -183,3 +183,14 @@ FedSameAnswer =
     → valid (resting s) ≡ true → 64 ≤ room → 64 ≤ later
     → OneMessage q → messageOf q .type ≡ typeRequest → Undisturbed (itemIn (messageOf q)) (resting s) (resting t)
     → feedingOf (resting t) q later .bytes ≡ feedingOf (resting s) q room .bytes
+
+-- What a set changes of another item: after a whole set of the state that is accepted, and any calls of which none changes what the
+-- status shows, a whole request of the status shows it, "0B idle, 0C running".
+abbrev pub FedStateShowsInStatus : Type 0
+FedStateShowsInStatus =
+    (s : Settings) (m : List ℕ) (room : ℕ) (t : Settings) (q : List ℕ) (later : ℕ)
+    → valid (resting s) ≡ true → 64 ≤ room → 64 ≤ later
+    → OneMessage m → messageOf m .type ≡ typeSet → itemIn (messageOf m) ≡ state .code → codeOf s (messageOf m) ≡ Code.done
+    → Undisturbed (status .code) (feedingOf (resting s) m room .fed .station) (resting t)
+    → OneMessage q → messageOf q .type ≡ typeRequest → itemIn (messageOf q) ≡ status .code → codeOf s (messageOf q) ≡ Code.done
+    → repliesWith (feedingOf (resting t) q later) (showing (messageOf q) (pick (eqb (runByte (parameters (messageOf m))) idle) 0x0B 0x0C ∷ []))

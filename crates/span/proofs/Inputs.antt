@@ -37,9 +37,9 @@ module _ (s : Span) (stopped : s .stopped ≡ true) where
 -- ---- the report
 
 pub last-ends : LastWriteEndsTheReport
-last-ends s lines r is small =
+last-ends s lines r is =
     ap (λ (l : List ℕ). handedAll freshSpan (r .pieces) .text ++ l) (is ∙ ap (λ (x : Span). finishingOf x room .bytes) (r .span))
-    ∙ report-is (r .pieces) small (omega (arith, r .room))
+    ∙ report-is (r .pieces) (r .areBytes) (omega (arith, r .room))
 
 pub stopped-is : StopsWithTheReport
 stopped-is ps more stopped small near =

@@ -1,14 +1,15 @@
 -- Spans that pieces of an input have left: a piece more leaves another, and so long as there is room each goes on.
 -- Assumes nothing.
-use Prim.Native.Nat.{ℕ, _+_, _-_, _≤_}
+use Prim.Native.Nat.{ℕ, suc, _+_, _-_, _≤_, _<_}
 use native.Mathlib.Nat.{zero-add}
 use native.Mathlib.Omega.{arith}
 use mathlib.Core.Path.{_≡_, refl, sym, ap, subst, _∙_}
 use mathlib.Core.Bool.{false}
-use mathlib.Core.List.{List, [], _∷_, _++_, append-assoc}
-use lib.ListN.{length, take, length-append, length-take}
+use mathlib.Core.List.{List, [], _∷_, _++_, append-nil, append-assoc}
+use lib.ListN.{length, getD, take, length-append, length-take}
 use lib.Seq.{length-take-le}
-use Rattle.wire.specs.Lists.{joined}
+use Rattle.wire.specs.Lists.{allBytes, joined}
+use Rattle.wire.proofs.Lists.{bytes-append, bytes-take}
 use Rattle.hearing.specs.Hearing.{farthest}
 use Rattle.spans.specs.declared.Span.{Span}
 use Rattle.spans.specs.Eating.{freshSpan}
@@ -50,13 +51,22 @@ handed-last : (ps : List (List ℕ)) (s : Span) (p : List ℕ) → handedAll s (
 unfolding handedAll
 handed-last ps s p = ap (λ (h : Handed). h .span) (handed-on ps (p ∷ []) s)
 
+joined-snoc : (ps : List (List ℕ)) (p : List ℕ) → joined (ps ++ p ∷ []) ≡ joined ps ++ p
+joined-snoc [] p = append-nil p
+joined-snoc (q ∷ qs) p = ap (λ (l : List ℕ). q ++ l) (joined-snoc qs p) ∙ sym (append-assoc q (joined qs) p)
+
+-- each of the list is a byte
+pub all-bytes : (l : List ℕ) → ((k : ℕ) → getD l k 0 < 256) → allBytes l
+all-bytes [] h = tt
+all-bytes (b ∷ bs) h = (h 0, all-bytes bs (λ (k : ℕ). h (suc k)))
+
 joined-last : (ps : List (List ℕ)) (p : List ℕ) → length (joined (ps ++ p ∷ [])) ≡ length (joined ps) + length p
 joined-last [] p = simp length-append (omega arith)
 joined-last (q ∷ qs) p = simp length-append (omega (arith, joined-last qs p))
 
 -- a span that can count more bytes can count fewer
 pub reached-fewer : (s : Span) (more fewer : ℕ) → fewer ≤ more → Reached s more → Reached s fewer
-reached-fewer s more fewer less r = record { pieces = r .pieces; span = r .span; room = omega (arith, r .room) }
+reached-fewer s more fewer less r = record { pieces = r .pieces; areBytes = r .areBytes; span = r .span; room = omega (arith, r .room) }
 
 -- The first n bytes of a buffer are the piece.
 module _ (s : Span) (more n : ℕ) (buf : List ℕ) (r : Reached s more) (fits : n ≤ more) where
@@ -66,10 +76,11 @@ module _ (s : Span) (more n : ℕ) (buf : List ℕ) (r : Reached s more) (fits :
   pub room-for : Reached s (length piece)
   room-for = reached-fewer s more (length piece) (simp length-take (omega arith)) r
 
-  pub reached-next : (after : Span) → n ≤ length buf → after ≡ handed s piece .span → Reached after (more - n)
-  reached-next after there is =
+  pub reached-next : (after : Span) → n ≤ length buf → after ≡ handed s piece .span → ((k : ℕ) → getD buf k 0 < 256) → Reached after (more - n)
+  reached-next after there is small =
       record {
         pieces = r .pieces ++ piece ∷ [];
+        areBytes = subst allBytes (sym (joined-snoc (r .pieces) piece)) (bytes-append (joined (r .pieces)) piece (r .areBytes) (bytes-take n buf (all-bytes buf small)));
         span = is ∙ ap (λ (x : Span). handed x piece .span) (r .span) ∙ sym (handed-last (r .pieces) freshSpan piece);
         room = omega (arith, joined-last (r .pieces) piece, length-take-le n buf there, r .room);
       }
@@ -77,4 +88,4 @@ module _ (s : Span) (more n : ℕ) (buf : List ℕ) (r : Reached s more) (fits :
 -- before the first piece
 pub reached-fresh : Reached freshSpan farthest
 unfolding handedAll
-reached-fresh = record { pieces = []; span = refl; room = omega arith }
+reached-fresh = record { pieces = []; areBytes = tt; span = refl; room = omega arith }

@@ -15,6 +15,7 @@ use Rattle.spans.specs.Pieces.{room, handedAll, printed}
 -- a span that pieces of an input have left, from the fresh one on, and that can count so many bytes more
 pub record Reached (s : Span) (more : ℕ) : Type 0 where
   pub pieces : List (List ℕ)
+  pub areBytes : allBytes (joined pieces)
   pub span : s ≡ handedAll freshSpan pieces .span
   pub room : length (joined pieces) + more ≤ farthest
 
@@ -24,7 +25,7 @@ pub record Reached (s : Span) (more : ℕ) : Type 0 where
 -- report of the pieces that it read.
 abbrev pub LastWriteEndsTheReport : Type 0
 LastWriteEndsTheReport =
-    (s : Span) (lines : List ℕ) (r : Reached s 0) → lines ≡ finishingOf s room .bytes → allBytes (joined (r .pieces))
+    (s : Span) (lines : List ℕ) (r : Reached s 0) → lines ≡ finishingOf s room .bytes
     → handedAll freshSpan (r .pieces) .text ++ lines ≡ report (joined (r .pieces))
 
 -- "At the first refusal it .. stops": whatever more the input has that is not read, what was written is its report.

@@ -20,14 +20,15 @@ use Rattle.wire.proofs.Numbers.{bytes-number, number-bytes}
 use Rattle.rates.specs.Rate.{mayAsk, nearestOf}
 use Rattle.tuning.specs.Bands.{inBands}
 use Rattle.tuning.specs.Word.{isClock}
+use Rattle.layouts.specs.Layouts.{parametersOf}
 use Rattle.items.specs.declared.Settings.{Settings}
 use Rattle.items.specs.Settings.{isGain, isMode, isSize, withFrequency, withClock, withDivisor, withGain, withSize}
 use Rattle.items.specs.Items.{idle, run, mayState, rowOf, listed}
-use Rattle.items.specs.Answer.{codeOf, settingsAfter, valueAllowed, row, parameters}
+use Rattle.items.specs.Answer.{codeOf, settingsAfter, valueAllowed, refusedRunning, row, parameters}
 use Rattle.wishes.specs.declared.StateFields.{StateFields}
 use Rattle.wishes.specs.declared.Wish.{Wish}
 use Rattle.wishes.specs.declared.Wish.the-variants.{AskName, AskSerial, AskInterface, AskVersion, AskStatus, SetState, AskState, SetFrequency, AskFrequency, AskFrequencyRange, SetGain, AskGain, SetClock, AskClock, SetRate, AskRate, SetPacketSize, AskPacketSize}
-use Rattle.wishes.specs.Wishes.{asking, Fits, allowed, granted, notNow, messageOf, asMessage}
+use Rattle.wishes.specs.Wishes.{asking, layoutOf, Fits, allowed, granted, notNow, messageOf, asMessage}
 use Rattle.wishes.specs.Writing.{writeCode}
 use Rattle.wishes.proofs.Rows.{by-wish, of-row}
 use Rattle.wishes.proofs.Answers.{code-not-allowed}
@@ -37,10 +38,14 @@ use Rattle.wishes.proofs.Allowed.{state-has, gain-bits, value-fits}
 abbrev valueTaken : Wish → Bool
 valueTaken w = valueAllowed (asking w .item) (asking w .kind) (parameters (asMessage w))
 
+-- the row of the table that says so of the wish's message
+abbrev locked : Wish → Settings → Bool
+locked w s = refusedRunning (asking w .item) (asking w .kind) s (parametersOf (layoutOf w))
+
 -- Header, item, kind, length and channel speak against no wish: what is left are the value, and that the box is running.
-checked : (w : Wish) (s : Settings) → codeOf s (asMessage w) ≡ firstOf (check 16 (not (valueTaken w)) ∷ check 17 (notNow w s) ∷ []) 1
+checked : (w : Wish) (s : Settings) → codeOf s (asMessage w) ≡ firstOf (check 16 (not (valueTaken w)) ∷ check 17 (locked w s) ∷ []) 1
 unfolding codeOf rowOf listed messageOf
-checked = by-wish (λ w. (s : Settings) → codeOf s (asMessage w) ≡ firstOf (check 16 (not (valueTaken w)) ∷ check 17 (notNow w s) ∷ []) 1) (λ s. refl) (λ s. refl) (λ s. refl) (λ id s. refl) (λ s. refl) (λ f s. refl) (λ s. refl) (λ hz s. refl) (λ s. refl) (λ s. refl) (λ g s. refl) (λ s. refl) (λ hz s. refl) (λ s. refl) (λ hz s. refl) (λ s. refl) (λ n s. refl) (λ s. refl)
+checked = by-wish (λ w. (s : Settings) → codeOf s (asMessage w) ≡ firstOf (check 16 (not (valueTaken w)) ∷ check 17 (locked w s) ∷ []) 1) (λ s. refl) (λ s. refl) (λ s. refl) (λ id s. refl) (λ s. refl) (λ f s. refl) (λ s. refl) (λ hz s. refl) (λ s. refl) (λ s. refl) (λ g s. refl) (λ s. refl) (λ hz s. refl) (λ s. refl) (λ hz s. refl) (λ s. refl) (λ n s. refl) (λ s. refl)
 
 -- a state's bytes come back
 run-same : (r m : ℕ) → allBytes (0x80 ∷ r ∷ m ∷ 0x00 ∷ [])
@@ -82,9 +87,39 @@ value-same AskRate fits = refl
 value-same (SetPacketSize n) fits = ap isSize (mod-eq-of-lt fits)
 value-same AskPacketSize fits = refl
 
+-- a box that may not be locked, and one that is
+unlocked : (running : Bool) → running && false ≡ false
+unlocked true = refl
+unlocked false = refl
+
+always-locked : (running : Bool) → running && true ≡ running
+always-locked true = refl
+always-locked false = refl
+
+-- of an allowed wish it says what `notNow` does
+locked-now : (w : Wish) (s : Settings) → allowed w ≡ true → locked w s ≡ notNow w s
+locked-now AskName s e = refl
+locked-now AskSerial s e = refl
+locked-now AskInterface s e = refl
+locked-now (AskVersion id) s e = refl
+locked-now AskStatus s e = refl
+locked-now (SetState f) s e = state-has (λ f. locked (SetState f) s ≡ notNow (SetState f) s) (λ m. refl) refl refl f e
+locked-now AskState s e = refl
+locked-now (SetFrequency hz) s e = unlocked (s .running)
+locked-now AskFrequency s e = refl
+locked-now AskFrequencyRange s e = refl
+locked-now (SetGain g) s e = unlocked (s .running)
+locked-now AskGain s e = refl
+locked-now (SetClock hz) s e = unlocked (s .running)
+locked-now AskClock s e = refl
+locked-now (SetRate hz) s e = always-locked (s .running)
+locked-now AskRate s e = refl
+locked-now (SetPacketSize n) s e = always-locked (s .running)
+locked-now AskPacketSize s e = refl
+
 -- the code of an allowed wish: 17 where the box is running and the wish's row is locked, else 1
 pub code-of-wish : (w : Wish) (s : Settings) → allowed w ≡ true → codeOf s (asMessage w) ≡ pick (notNow w s) 17 1
-code-of-wish w s e = checked w s ∙ rw (value-same w (value-fits w e), e) refl
+code-of-wish w s e = checked w s ∙ rw (value-same w (value-fits w e), e, locked-now w s e) refl
 
 -- where 16 is checked first, it is given by that check alone
 first-alike : (a t u : Bool) (m n : ℕ) → (m ≡ 16 → ⊥) → pick (not a) 16 (pick t m 1) ≡ 16 → pick (not a) 16 (pick u n 1) ≡ 16
@@ -97,11 +132,11 @@ first-alike true false u m n other e = absurd (eqb-false 1 16 refl e)
 pub refused-alike : (w : Wish) (s : Settings) (room : ℕ) → Fits w → (writeCode w room ≡ 16) ↔ (codeOf s (asMessage w) ≡ 16)
 unfolding writeCode
 refused-alike w s room fits = (
-  λ (e : writeCode w room ≡ 16). box ∙ first-alike (allowed w) (ltb room 16) (notNow w s) 20 17 (eqb-false 20 16 refl) e,
-  λ (e : codeOf s (asMessage w) ≡ 16). first-alike (allowed w) (notNow w s) (ltb room 16) 17 20 (eqb-false 17 16 refl) (sym box ∙ e),
+  λ (e : writeCode w room ≡ 16). box ∙ first-alike (allowed w) (ltb room 16) (locked w s) 20 17 (eqb-false 20 16 refl) e,
+  λ (e : codeOf s (asMessage w) ≡ 16). first-alike (allowed w) (locked w s) (ltb room 16) 17 20 (eqb-false 17 16 refl) (sym box ∙ e),
 )
   where
-    box : codeOf s (asMessage w) ≡ firstOf (check 16 (not (allowed w)) ∷ check 17 (notNow w s) ∷ []) 1
+    box : codeOf s (asMessage w) ≡ firstOf (check 16 (not (allowed w)) ∷ check 17 (locked w s) ∷ []) 1
     box = checked w s ∙ rw (value-same w fits) refl
 
 -- What does not fit, the writer refuses too: a frequency of more than 40 bits lies in no band. A box would see the lowest 40

@@ -1,6 +1,6 @@
 -- Harvester's wishes: "One wish for each kind and item above, channel byte 00."
 use Prim.Native.Nat.{ℕ, _+_, _-_, _^_, _≤_, _<_}
-use mathlib.Core.Bool.{Bool, true, _&&_, _||_}
+use mathlib.Core.Bool.{Bool, true, false, _&&_, _||_, not}
 use mathlib.Core.Path.{_≡_}
 use mathlib.Core.List.{List, [], _∷_, _++_, map}
 use lib.Dec.{eqb}
@@ -16,12 +16,12 @@ use Rattle.rates.specs.Rate.{mayAsk, nearestOf}
 use Rattle.tuning.specs.Bands.{inBands}
 use Rattle.tuning.specs.Word.{isClock}
 use Rattle.layouts.specs.declared.Layout.{Layout}
-use Rattle.layouts.specs.Layouts.{parametersOf, laid}
+use Rattle.layouts.specs.Layouts.{laid}
 use Rattle.items.specs.declared.Settings.{Settings}
 use Rattle.items.specs.Settings.{gains, isMode, isSize, withFrequency, withClock, withDivisor, withGain, withSize}
 use Rattle.items.specs.Items.{echoes, Offer, total, dash, Item, items, name, serial, interface, versions, status, state, frequency, gain, clock, rate, packetSize, idle, run, isVersion, stateTo}
 use Rattle.items.specs.Table.{offered}
-use Rattle.items.specs.Answer.{Message, refusedRunning}
+use Rattle.items.specs.Answer.{Message}
 use Rattle.wishes.specs.declared.StateFields.{StateFields}
 use Rattle.wishes.specs.declared.Wish.{Wish}
 use Rattle.wishes.specs.declared.Wish.the-variants.{AskName, AskSerial, AskInterface, AskVersion, AskStatus, SetState, AskState, SetFrequency, AskFrequency, AskFrequencyRange, SetGain, AskGain, SetClock, AskClock, SetRate, AskRate, SetPacketSize, AskPacketSize}
@@ -224,9 +224,27 @@ granted AskRate s = s
 granted (SetPacketSize n) s = withSize n s
 granted AskPacketSize s = s
 
--- a box that is running does not take the wish now (17): its row of the table says so
+-- A box that is running does not take the wish now (17): "Run while running in the same mode replies and changes nothing; in another
+-- mode 17. Items 00B8 and 00C4 cannot be set while running (17)."
 abbrev pub notNow : Wish → Settings → Bool
-notNow w s = refusedRunning (asking w .item) (asking w .kind) s (parametersOf (layoutOf w))
+notNow AskName s = false
+notNow AskSerial s = false
+notNow AskInterface s = false
+notNow (AskVersion id) s = false
+notNow AskStatus s = false
+notNow (SetState f) s = s .running && (eqb (f .run) run && not (eqb (f .mode) (s .mode)))
+notNow AskState s = false
+notNow (SetFrequency hz) s = false
+notNow AskFrequency s = false
+notNow AskFrequencyRange s = false
+notNow (SetGain g) s = false
+notNow AskGain s = false
+notNow (SetClock hz) s = false
+notNow AskClock s = false
+notNow (SetRate hz) s = s .running
+notNow AskRate s = false
+notNow (SetPacketSize n) s = s .running
+notNow AskPacketSize s = false
 
 -- the wish's message as the box holds it when it is finished: unused places are zero
 abbrev pub asMessage : Wish → Message

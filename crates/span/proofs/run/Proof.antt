@@ -75,7 +75,7 @@ loop-less c = search needs
 loop-again : tie.Need-loop-again Inv-loop μ-loop
 loop-again c =
     let held = c .before .before .before .before .before .before .before .before .before .before .before .before .before .before .before .before .loop .inv in
-    (search needs, c .before .before .hand-over .ensures .1, reached-next _ _ _ _ (held .2) (c .before .before .before .before .before .if4 .left) _ (search needs) (c .before .before .hand-over .ensures .0))
+    (search needs, c .before .before .hand-over .ensures .1, reached-next _ _ _ _ (held .2) (c .before .before .before .before .before .if4 .left) _ (search needs) (c .before .before .hand-over .ensures .0) (λ k. omega (arith, c .before .before .before .before .before .before .before .before .before .before .slice-known3 .given k)))
 
 same-length-7 : tie.Need-same-length-7 Inv-loop μ-loop
 same-length-7 c = search needs

@@ -1,0 +1,111 @@
+-- Each code is given exactly on its condition: of 01's lists of checks no two have one code.
+-- Assumes nothing.
+use Prim.Native.Nat.{ℕ, _<_}
+use native.Mathlib.Omega.{arith}
+use mathlib.Core.Path.{_≡_, refl, sym, subst}
+use mathlib.Core.Bool.{Bool, true, false, _&&_, not}
+use mathlib.Core.List.{List, [], _∷_, _++_}
+use mathlib.Core.Logic.{_↔_}
+use borrow.Author.Tests.{eqb-false, ne-eqb, not-true}
+use lib.Dec.{eqb, ltb}
+use lib.ListN.{length}
+use Rattle.wire.specs.Choice.{pick, Check, firstOf}
+use Rattle.wire.proofs.Checks.{Absent, differ, given-exactly}
+use Rattle.wire.proofs.Laws.{and-left, and-right, and-both}
+use Rattle.items.specs.Answer.{checks, codeOf}
+use Rattle.items.specs.declared.Settings.{Settings}
+use Rattle.framing.specs.Framing.{Taking, taken, finished}
+use Rattle.station.specs.declared.Station.{Station}
+use Rattle.station.specs.Station.{valid}
+use Rattle.station.specs.Feeding.{Feeding, messageIn, refused, answered, waiting, comesTo, feedChecks, feedingOf}
+use Rattle.demands.proofs.Refused.{code-below}
+use Rattle.cutting.specs.Cutting.{cutCode}
+use Rattle.reader.specs.Reading.{readCode, unpackCode}
+use Rattle.wishes.specs.Writing.{writeCode}
+use Rattle.replies.specs.Reading.{readCode as replyCode}
+use Rattle.demands.specs.Given.{NoneHolds, EachExactly, GivenExactly}
+
+-- no two checks of the list have one code
+abbrev distinct : List Check → Bool
+distinct [] = true
+distinct (c ∷ cs) = differ (c .code) cs && distinct cs
+
+-- what differs from a whole list differs from its parts
+differ-later : (n : ℕ) (before : List Check) (c : Check) (after : List Check) → differ n (before ++ c ∷ after) ≡ true
+    → (not (eqb (c .code) n) ≡ true) × (differ n after ≡ true)
+differ-later n [] c after d = (and-left (not (eqb (c .code) n)) (differ n after) d, and-right (not (eqb (c .code) n)) (differ n after) d)
+differ-later n (b ∷ before) c after d = differ-later n before c after (and-right (not (eqb (b .code) n)) (differ n (before ++ c ∷ after)) d)
+
+other-way : (m n : ℕ) → not (eqb m n) ≡ true → not (eqb n m) ≡ true
+other-way m n d = rw (ne-eqb n m (λ e. eqb-false m n (not-true (eqb m n) d) (sym e))) refl
+
+apart-in : (before : List Check) (c : Check) (after : List Check) → distinct (before ++ c ∷ after) ≡ true
+    → (differ (c .code) before ≡ true) × (differ (c .code) after ≡ true)
+apart-in [] c after d = (refl, and-left (differ (c .code) after) (distinct after) d)
+apart-in (b ∷ before) c after d =
+    let here = differ-later (b .code) before c after (and-left (differ (b .code) (before ++ c ∷ after)) (distinct (before ++ c ∷ after)) d) in
+    let rest = apart-in before c after (and-right (differ (b .code) (before ++ c ∷ after)) (distinct (before ++ c ∷ after)) d) in
+    (and-both (not (eqb (b .code) (c .code))) (differ (c .code) before) (other-way (c .code) (b .code) (here .0)) (rest .0), rest .1)
+
+none-absent : (cs : List Check) → NoneHolds cs → Absent cs
+none-absent [] h = tt
+none-absent (c ∷ cs) h = (h .0, none-absent cs (h .1))
+
+absent-none : (cs : List Check) → Absent cs → NoneHolds cs
+absent-none [] h = tt
+absent-none (c ∷ cs) h = (h .0, absent-none cs (h .1))
+
+each : (cs : List Check) (n : ℕ) → distinct cs ≡ true → differ n cs ≡ true → EachExactly cs (firstOf cs n)
+each cs n d other before c after e =
+    subst (λ (l : List Check). (firstOf l n ≡ c .code) ↔ (NoneHolds before × (c .holds ≡ true))) (sym e) (
+      λ (h : firstOf (before ++ c ∷ after) n ≡ c .code). let r = law .0 h in (absent-none before (r .0), r .1),
+      λ (h : NoneHolds before × (c .holds ≡ true)). law .1 (none-absent before (h .0), h .1),
+    )
+  where
+    parts : (differ (c .code) before ≡ true) × (differ (c .code) after ≡ true)
+    parts = apart-in before c after (subst (λ (l : List Check). distinct l ≡ true) e d)
+
+    law : (firstOf (before ++ c ∷ after) n ≡ c .code) ↔ (Absent before × (c .holds ≡ true))
+    law =
+        given-exactly before c after n (parts .0) (parts .1)
+        (λ m. eqb-false (c .code) n (not-true (eqb (c .code) n) (differ-later n before c after (subst (λ (l : List Check). differ n l ≡ true) e other) .0)) (sym m))
+
+-- what the bytes of a call come to has a code below 20
+comes-below : (s : Settings) (t : Taking) → comesTo s t .fed .code < 20
+comes-below s t = go (finished (t .store))
+  where
+    go : (b : Bool) → pick b (answered s t) (waiting s t) .fed .code < 20
+    go true = code-below s (messageIn (t .store))
+    go false = omega arith
+
+feed-code : (s : Station) (host : List ℕ) (room : ℕ)
+    → feedingOf s host room .fed .code ≡ firstOf (feedChecks s (taken (s .store) host) room) (comesTo (s .settings) (taken (s .store) host) .fed .code)
+unfolding feedingOf
+feed-code s host room =
+    go (not (valid s)) (ltb room (length (comesTo (s .settings) (taken (s .store) host) .bytes))) (comesTo (s .settings) (taken (s .store) host))
+  where
+    go : (b c : Bool) (f : Feeding) → pick b (refused 21 s) (pick c (refused 20 s) f) .fed .code ≡ pick b 21 (pick c 20 (f .fed .code))
+    go true c f = refl
+    go false true f = refl
+    go false false f = refl
+
+feed-each : (s : Station) (host : List ℕ) (room : ℕ) → EachExactly (feedChecks s (taken (s .store) host) room) (feedingOf s host room .fed .code)
+feed-each s host room =
+    let t = taken (s .store) host in
+    let n = comesTo (s .settings) t .fed .code in
+    let low : n < 20 = comes-below (s .settings) t in
+    subst (EachExactly (feedChecks s t room)) (sym (feed-code s host room))
+    (each (feedChecks s t room) n refl (rw (ne-eqb 21 n (λ e. omega arith), ne-eqb 20 n (λ e. omega arith)) refl))
+
+pub codes-given-exactly : GivenExactly
+unfolding codeOf cutCode readCode unpackCode writeCode replyCode
+codes-given-exactly =
+    record {
+      feeding = feed-each;
+      message = λ s m. each _ 1 refl refl;
+      cutting = λ s samples room. each _ 1 refl refl;
+      reading = λ r packet. each _ 1 refl refl;
+      unpacking = λ packet room. each _ 1 refl refl;
+      wish = λ w room. each _ 1 refl refl;
+      reply = λ w bs. each _ 1 refl refl;
+    }
