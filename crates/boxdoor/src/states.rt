@@ -23,17 +23,16 @@ fn paste(dst: &mut [u8], to: usize, src: &[u8], from: usize, n: usize)
     }
 }
 
-fn settings_in(b: &[u8]) -> Settings
-    requires { ⌜ length (now b) ≡ 108 ⌝ }
-    ensures { λ r. ⌜ r ≡ settingsIn (now (b .entry)) ⌝ }
+fn settings_in(b: [u8; LENGTH]) -> Settings
+    ensures { λ r. ⌜ r ≡ settingsIn b ⌝ }
 {
     let mut serial = [0u8; 8];
-    paste(&mut serial, 0, b, 28, 8);
+    paste(&mut serial, 0, &b, 28, 8);
     Settings {
-        frequency: wire::number_at(b, 0, 8),
-        count: wire::number_at(b, 8, 8),
-        clock: wire::number_at(b, 16, 4) as u32,
-        divisor: wire::number_at(b, 20, 4) as u32,
+        frequency: wire::number_at(&b, 0, 8),
+        count: wire::number_at(&b, 8, 8),
+        clock: wire::number_at(&b, 16, 4) as u32,
+        divisor: wire::number_at(&b, 20, 4) as u32,
         running: b[24] != 0,
         mode: b[25],
         gain: b[26],
@@ -42,31 +41,33 @@ fn settings_in(b: &[u8]) -> Settings
     }
 }
 
-fn store_in(b: &[u8]) -> Store
-    requires { ⌜ length (now b) ≡ 108 ⌝ }
-    ensures { λ r. ⌜ r ≡ storeIn (now (b .entry)) ⌝ }
+fn store_in(b: [u8; LENGTH]) -> Store
+    ensures { λ r. ⌜ r ≡ storeIn b ⌝ }
 {
     let mut held = [0u8; 64];
-    paste(&mut held, 0, b, 36, 64);
+    paste(&mut held, 0, &b, 36, 64);
     Store {
         held: held,
-        taken: wire::number_at(b, 100, 8) as usize,
+        taken: wire::number_at(&b, 100, 8) as usize,
     }
 }
 
-// The box in 108 bytes.
+// The box in 108 bytes. They are copied first: of an array the length is known to the compiler, which then reads each number at
+// once, and not byte by byte with a test for the end of the slice. Storing a box does the same.
 pub(crate) fn station_in(b: &[u8]) -> Station
     requires { ⌜ length (now b) ≡ 108 ⌝ }
     ensures { λ r. ⌜ r ≡ stationIn (now (b .entry)) ⌝ }
 {
+    let mut own = [0u8; LENGTH];
+    paste(&mut own, 0, b, 0, LENGTH);
     Station {
-        settings: settings_in(b),
-        store: store_in(b),
+        settings: settings_in(own),
+        store: store_in(own),
     }
 }
 
 // Stores the wide numbers among the settings in the first 24 bytes.
-fn put_wide(b: &mut [u8], s: Settings)
+fn put_wide(b: &mut [u8; LENGTH], s: Settings)
     ensures { λ _. ⌜ now (b .exit) ≡ sets (now (b .entry)) 0 (wideOf s) ⌝ }
 {
     wire::put(b, 0, 8, s.frequency);
@@ -76,7 +77,7 @@ fn put_wide(b: &mut [u8], s: Settings)
 }
 
 // Stores the numbers of one byte in the four bytes after them.
-fn put_narrow(b: &mut [u8], s: Settings)
+fn put_narrow(b: &mut [u8; LENGTH], s: Settings)
     ensures { λ _. ⌜ now (b .exit) ≡ sets (now (b .entry)) 24 (narrowOf s) ⌝ }
 {
     wire::put(b, 24, 1, s.running as u64);
@@ -85,7 +86,7 @@ fn put_narrow(b: &mut [u8], s: Settings)
     wire::put(b, 27, 1, s.size as u64);
 }
 
-fn put_settings(b: &mut [u8], s: Settings)
+fn put_settings(b: &mut [u8; LENGTH], s: Settings)
     requires { ⌜ length (now b) ≡ 108 ⌝ }
     ensures { λ _. ⌜ now (b .exit) ≡ sets (now (b .entry)) 0 (settingsBytes s) ⌝ }
 {
@@ -95,7 +96,7 @@ fn put_settings(b: &mut [u8], s: Settings)
     paste(b, 28, &serial, 0, 8);
 }
 
-fn put_store(b: &mut [u8], t: Store)
+fn put_store(b: &mut [u8; LENGTH], t: Store)
     requires { ⌜ length (now b) ≡ 108 ⌝ }
     ensures { λ _. ⌜ now (b .exit) ≡ sets (now (b .entry)) 36 (storeBytes t) ⌝ }
 {
@@ -111,6 +112,8 @@ pub(crate) fn put_station(b: &mut [u8], s: Station)
 {
     let settings = s.settings;
     let store = s.store;
-    put_settings(b, settings);
-    put_store(b, store);
+    let mut own = [0u8; LENGTH];
+    put_settings(&mut own, settings);
+    put_store(&mut own, store);
+    paste(b, 0, &own, 0, LENGTH);
 }

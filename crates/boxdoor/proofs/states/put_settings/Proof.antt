@@ -21,20 +21,15 @@ slice-aggregate-paste c = search needs
 
 paste-requires : tie.Need-paste-requires
 paste-requires c κs =
-    let narrow = c .before .before .before .before .before in
-    let start = narrow .before .before .before .before .before .before .before in
-    (omega (arith, start .pre, narrow .put-narrow .kept .0, narrow .before .before .before .before .put-wide .kept .0), omega (arith, long start))
-
-same-length : tie.Need-same-length
-same-length c = search needs
+    let start = c .before .before .before .before .before .before .before in
+    (omega (arith, start .pre), omega (arith, long start))
 
 returns : tie.Need-returns
 returns c =
-    let serial = c .before .before in
-    let narrow = serial .before .before .before .before .before .before in
-    let wide = narrow .before .before .before .before in
-    let start = wide .before .before .before in
-    settings-stored (start .args .s) (start .args .b .now) _ _ _ (long start) (wide .put-wide .ensures) (narrow .put-narrow .ensures) (serial .paste .ensures)
+    let narrow = c .before .before .before .before in
+    let wide = narrow .before .before in
+    let start = wide .before .before in
+    settings-stored (start .args .s) (start .args .b .now) _ _ _ (long start) (wide .put-wide .ensures) (narrow .put-narrow .ensures) (c .paste .ensures)
 
 pub put-settings-spec : {M : Type 1} → statement M
 put-settings-spec =
@@ -44,5 +39,4 @@ put-settings-spec =
     put-narrow-requires
     slice-aggregate-paste
     paste-requires
-    same-length
     returns)

@@ -1,7 +1,11 @@
--- The settings, and the store behind them.
+-- The settings, and the store behind them, in an array of their own; then its bytes, copied whole.
+use mathlib.Core.Path.{_≡_, refl, sym, _∙_}
+use native.Mathlib.Omega.{arith}
+use lib.ListN.{length, replicate}
+use lib.Seq.{take-all}
+use Rattle.boxdoor.specs.States.{settingsBytes, storeBytes, stationBytes}
 use Rattle.boxdoor.proofs.Fields.{station-stored}
-use mathlib.Core.Path.{_≡_}
-use lib.ListN.{length}
+use Rattle.boxdoor.proofs.Parts.{filled, still-long}
 use borrow.Author.Needs.{needs}
 use Rattle.boxdoor.proofs.states.put_station.Statement.{statement}
 use Rattle.boxdoor.proofs.states.put_station.Tie as tie
@@ -15,19 +19,51 @@ held-long c = search needs
 put-settings-requires : tie.Need-put-settings-requires
 put-settings-requires c κs = search needs
 
+-- the array after each store: it keeps its length, and in the end it is the box
+settled : (c : tie.After-put-settings) → length (c .put-settings .last .0) ≡ 108
+settled c =
+    still-long 108 0 (replicate 108 0) (settingsBytes (c .before .before .before .before .before .args .s .settings)) refl (c .put-settings .ensures)
+
+whole : (c : tie.After-put-store) → c .put-store .last .0 ≡ stationBytes (c .before .before .before .before .before .before .before .args .s)
+whole c =
+    let settings = c .before .before in
+    let start = settings .before .before .before .before .before in
+    station-stored (start .args .s) (replicate 108 0) _ _ refl (serial-long start) (held-long start) (settings .put-settings .ensures) (c .put-store .ensures)
+
+long : (c : tie.After-put-store) → length (c .put-store .last .0) ≡ 108
+long c =
+    let settings = c .before .before in
+    still-long 108 36 (settings .put-settings .last .0) (storeBytes (settings .before .before .before .before .before .args .s .store)) (settled settings) (c .put-store .ensures)
+
 put-store-requires : tie.Need-put-store-requires
-put-store-requires c κs = search needs
+put-store-requires c κs = settled (c .before)
+
+slice-aggregate-paste : tie.Need-slice-aggregate-paste
+slice-aggregate-paste c = sym (long (c .before .before))
+
+paste-requires : tie.Need-paste-requires
+paste-requires c κs =
+    let store = c .before .before in
+    (omega (arith, store .before .before .before .before .before .before .before .pre), omega (arith, long store))
 
 same-length : tie.Need-same-length
 same-length c = search needs
 
 returns : tie.Need-returns
 returns c =
-    let store = c .before .before in
-    let settings = store .before .before .before .before in
-    let start = settings .before .before .before .before .before in
-    station-stored (start .args .s) (start .args .b .now) _ _ (start .pre) (serial-long start) (held-long start) (settings .put-settings .ensures) (store .put-store .ensures)
+    let paste = c .before .before in
+    let store = paste .before .before .before in
+    let own = store .put-store .last .0 in
+    let start = store .before .before .before .before .before .before .before in
+    filled 0 108 own (start .args .b .now) (start .pre) (omega (arith, long store)) (paste .paste .ensures) ∙ take-all 108 own (omega (arith, long store)) ∙ whole store
 
 pub put-station-spec : {M : Type 1} → statement M
 put-station-spec =
-    tie.close (tie.spec put-settings-requires put-store-requires same-length returns)
+    tie.close
+    (tie.spec
+    put-settings-requires
+    put-store-requires
+    slice-aggregate-paste
+    paste-requires
+    same-length
+    returns)

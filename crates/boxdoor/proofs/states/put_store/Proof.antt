@@ -14,21 +14,19 @@ slice-aggregate-paste : tie.Need-slice-aggregate-paste
 slice-aggregate-paste c = search needs
 
 paste-requires : tie.Need-paste-requires
-paste-requires c κs = (omega (arith, c .before .before .before .before .pre), omega (arith, long (c .before .before .before .before)))
+paste-requires c κs =
+    let start = c .before .before .before in
+    (omega (arith, start .pre), omega (arith, long start))
 
 put-requires : tie.Need-put-requires
 put-requires c κs = search needs
 
-same-length : tie.Need-same-length
-same-length c = search needs
-
 returns : tie.Need-returns
 returns c =
-    let count = c .before .before in
-    let held = count .before .before .before .before in
-    let start = held .before .before .before .before .before in
-    store-stored (start .args .t) (start .args .b .now) _ _ (long start) (held .paste .ensures) (count .put .ensures)
+    let held = c .before .before in
+    let start = held .before .before .before .before in
+    store-stored (start .args .t) (start .args .b .now) _ _ (long start) (held .paste .ensures) (c .put .ensures)
 
 pub put-store-spec : {M : Type 1} → statement M
 put-store-spec =
-    tie.close (tie.spec slice-aggregate-paste paste-requires put-requires same-length returns)
+    tie.close (tie.spec slice-aggregate-paste paste-requires put-requires returns)

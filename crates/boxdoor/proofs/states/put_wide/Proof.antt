@@ -22,16 +22,12 @@ cast-put-2 c = search needs
 put-requires-4 : tie.Need-put-requires-4
 put-requires-4 c κs = search needs
 
-same-length : tie.Need-same-length
-same-length c = search needs
-
 returns : tie.Need-returns
 returns c =
-    let fourth = c .before .before in
-    let third = fourth .before .before .before .before .before in
-    let second = third .before .before .before .before .before in
-    let first = second .before .before .before .before in
-    wide-stored _ _ _ _ _ _ (first .put .ensures) (second .put2 .ensures) (third .put3 .ensures) (fourth .put4 .ensures)
+    let third = c .before .before .before in
+    let second = third .before .before .before in
+    let first = second .before .before in
+    wide-stored _ _ _ _ _ _ (first .put .ensures) (second .put2 .ensures) (third .put3 .ensures) (c .put4 .ensures)
 
 pub put-wide-spec : {M : Type 1} → statement M
 put-wide-spec =
@@ -43,5 +39,4 @@ put-wide-spec =
     put-requires-3
     cast-put-2
     put-requires-4
-    same-length
     returns)

@@ -1,7 +1,19 @@
--- Settings and store, each from its own bytes.
+-- The bytes, copied whole; then settings and store, each from its own of them.
+use Prim.Native.Nat.{ℕ}
+use mathlib.Core.Path.{_≡_, refl, _∙_}
+use mathlib.Core.List.{List}
+use native.Mathlib.Omega.{arith}
+use lib.Seq.{take-all}
+use Rattle.boxdoor.proofs.Parts.{filled}
 use borrow.Author.Needs.{needs}
 use Rattle.boxdoor.proofs.states.station_in.Statement.{statement}
 use Rattle.boxdoor.proofs.states.station_in.Tie as tie
+
+slice-aggregate-paste : tie.Need-slice-aggregate-paste
+slice-aggregate-paste c = search needs
+
+paste-requires : tie.Need-paste-requires
+paste-requires c κs = search needs
 
 settings-in-requires : tie.Need-settings-in-requires
 settings-in-requires c κs = search needs
@@ -10,7 +22,13 @@ store-in-requires : tie.Need-store-in-requires
 store-in-requires c κs = search needs
 
 returns : tie.Need-returns
-returns c = rw (c .before .settings-in .ensures, c .store-in .ensures)
+returns c =
+    let paste = c .before .before .before in
+    let start = paste .before .before .before in
+    let b = start .args .b .now in
+    rw (c .before .settings-in .ensures, c .store-in .ensures, filled 0 108 b _ refl (omega (arith, start .pre)) (paste .paste .ensures) ∙ take-all 108 b (omega (arith, start .pre))) refl
 
 pub station-in-spec : {M : Type 1} → statement M
-station-in-spec = tie.close (tie.spec settings-in-requires store-in-requires returns)
+station-in-spec =
+    tie.close
+    (tie.spec slice-aggregate-paste paste-requires settings-in-requires store-in-requires returns)
