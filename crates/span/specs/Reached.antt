@@ -21,8 +21,8 @@ pub record Reached (s : Span) (more : ℕ) : Type 0 where
 
 -- ---- what is proved of it: proofs/Inputs
 
--- What the program has written, when its last write meets what it requires (`Reached s 0`, and the lines of the end), is the
--- report of the pieces that it read.
+-- Where the last write meets what it requires (`Reached s 0`, and the lines of the end), the lines of those pieces and the last
+-- ones are their report. (That they are the pieces that were read is for a reader of `run` to see.)
 abbrev pub LastWriteEndsTheReport : Type 0
 LastWriteEndsTheReport =
     (s : Span) (lines : List ℕ) (r : Reached s 0) → lines ≡ finishingOf s room .bytes
