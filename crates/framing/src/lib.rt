@@ -1,9 +1,8 @@
 // Feeding, the part of it that no item has a say in: which bytes make a message, and what the box keeps of one that is
 // not finished.
 ghost use mathlib.Core.Path.{_≡_};
-ghost use Prim.Native.Nat.{_+_, _*_, _-_, _≤_, min};
+ghost use Prim.Native.Nat.{_+_, _*_, _≤_};
 ghost use lib.ListN.{length, take, drop, getD};
-ghost use lib.Seq.{sets};
 ghost use Rattle.framing.specs.Framing.{between, totalOf, announcedBy, finished, zeros, couldBeLeft, taken};
 ghost use Rattle.framing.specs.Telling.{firstTen, tookOf, heldAfter};
 ghost use Rattle.framing.specs.Inside.{totalAhead};
@@ -62,7 +61,7 @@ pub fn could_be_left(s: Store) -> bool
 
 // Takes the host's bytes up to the end of the message, and not past it, where `held` has what was kept of it and `had` were
 // taken before. Of a message that is finished already nothing is taken. One that comes whole is read where it lies: nothing
-// of it is kept.
+// of it is kept. Of any other those bytes are kept that belong to its first 64.
 pub fn take_in(held: &mut [u8; 64], had: usize, host: &[u8]) -> Took
     ensures { λ r.
         ⌜ (r ≡ tookOf (taken (record { held = now (held .entry); taken = had }) (now (host .entry))))
@@ -79,11 +78,11 @@ pub fn take_in(held: &mut [u8; 64], had: usize, host: &[u8]) -> Took
             };
         }
     }
-    let count = lesser(rest(total, had), host.len());
-    keep(held, had, host, count);
+    let count = wire::lesser(wire::left(total, had), host.len());
+    wire::copy(&host[..count], held, had);
     let now = had + count;
     Took {
-        opening: opening(held, lesser(now, 64)),
+        opening: opening(held, wire::lesser(now, 64)),
         count: count,
         taken: now,
         finished: total <= now,
@@ -147,40 +146,13 @@ fn total_ahead(held: &[u8], had: usize, host: &[u8]) -> usize
     requires { ⌜ length (now held) ≡ 64 ⌝ }
     ensures { λ r. ⌜ r ≡ totalAhead (now (held .entry)) had (now (host .entry)) ⌝ }
 {
-    if host.len() < rest(2, had) {
+    if host.len() < wire::left(2, had) {
         return 2;
     }
     match had {
         0 => announced_by(header(host[0], host[1])),
         1 => announced_by(header(held[0], host[0])),
         _ => announced_by(header(held[0], held[1])),
-    }
-}
-
-// The lesser of two counts.
-fn lesser(a: usize, b: usize) -> usize
-    ensures { λ r. ⌜ r ≡ min a b ⌝ }
-{
-    if a < b { a } else { b }
-}
-
-// What is left of a whole, which may be nothing.
-fn rest(whole: usize, part: usize) -> usize
-    ensures { λ r. ⌜ r ≡ whole - part ⌝ }
-{
-    if part < whole { whole - part } else { 0 }
-}
-
-// Keeps the host's first `count` bytes from a place on, those of them that belong to the first 64.
-fn keep(held: &mut [u8; 64], at: usize, host: &[u8], count: usize)
-    requires { ⌜ (length (now held) ≡ 64) × (count ≤ length (now host)) ⌝ }
-    ensures { λ r. ⌜ now (held .exit) ≡ sets (now (held .entry)) at (take count (now (host .entry))) ⌝ }
-{
-    let kept = lesser(count, rest(64, at));
-    let mut i = 0;
-    while i < kept {
-        held[at + i] = host[i];
-        i += 1;
     }
 }
 

@@ -3,7 +3,6 @@ mod telling;
 mod text;
 
 pub use telling::tell;
-pub use text::copy;
 
 // What comes last: nothing, where only a capture ended; a refusal with its code and the input byte; or the end of the input
 // with the count of captures.

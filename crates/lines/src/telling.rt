@@ -10,7 +10,6 @@ ghost use Rattle.lines.specs.Due.{openingIf, captureIf, endingLines, due
 use crate::Due;
 use crate::Ending;
 use crate::Told;
-use crate::text::copy;
 use crate::text::put_line;
 use wire::codes;
 
@@ -120,7 +119,7 @@ pub fn tell(d: Due, out: &mut [u8]) -> Told
             wrote: 0,
         };
     }
-    copy(&text[..n], out, 0);
+    wire::copy(&text[..n], out, 0);
     Told {
         code: codes::DONE,
         wrote: n,

@@ -3,24 +3,9 @@ ghost use mathlib.Core.Path.{_≡_};
 ghost use mathlib.Core.List.{_∷_};
 ghost use Prim.Native.Nat.{_+_, _*_, _≤_};
 ghost use lib.ListN.{length};
-ghost use lib.Seq.{sets};
 ghost use Rattle.wire.specs.Number.{bytes};
 ghost use Rattle.lines.specs.Lines.{decimal, numbersText, textWith};
 ghost use Rattle.lines.specs.Inside.{Stored};
-
-// Copies a slice to a place of another. What would lie past the end is not written.
-pub fn copy(src: &[u8], dst: &mut [u8], at: usize)
-    ensures { λ _. ⌜ now (dst .exit) ≡ sets (now (dst .entry)) at (now (src .entry)) ⌝ }
-{
-    let mut i = 0;
-    while i < src.len() {
-        if dst.len() - i <= at {
-            return;
-        }
-        dst[at + i] = src[i];
-        i += 1;
-    }
-}
 
 // Writes a space and a number in decimal, and answers the place after them.
 fn put_number(n: u64, buf: &mut [u8], at: usize) -> usize
@@ -30,7 +15,7 @@ fn put_number(n: u64, buf: &mut [u8], at: usize) -> usize
     let mut digits = [0u8; 20];
     let k = io::decimal(n, &mut digits);
     wire::put(buf, at, 1, 0x20);
-    copy(&digits[..k], buf, at + 1);
+    wire::copy(&digits[..k], buf, at + 1);
     at + 1 + k
 }
 

@@ -96,7 +96,7 @@ fn take_head(s: Span, piece: &[u8]) -> Span
     let taken = s.taken;
     let k = lesser(heads::LENGTH - taken, piece.len());
     let mut held = s.held;
-    lines::copy(&piece[..k], &mut held, taken);
+    wire::copy(&piece[..k], &mut held, taken);
     let tally = s.tally;
     Span {
         stopped: false,

@@ -1,29 +1,17 @@
 // Numbers in bytes: "All longer fields are least significant byte first."
+use crate::counts::left;
+use crate::counts::lesser;
 ghost use mathlib.Core.Path.{_≡_};
-ghost use Prim.Native.Nat.{_-_, min};
+ghost use Prim.Native.Nat.{min};
 ghost use lib.Seq.{sets};
 ghost use Rattle.wire.specs.Number.{bytes, field};
-
-// The lesser of two counts.
-fn lesser(a: usize, b: usize) -> usize
-    ensures { λ r. ⌜ r ≡ min a b ⌝ }
-{
-    if a < b { a } else { b }
-}
-
-// How many places a slice of a length has from a place on.
-fn room(len: usize, at: usize) -> usize
-    ensures { λ r. ⌜ r ≡ len - at ⌝ }
-{
-    if at < len { len - at } else { 0 }
-}
 
 // The number in the n bytes at a place of a slice, of which at most eight are read. Bytes past the end of the slice are
 // not there, and count nothing.
 pub fn number_at(s: &[u8], at: usize, n: usize) -> u64
     ensures { λ r. ⌜ r ≡ field at (min n 8) (now (s .entry)) ⌝ }
 {
-    let mut i = lesser(lesser(n, 8), room(s.len(), at));
+    let mut i = lesser(lesser(n, 8), left(s.len(), at));
     let mut number: u64 = 0;
     while 0 < i {
         i -= 1;
@@ -36,7 +24,7 @@ pub fn number_at(s: &[u8], at: usize, n: usize) -> u64
 pub fn put(dst: &mut [u8], at: usize, n: usize, v: u64)
     ensures { λ r. ⌜ now (dst .exit) ≡ sets (now (dst .entry)) at (bytes n v) ⌝ }
 {
-    let fits = lesser(n, room(dst.len(), at));
+    let fits = lesser(n, left(dst.len(), at));
     let mut rest = v;
     let mut i = 0;
     while i < fits {

@@ -2,10 +2,11 @@
 -- that comes whole is read where it lies, and of another they are stored at once.
 use Prim.Native.Nat.{_<_}
 use mathlib.Core.Logic.{inl, inr}
-use mathlib.Core.Path.{_≡_}
+use mathlib.Core.Path.{_≡_, sym}
 use native.Mathlib.Omega.{arith}
 use denote.Ref.{now}
 use lib.ListN.{length}
+use lib.Seq.{length-take-le}
 use Rattle.framing.proofs.Whole.{came-whole, came-in-part}
 use borrow.Author.Needs.{needs}
 use Rattle.framing.proofs.take_in.Statement.{statement}
@@ -28,14 +29,17 @@ returns c =
     came-whole (now (a .args .held)) (now (a .args .host)) (a .args .had) (t .total-ahead .result) (long (t .before)) (t .total-ahead .ensures) (c .opening .result)
     (c .before .before .if1 .taken) (c .before .if2 .taken) (c .opening .ensures)
 
-rest-requires : tie.Need-rest-requires
-rest-requires c κs = search needs
+left-requires : tie.Need-left-requires
+left-requires c κs = search needs
 
 lesser-requires : tie.Need-lesser-requires
 lesser-requires c κs = search needs
 
-keep-requires : tie.Need-keep-requires
-keep-requires c κs = (long (c .before .before .before .before .before), search needs)
+slice-aggregate-copy : tie.Need-slice-aggregate-copy
+slice-aggregate-copy c = sym (length-take-le _ _ (omega arith))
+
+copy-requires : tie.Need-copy-requires
+copy-requires c κs = search needs
 
 add-now : tie.Need-add-now
 add-now c = search needs
@@ -49,11 +53,11 @@ opening-requires-2 c κs = search needs
 returns-2 : tie.Need-returns-2
 returns-2 c =
     let k = c .before .before .before .before in
-    let n = k .before .before in
+    let n = k .before .before .before in
     let t = n .before .before .before in
     let a = t .before .before .before .before in
-    came-in-part (now (a .args .held)) (now (a .args .host)) (a .args .had) (t .total-ahead .result) (long (t .before)) (t .total-ahead .ensures) (n .lesser .result) (c .opening2 .result) (k .keep .last .0)
-    (λ none. elim (n .before .before .if1 .came) [ inl half ↦ half .1 .left | inr more ↦ absurd (more .left none) ]) (omega arith) (k .keep .ensures) (rw (c .before .lesser2 .ensures) at (c .opening2 .ensures))
+    came-in-part (now (a .args .held)) (now (a .args .host)) (a .args .had) (t .total-ahead .result) (long (t .before)) (t .total-ahead .ensures) (n .lesser .result) (c .opening2 .result) (k .copy .last .1 .0)
+    (λ none. elim (n .before .before .if1 .came) [ inl half ↦ half .1 .left | inr more ↦ absurd (more .left none) ]) (omega arith) (k .copy .ensures) (rw (c .before .lesser2 .ensures) at (c .opening2 .ensures))
 
 pub take-in-spec : {M : Type 1} → statement M
 take-in-spec =
@@ -62,9 +66,10 @@ take-in-spec =
     total-ahead-requires
     opening-requires
     returns
-    rest-requires
+    left-requires
     lesser-requires
-    keep-requires
+    slice-aggregate-copy
+    copy-requires
     add-now
     lesser-requires-2
     opening-requires-2

@@ -6,8 +6,8 @@ use borrow.Author.Needs.{needs}
 use Rattle.framing.proofs.total_ahead.Statement.{statement}
 use Rattle.framing.proofs.total_ahead.Tie as tie
 
-rest-requires : tie.Need-rest-requires
-rest-requires c κs = search needs
+left-requires : tie.Need-left-requires
+left-requires c κs = search needs
 
 returns : tie.Need-returns
 returns c =
@@ -72,7 +72,7 @@ pub total-ahead-spec : {M : Type 1} → statement M
 total-ahead-spec =
     tie.close
     (tie.spec
-    rest-requires
+    left-requires
     returns
     shared-slice-read-header
     shared-slice-read-header-2

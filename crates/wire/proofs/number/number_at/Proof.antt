@@ -18,8 +18,8 @@ abbrev μ-loop : tie.MeasureT-loop
 lesser-requires : tie.Need-lesser-requires Inv-loop μ-loop
 lesser-requires c κs = search needs
 
-room-requires : tie.Need-room-requires Inv-loop μ-loop
-room-requires c κs = search needs
+left-requires : tie.Need-left-requires Inv-loop μ-loop
+left-requires c κs = search needs
 
 lesser-requires-2 : tie.Need-lesser-requires-2 Inv-loop μ-loop
 lesser-requires-2 c κs = search needs
@@ -86,7 +86,7 @@ number-at-spec =
     Inv-loop
     μ-loop
     lesser-requires
-    room-requires
+    left-requires
     lesser-requires-2
     loop-holds
     sub-i

@@ -18,8 +18,8 @@ Inv-loop dst₀ at n v fits rest₀ i₀ dst rest i =
 abbrev μ-loop : tie.MeasureT-loop
 μ-loop dst₀ at n v fits rest₀ i₀ dst rest i = fits - i
 
-room-requires : tie.Need-room-requires Inv-loop μ-loop
-room-requires c κs = search needs
+left-requires : tie.Need-left-requires Inv-loop μ-loop
+left-requires c κs = search needs
 
 lesser-requires : tie.Need-lesser-requires Inv-loop μ-loop
 lesser-requires c κs = search needs
@@ -65,7 +65,7 @@ put-spec =
     (tie.spec
     Inv-loop
     μ-loop
-    room-requires
+    left-requires
     lesser-requires
     loop-holds
     cast-dst
