@@ -9,8 +9,8 @@ use lib.Dec.{eqb}
 use Rattle.wire.specs.Codes.{boxWrites}
 use Rattle.wire.specs.Header.{nak, typeSet}
 use Rattle.wire.proofs.Laws.{and-left, and-right, pick-keeps}
-use Rattle.wire.specs.Choice.{pick, Check, firstOf}
-use Rattle.wire.proofs.Checks.{Absent, absent, first-stops, first-goes-on, given-has}
+use Rattle.wire.specs.Choice.{pick, Check, firstOf, Absent}
+use Rattle.wire.proofs.Checks.{absent, first-stops, first-goes-on, given-has}
 use Rattle.items.specs.declared.Settings.{Settings}
 use Rattle.items.specs.Items.{listed}
 use Rattle.items.specs.Header.{headerChecks}
