@@ -14,7 +14,7 @@ use Rattle.wire.specs.Choice.{pick, Check, firstOf, Absent}
 use Rattle.wire.specs.Number.{number, field}
 use Rattle.wire.proofs.Checks.{differ, given-exactly}
 use Rattle.wire.proofs.Laws.{and-left, and-right, and-both, true-not-false}
-use Rattle.items.specs.Answer.{checks, codeOf}
+use Rattle.items.specs.Answer.{codeOf}
 use Rattle.items.specs.declared.Settings.{Settings}
 use Rattle.framing.specs.Framing.{Taking, taken, finished}
 use Rattle.station.specs.declared.Station.{Station}

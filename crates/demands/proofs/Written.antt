@@ -11,7 +11,7 @@ use Rattle.wire.proofs.Checks.{given-has}
 use Rattle.items.specs.Answer.{Message, replyDue, replyOf}
 use Rattle.framing.specs.Framing.{taken}
 use Rattle.station.specs.declared.Station.{Station}
-use Rattle.station.specs.Feeding.{Feeding, messageIn, feedingOf}
+use Rattle.station.specs.Feeding.{Feeding, messageIn}
 use Rattle.station.proofs.Valid.{each-way}
 use Rattle.station.proofs.Calls.{feeding-within}
 use Rattle.cutting.specs.Cutting.{Cutting, packetOf, cutChecks, cutCode, formNow}
