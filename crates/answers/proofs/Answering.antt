@@ -14,6 +14,7 @@ use Rattle.wire.specs.Header.{nak, typeRange, typeReply, typeRangeReply}
 use Rattle.items.specs.declared.Settings.{Settings}
 use Rattle.items.specs.Items.{Item, rowOf}
 use Rattle.items.specs.Answer.{Message, itemIn, row, parameters, codeOf, settingsAfter, replyOf, replyTo, replyBody, rangeBody, framed}
+use Rattle.items.proofs.Judging.{reply-by-code}
 use Rattle.items.proofs.Rows.{found}
 use Rattle.answers.specs.declared.Answered.{Answered}
 use Rattle.answers.specs.Replies.{answerOf}
@@ -84,12 +85,11 @@ module _ (s : Settings) (m : Message) where
 
   pub due-reply : 4 < length (m .held) → (codeOf s m ≡ 2 → ⊥)
       → due (codeOf s m) (m .type) (itemIn m) (getD (m .held) 4 0) (settingsAfter s m) ≡ replyOf s m
-  unfolding replyOf
   due-reply h answered =
       let p = parameters m in
       let some : 0 < length p = rw (length-drop 4 (m .held)) (omega arith) in
       let first : getD p 0 0 ≡ getD (m .held) 4 0 = getD-drop 4 (m .held) 0 0 in
-      rw (ne-eqb (codeOf s m) 2 answered)
+      rw (reply-by-code s m, ne-eqb (codeOf s m) 2 answered)
       (ap (λ (l : List ℕ). pick (eqb (codeOf s m) 1) l nak)
       (sym (reply-first (itemIn m) (m .type) (settingsAfter s m) p some ∙ ap (λ (b : ℕ). replyTo (row m) (m .type) (settingsAfter s m) (b ∷ [])) first)))
 

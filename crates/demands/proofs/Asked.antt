@@ -32,7 +32,7 @@ use Rattle.wishes.proofs.Understood.{code-of-wish, settings-of-wish}
 use Rattle.replies.specs.Reading.{toldOf}
 use Rattle.replies.specs.Exactly.{Given}
 use Rattle.replies.proofs.Exactly.{box-reply-is-read, exactly}
-use Rattle.demands.specs.Shown.{resting}
+use Rattle.demands.specs.Shown.{resting, hasRoom}
 use Rattle.demands.specs.Asked.{Understands, WhatIsAskedIsUnderstood, Writes, ReadsWhatBoxesWrite}
 use Rattle.demands.proofs.OneMessage.{holding, tookAll, one-message, whole-fed, whole-answered}
 
@@ -92,7 +92,7 @@ answered-wish : (w : Wish) (s : Settings) → answered s (tookAll (messageOf w))
 answered-wish w s =
     ap (λ (m : Message). record { fed = record { code = codeOf s m; consumed = length (messageOf w); wrote = length (replyOf s m); station = resting (settingsAfter s m) }; bytes = replyOf s m }) (wish-held w)
 
-fed-wish : (w : Wish) (s : Settings) (room : ℕ) → inRange s ≡ true → (feedingOf (resting s) (messageOf w) room .fed .code ≡ 20 → ⊥)
+fed-wish : (w : Wish) (s : Settings) (room : ℕ) → inRange s ≡ true → hasRoom (feedingOf (resting s) (messageOf w) room)
     → feedingOf (resting s) (messageOf w) room ≡ answering w s
 fed-wish w s room v some = whole-answered (messageOf w) s room (wish-taken w) (valid-both s between v between-left) some ∙ answered-wish w s
 

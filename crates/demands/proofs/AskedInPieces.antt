@@ -16,7 +16,7 @@ use Rattle.framing.proofs.Leaving.{between-left}
 use Rattle.layouts.proofs.Sizes.{least, length-laid}
 use Rattle.items.specs.declared.Settings.{Settings}
 use Rattle.items.specs.Settings.{inRange}
-use Rattle.items.specs.Answer.{Message, row, parameters, settingsAfter, framed, replyBody, rangeBody}
+use Rattle.items.specs.Answer.{Message, row, parameters, settingsAfter, framed, replyBody, rangeBody, replyDue}
 use Rattle.station.specs.Station.{valid}
 use Rattle.station.specs.Feeding.{messageIn, feedingOf}
 use Rattle.station.specs.Serving.{Served, unserved, noting, called, Piece, serving, joined, roomy}
@@ -26,7 +26,6 @@ use Rattle.wishes.specs.Wishes.{layoutOf, messageOf, notNow}
 use Rattle.wishes.proofs.Rows.{short-message}
 use Rattle.replies.specs.Reading.{Told, toldOf}
 use Rattle.demands.specs.Shown.{resting}
-use Rattle.demands.specs.Written.{replyDue}
 use Rattle.demands.specs.Asked.{Understands}
 use Rattle.demands.specs.AskedInPieces.{UnderstandsInPieces, WhatIsAskedIsUnderstoodInPieces}
 use Rattle.demands.proofs.Asked.{wish-taken, accepted, message-written, understood-in-64}

@@ -1,18 +1,20 @@
--- Each code is given exactly on its condition: of 01's lists of checks no two have one code.
+-- Each code is given exactly on its condition: no two checks of a list have one code, but for the head's that is read, which is gone
+-- through test by test.
 -- Assumes nothing.
-use Prim.Native.Nat.{ℕ, _<_}
+use Prim.Native.Nat.{ℕ, _≤_, _<_}
 use native.Mathlib.Omega.{arith}
-use mathlib.Core.Path.{_≡_, refl, sym, subst}
+use mathlib.Core.Path.{_≡_, refl, sym, subst, _∙_}
 use mathlib.Core.Bool.{Bool, true, false, _&&_, not}
 use mathlib.Core.List.{List, [], _∷_, _++_}
-use mathlib.Core.Logic.{_↔_}
-use borrow.Author.Tests.{eqb-false, ne-eqb, not-true}
+use mathlib.Core.Logic.{_⊎_, inl, inr, _↔_}
+use borrow.Author.Tests.{eqb-true, eqb-false, ltb-true, ltb-false, ne-eqb, not-true}
 use lib.Dec.{eqb, ltb}
 use lib.ListN.{length}
-use Rattle.wire.specs.Choice.{pick, Check, firstOf}
-use Rattle.wire.proofs.Checks.{Absent, differ, given-exactly}
-use Rattle.wire.proofs.Laws.{and-left, and-right, and-both}
-use Rattle.items.specs.Answer.{checks, codeOf}
+use Rattle.wire.specs.Choice.{pick, Check, firstOf, Absent}
+use Rattle.wire.specs.Number.{number, field}
+use Rattle.wire.proofs.Checks.{differ, given-exactly}
+use Rattle.wire.proofs.Laws.{and-left, and-right, and-both, true-not-false}
+use Rattle.items.specs.Answer.{codeOf}
 use Rattle.items.specs.declared.Settings.{Settings}
 use Rattle.framing.specs.Framing.{Taking, taken, finished}
 use Rattle.station.specs.declared.Station.{Station}
@@ -21,9 +23,12 @@ use Rattle.station.specs.Feeding.{Feeding, messageIn, refused, answered, waitin
 use Rattle.demands.proofs.Refused.{code-below}
 use Rattle.cutting.specs.Cutting.{cutCode}
 use Rattle.reader.specs.Reading.{readCode, unpackCode}
+use Rattle.heads.specs.Head.{mark, version, headLength, allowed, headIn}
+use Rattle.heads.specs.Head.{writeCode as headCode}
+use Rattle.heads.proofs.Codes.{code-by}
 use Rattle.wishes.specs.Writing.{writeCode}
 use Rattle.replies.specs.Reading.{readCode as replyCode}
-use Rattle.demands.specs.Given.{NoneHolds, EachExactly, GivenExactly}
+use Rattle.demands.specs.Given.{EachExactly, HeadExactly, GivenExactly}
 
 -- no two checks of the list have one code
 abbrev distinct : List Check → Bool
@@ -47,28 +52,14 @@ apart-in (b ∷ before) c after d =
     let rest = apart-in before c after (and-right (differ (b .code) (before ++ c ∷ after)) (distinct (before ++ c ∷ after)) d) in
     (and-both (not (eqb (b .code) (c .code))) (differ (c .code) before) (other-way (c .code) (b .code) (here .0)) (rest .0), rest .1)
 
-none-absent : (cs : List Check) → NoneHolds cs → Absent cs
-none-absent [] h = tt
-none-absent (c ∷ cs) h = (h .0, none-absent cs (h .1))
-
-absent-none : (cs : List Check) → Absent cs → NoneHolds cs
-absent-none [] h = tt
-absent-none (c ∷ cs) h = (h .0, absent-none cs (h .1))
-
 each : (cs : List Check) (n : ℕ) → distinct cs ≡ true → differ n cs ≡ true → EachExactly cs (firstOf cs n)
 each cs n d other before c after e =
-    subst (λ (l : List Check). (firstOf l n ≡ c .code) ↔ (NoneHolds before × (c .holds ≡ true))) (sym e) (
-      λ (h : firstOf (before ++ c ∷ after) n ≡ c .code). let r = law .0 h in (absent-none before (r .0), r .1),
-      λ (h : NoneHolds before × (c .holds ≡ true)). law .1 (none-absent before (h .0), h .1),
-    )
+    subst (λ (l : List Check). (firstOf l n ≡ c .code) ↔ (Absent before × (c .holds ≡ true))) (sym e)
+    (given-exactly before c after n (parts .0) (parts .1)
+    (λ m. eqb-false (c .code) n (not-true (eqb (c .code) n) (differ-later n before c after (subst (λ (l : List Check). differ n l ≡ true) e other) .0)) (sym m)))
   where
     parts : (differ (c .code) before ≡ true) × (differ (c .code) after ≡ true)
     parts = apart-in before c after (subst (λ (l : List Check). distinct l ≡ true) e d)
-
-    law : (firstOf (before ++ c ∷ after) n ≡ c .code) ↔ (Absent before × (c .holds ≡ true))
-    law =
-        given-exactly before c after n (parts .0) (parts .1)
-        (λ m. eqb-false (c .code) n (not-true (eqb (c .code) n) (differ-later n before c after (subst (λ (l : List Check). differ n l ≡ true) e other) .0)) (sym m))
 
 -- what the bytes of a call come to has a code below 20
 comes-below : (s : Settings) (t : Taking) → comesTo s t .fed .code < 20
@@ -97,8 +88,54 @@ feed-each s host room =
     subst (EachExactly (feedChecks s t room)) (sym (feed-code s host room))
     (each (feedChecks s t room) n refl (rw (ne-eqb 21 n (λ e. omega arith), ne-eqb 20 n (λ e. omega arith)) refl))
 
+head-each : (s : List ℕ) → HeadExactly s
+head-each s = by (ltb (length s) headLength) (eqb (field 0 3 s) (number mark)) (eqb (field 3 2 s) version) (allowed (headIn s)) refl refl refl refl
+  where
+    -- none of the three ways to be no head
+    against : headLength ≤ length s → field 0 3 s ≡ number mark → (field 3 2 s ≡ version → allowed (headIn s) ≡ false → ⊥)
+        → (length s < headLength) ⊎ (field 0 3 s ≡ number mark → ⊥) ⊎ ((field 3 2 s ≡ version) × (allowed (headIn s) ≡ false)) → ⊥
+    against long marked fine (inl short) = omega arith
+    against long marked fine (inr (inl other)) = other marked
+    against long marked fine (inr (inr bad)) = fine (bad .0) (bad .1)
+
+    by : (short marked one ok : Bool) → ltb (length s) headLength ≡ short → eqb (field 0 3 s) (number mark) ≡ marked
+        → eqb (field 3 2 s) version ≡ one → allowed (headIn s) ≡ ok → HeadExactly s
+    by true marked one ok p q r t =
+        let code = code-by s p q r t in
+        let less = ltb-true (length s) headLength p in
+        record {
+          notAHead = (λ e. inl less, λ h. code);
+          otherVersion = (λ e. absurd (omega arith), λ h. absurd (omega (arith, h .0)));
+        }
+    by false false one ok p q r t =
+        let code = code-by s p q r t in
+        let other = eqb-false (field 0 3 s) (number mark) q in
+        record {
+          notAHead = (λ e. inr (inl other), λ h. code);
+          otherVersion = (λ e. absurd (omega arith), λ h. absurd (other (h .1)));
+        }
+    by false true false ok p q r t =
+        let code = code-by s p q r t in
+        let other = eqb-false (field 3 2 s) version r in
+        record {
+          notAHead = (λ e. absurd (omega arith), λ h. absurd (against (ltb-false _ _ p) (eqb-true _ _ q) (λ v a. other v) h));
+          otherVersion = (λ e. (ltb-false _ _ p, eqb-true _ _ q, other), λ h. code);
+        }
+    by false true true false p q r t =
+        let code = code-by s p q r t in
+        record {
+          notAHead = (λ e. inr (inr (eqb-true _ _ r, t)), λ h. code);
+          otherVersion = (λ e. absurd (omega arith), λ h. absurd (h .2 (eqb-true _ _ r)));
+        }
+    by false true true true p q r t =
+        let code = code-by s p q r t in
+        record {
+          notAHead = (λ e. absurd (omega arith), λ h. absurd (against (ltb-false _ _ p) (eqb-true _ _ q) (λ v a. true-not-false (sym t ∙ a)) h));
+          otherVersion = (λ e. absurd (omega arith), λ h. absurd (h .2 (eqb-true _ _ r)));
+        }
+
 pub codes-given-exactly : GivenExactly
-unfolding codeOf cutCode readCode unpackCode writeCode replyCode
+unfolding codeOf cutCode readCode unpackCode headCode writeCode replyCode
 codes-given-exactly =
     record {
       feeding = feed-each;
@@ -106,6 +143,8 @@ codes-given-exactly =
       cutting = λ s samples room. each _ 1 refl refl;
       reading = λ r packet. each _ 1 refl refl;
       unpacking = λ packet room. each _ 1 refl refl;
+      headWritten = λ h room. each _ 1 refl refl;
+      headRead = head-each;
       wish = λ w room. each _ 1 refl refl;
       reply = λ w bs. each _ 1 refl refl;
     }

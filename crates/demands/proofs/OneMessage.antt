@@ -22,7 +22,7 @@ use Rattle.station.specs.Station.{valid}
 use Rattle.station.specs.Feeding.{messageIn, answered, feedingOf}
 use Rattle.station.proofs.Short.{reply-short}
 use Rattle.station.proofs.Valid.{valid-settings, feeding-answered, each-way}
-use Rattle.demands.specs.Shown.{resting}
+use Rattle.demands.specs.Shown.{resting, hasRoom}
 
 -- what is held of a message's first bytes
 abbrev pub holding : List ℕ → Store
@@ -98,7 +98,7 @@ whole-fed m s room took v enough =
 
 -- so does every call that is not refused for want of room
 pub whole-answered : (m : List ℕ) (s : Settings) (room : ℕ) → taken between m ≡ tookAll m → valid (resting s) ≡ true
-    → (feedingOf (resting s) m room .fed .code ≡ 20 → ⊥) → feedingOf (resting s) m room ≡ answered s (tookAll m)
+    → hasRoom (feedingOf (resting s) m room) → feedingOf (resting s) m room ≡ answered s (tookAll m)
 whole-answered m s room took v some =
-    each-way (λ f. (f .fed .code ≡ 20 → ⊥) → f ≡ answered s (tookAll m)) (resting s) m room (λ w h. never (sym w ∙ v)) (λ w h. absurd (h refl))
+    each-way (λ f. hasRoom f → f ≡ answered s (tookAll m)) (resting s) m room (λ w h. never (sym w ∙ v)) (λ w h. absurd (h refl))
     (λ w f h. never (sym f ∙ ap (λ (t : Taking). t .finished) took)) (λ w f enough h. ap (answered s) took) some

@@ -2,11 +2,11 @@
 -- Assumes nothing.
 use Prim.Native.Nat.{ℕ, _≤_, _<_}
 use mathlib.Core.Path.{_≡_, refl, sym, _∙_}
-use mathlib.Core.List.{List, [], _∷_}
+use mathlib.Core.List.{List, _∷_}
 use native.Mathlib.Omega.{arith}
 use native.Mathlib.Nat.{zero-add}
 use borrow.Author.Tests.{ne-eqb, lt-leb}
-use mathlib.Core.Bool.{true, false, and-false}
+use mathlib.Core.Bool.{false, and-false}
 use lib.ListN.{length, replicate}
 use lib.Dec.{eqb, lit≤}
 use lib.IntN.{ℤ}
@@ -19,6 +19,7 @@ use Rattle.station.specs.Station.{valid, freshStation}
 use Rattle.framing.proofs.Cutting.{told, count-all}
 use Rattle.items.specs.declared.Settings.{Settings}
 use Rattle.items.specs.Answer.{Message, checks, codeOf, settingsAfter, replyOf}
+use Rattle.items.proofs.Judging.{reply-by-code}
 use Rattle.reader.specs.declared.Reader.{Reader}
 use Rattle.packets.specs.Numbers.{numberIn}
 use Rattle.reader.specs.Reading.{positionAfter, readCode, readingOf, heardAt, unheard}
@@ -38,8 +39,7 @@ code-below s m = given-below 20 (checks s m) 1 refl (omega arith)
 
 -- a message that is refused is answered with NAK and leaves every setting
 refused-reply : (s : Settings) (m : Message) → 10 ≤ codeOf s m → replyOf s m ≡ nak
-unfolding replyOf
-refused-reply s m r = rw (ne-eqb (codeOf s m) 1 (λ e. omega arith), ne-eqb (codeOf s m) 2 (λ e. omega arith)) refl
+refused-reply s m r = rw (reply-by-code s m, ne-eqb (codeOf s m) 1 (λ e. omega arith), ne-eqb (codeOf s m) 2 (λ e. omega arith)) refl
 
 refused-kept : (s : Settings) (m : Message) → 10 ≤ codeOf s m → settingsAfter s m ≡ s
 refused-kept s m r = refused-leaves s m (λ e. omega arith)

@@ -7,38 +7,47 @@ use mathlib.Core.Path.{_≡_, ap, _∙_}
 use mathlib.Core.Bool.{true}
 use mathlib.Core.List.{List, [], _∷_, append-nil}
 use lib.ListN.{length}
+use Rattle.framing.specs.Framing.{between, taken}
 use Rattle.items.specs.declared.Settings.{Settings}
 use Rattle.items.specs.Answer.{settingsAfter}
+use Rattle.station.specs.declared.Station.{Station}
 use Rattle.station.specs.Station.{valid}
 use Rattle.station.specs.Feeding.{feedingOf}
 use Rattle.station.specs.Serving.{Served, unserved, noting, called, serving}
-use Rattle.station.proofs.Calls.{feeding-keeps}
-use Rattle.demands.specs.Shown.{OneMessage, messageOf, resting, valueSet, showing}
+use Rattle.station.proofs.Calls.{feeding-keeps, feeding-some}
+use Rattle.demands.specs.Shown.{messageOf, resting, hasRoom, valueSet, showing}
 use Rattle.demands.specs.ShownInPieces.{SetShowsLaterInPieces}
-use Rattle.demands.proofs.ShownFed.{took, message-fed, fed-set-shows}
+use Rattle.demands.proofs.ShownFed.{set-low, request-low, least, took, message-fed, fed-set-shows}
+use Rattle.demands.proofs.Refused.{fed-refused}
+use Rattle.demands.proofs.OneMessage.{tookAll}
 use Rattle.demands.proofs.InPieces.{whole, message-served, pieces-served}
 
--- a whole message has a byte
-some : (m : List ℕ) → OneMessage m → 1 ≤ length m
-some m one = omega (arith, one .least)
+-- 64 bytes are room enough
+roomy-call : (s : Station) (host : List ℕ) → valid s ≡ true → 2 ≤ length host → hasRoom (feedingOf s host 64)
+roomy-call s host v some e =
+    let consumed = feeding-some s host 64 v (le-refl 64) (omega arith) in
+    omega (arith, fed-refused s host 64 (omega arith) .2)
 
 -- two messages, each in one call
-two-served : (s : Settings) (m q : List ℕ) → valid (resting s) ≡ true → OneMessage m → OneMessage q
+two-served : (s after : Settings) (m q : List ℕ) → valid (resting s) ≡ true → feedingOf (resting s) m 64 .fed .station ≡ resting after
+    → taken between m ≡ tookAll m → 2 ≤ length m → taken between q ≡ tookAll q → 2 ≤ length q
     → serving (unserved (resting s)) (whole m ∷ whole q ∷ []) ≡ called 64 (called 64 (unserved (resting s)) m) q
 unfolding serving
-two-served s m q v one two =
-    let f = message-fed m one s 64 v (le-refl 64) in
-    let stays : valid (resting (settingsAfter s (messageOf m))) ≡ true = rw (f .1) at (feeding-keeps (resting s) m 64 v) in
-    message-served s v m [] (whole q ∷ []) (took m one) (some m one)
-    ∙ rw (f .1)
-    (message-served (settingsAfter s (messageOf m)) stays q
-    (noting [] (feedingOf (resting s) m 64 .bytes)) [] (took q two) (some q two))
+two-served s after m q v is took-m long-m took-q long-q =
+    let stays : valid (resting after) ≡ true = rw is at (feeding-keeps (resting s) m 64 v) in
+    message-served s v m [] (whole q ∷ []) took-m (omega arith)
+    ∙ rw is (message-served after stays q (noting [] (feedingOf (resting s) m 64 .bytes)) [] took-q (omega arith))
 
 pub set-shows-later-in-pieces : SetShowsLaterInPieces
 set-shows-later-in-pieces s m q pieces v one kind h two asked same answered enough e =
-    let shown = fed-set-shows s m 64 q 64 v (le-refl 64) (le-refl 64) one kind h two asked same answered in
+    let long-m = least m one s (set-low kind) h in
+    let long-q = least q two s (request-low asked) answered in
+    let room = roomy-call (resting s) m v long-m in
+    let later = roomy-call (feedingOf (resting s) m 64 .fed .station) q (feeding-keeps (resting s) m 64 v) long-q in
+    let shown = fed-set-shows s m 64 q 64 v room later one kind h two asked same answered in
     ap (λ (r : Served). r .replies)
     (pieces-served s v pieces (whole m ∷ whole q ∷ []) enough (λ n. le-refl 64, (λ n. le-refl 64, tt)) (rw append-nil e)
-    ∙ two-served s m q v one two)
+    ∙ two-served s (settingsAfter s (messageOf m)) m q v (message-fed m one s (set-low kind) h s 64 v room .1)
+    (took m one s (set-low kind) h) long-m (took q two s (request-low asked) answered) long-q)
     ∙ ap (noting (noting [] (feedingOf (resting s) m 64 .bytes))) (shown .1 .1)
     ∙ ap (λ (reply : List ℕ). noting (noting [] reply) (showing (messageOf q) (valueSet s (messageOf m)))) (shown .0 .1)

@@ -15,7 +15,7 @@ use Rattle.wishes.specs.Wishes.{granted, notNow}
 use Rattle.wishes.specs.Writing.{writeCode, bytesWritten}
 use Rattle.replies.specs.Reading.{readCode, told, toldOf}
 use Rattle.replies.specs.Saying.{saidBy}
-use Rattle.demands.specs.Shown.{resting}
+use Rattle.demands.specs.Shown.{resting, hasRoom}
 
 -- A wish and the bytes of its message, fed to a valid box between messages: the box does what the wish means (`granted`),
 -- unless it is running and the wish has to wait (17, NAK); and what it writes is read back as what it then says, NAK as NAK
@@ -25,13 +25,12 @@ pub record Understands (w : Wish) (message : List ℕ) (s : Settings) (room : �
   pub does : feedingOf (resting s) message room .fed .station ≡ resting (pick (notNow w s) s (granted w s))
   pub says : toldOf w (feedingOf (resting s) message room .bytes) ≡ told (saidBy w s)
 
--- every wish that the writer accepts, and what it writes, whatever the buffer; the call has room for its reply (else it is 20,
--- and nothing has happened)
+-- every wish that the writer accepts, and what it writes, whatever the buffer
 abbrev pub WhatIsAskedIsUnderstood : Type 0
 WhatIsAskedIsUnderstood =
     (w : Wish) (buffer : ℕ) → writeCode w buffer ≡ Code.done
     → (s : Settings) → inRange s ≡ true
-    → (room : ℕ) → (feedingOf (resting s) (bytesWritten w buffer) room .fed .code ≡ Code.noRoom → ⊥)
+    → (room : ℕ) → hasRoom (feedingOf (resting s) (bytesWritten w buffer) room)
     → Understands w (bytesWritten w buffer) s room
 
 -- some valid box between messages, fed this message, writes these bytes

@@ -1,11 +1,14 @@
 -- "Each code is given exactly on its condition, earlier ones absent."
-use Prim.Native.Nat.{ℕ}
+use Prim.Native.Nat.{ℕ, _≤_, _<_}
 use mathlib.Core.Path.{_≡_}
 use mathlib.Core.Bool.{true, false}
-use mathlib.Core.List.{List, [], _∷_, _++_}
-use mathlib.Core.Logic.{_↔_}
+use mathlib.Core.List.{List, _∷_, _++_}
+use mathlib.Core.Logic.{_⊎_, _↔_}
 use lib.IntN.{ℤ}
-use Rattle.wire.specs.Choice.{Check}
+use lib.ListN.{length}
+use Rattle.wire.specs.Choice.{Check, Absent}
+use Rattle.wire.specs.Codes as Code
+use Rattle.wire.specs.Number.{number, field}
 use Rattle.items.specs.declared.Settings.{Settings}
 use Rattle.items.specs.Answer.{Message, checks, codeOf}
 use Rattle.station.specs.declared.Station.{Station}
@@ -14,20 +17,28 @@ use Rattle.station.specs.Feeding.{feedChecks, feedingOf}
 use Rattle.cutting.specs.Cutting.{cutChecks, cutCode}
 use Rattle.reader.specs.declared.Reader.{Reader}
 use Rattle.reader.specs.Reading.{readChecks, readCode, unpackChecks, unpackCode}
+use Rattle.heads.specs.declared.Head.{Head}
+use Rattle.heads.specs.Head.{mark, version, headLength, allowed, headIn}
+use Rattle.heads.specs.Head.{writeChecks as headChecks, writeCode as headCode, readCode as headReadCode}
 use Rattle.wishes.specs.declared.Wish.{Wish}
 use Rattle.wishes.specs.Writing.{writeChecks, writeCode}
 use Rattle.replies.specs.Reading.{readChecks as replyChecks, readCode as replyCode}
-
--- no check of the list holds
-abbrev pub NoneHolds : List Check → Type 0
-NoneHolds [] = Unit {0}
-NoneHolds (c ∷ cs) = (c .holds ≡ false) × NoneHolds cs
 
 -- of each check of the list: its code is given exactly where it holds and none before it does
 abbrev pub EachExactly : List Check → ℕ → Type 0
 EachExactly cs given =
     (before : List Check) (c : Check) (after : List Check) → cs ≡ before ++ c ∷ after
-    → (given ≡ c .code) ↔ (NoneHolds before × (c .holds ≡ true))
+    → (given ≡ c .code) ↔ (Absent before × (c .holds ≡ true))
+
+-- Reading a head, whose list has 40 three times: "Under 14 bytes, wrong mark or a value not allowed is 40 (checked before 41, the
+-- version; with another version only mark and length are looked at)."
+pub record HeadExactly (s : List ℕ) : Type 0 where
+  pub notAHead :
+      (headReadCode s ≡ Code.notAHead)
+      ↔ ((length s < headLength) ⊎ (field 0 3 s ≡ number mark → ⊥) ⊎ ((field 3 2 s ≡ version) × (allowed (headIn s) ≡ false)))
+  pub otherVersion :
+      (headReadCode s ≡ Code.otherVersion)
+      ↔ ((headLength ≤ length s) × (field 0 3 s ≡ number mark) × (field 3 2 s ≡ version → ⊥))
 
 pub record GivenExactly : Type 0 where
   pub feeding : (s : Station) (host : List ℕ) (room : ℕ) → EachExactly (feedChecks s (taken (s .store) host) room) (feedingOf s host room .fed .code)
@@ -35,5 +46,7 @@ pub record GivenExactly : Type 0 where
   pub cutting : (s : Station) (samples : List ℤ) (room : ℕ) → EachExactly (cutChecks s samples room) (cutCode s samples room)
   pub reading : (r : Reader) (packet : List ℕ) → EachExactly (readChecks r packet) (readCode r packet)
   pub unpacking : (packet : List ℕ) (room : ℕ) → EachExactly (unpackChecks packet room) (unpackCode packet room)
+  pub headWritten : (h : Head) (room : ℕ) → EachExactly (headChecks h room) (headCode h room)
+  pub headRead : (s : List ℕ) → HeadExactly s
   pub wish : (w : Wish) (room : ℕ) → EachExactly (writeChecks w room) (writeCode w room)
   pub reply : (w : Wish) (bs : List ℕ) → EachExactly (replyChecks w bs) (replyCode w bs)

@@ -99,14 +99,13 @@ noneChanges asked s (m ∷ ms) = (changes asked s m ≡ false) × noneChanges as
 
 -- The same of a box that is fed.
 
--- the bytes of one message: as many as its header announces, and no more than the box keeps
+-- the bytes of one message: as many as its header announces
 pub record OneMessage (m : List ℕ) : Type 0 where
   pub areBytes : allBytes m
   pub announces : announced m ≡ length m
-  pub least : 2 ≤ length m
-  pub most : length m ≤ 64
 
--- the message that a box holds when it has taken them: "unused places are zero"
+-- the message that a box holds when it has taken them: "unused places are zero". (Of more than 64 bytes it would hold the first 64;
+-- but no set or request so long is accepted.)
 abbrev pub messageOf : List ℕ → Message
 messageOf m = record { type = typeIn (headerIn m); size = lengthIn (headerIn m); held = m ++ replicate (64 - length m) 0 }
 
@@ -114,16 +113,21 @@ messageOf m = record { type = typeIn (headerIn m); size = lengthIn (headerIn m);
 abbrev pub resting : Settings → Station
 resting s = record { settings = s; store = between }
 
+-- the call has room for what it writes (else it is 20, and nothing has happened)
+abbrev pub hasRoom : Feeding → Type 0
+hasRoom f = f .fed .code ≡ Code.noRoom → ⊥
+
 -- a call is done, and wrote this reply
 abbrev pub repliesWith : Feeding → List ℕ → Type 0
 repliesWith f reply = (f .fed .code ≡ Code.done) × (f .bytes ≡ reply)
 
 -- Demand 2 of a way to feed a box, whichever it is: a whole set that is to be accepted is fed in one call, and a whole
--- request of the same item in the next. Both replies show the value set.
+-- request of the same item in the next, both with room for what the box writes. Both replies show the value set.
 abbrev pub ShowsSets : (Station → List ℕ → ℕ → Feeding) → Type 0
 ShowsSets feed =
     (s : Settings) (m : List ℕ) (room : ℕ) (q : List ℕ) (later : ℕ)
-    → valid (resting s) ≡ true → 64 ≤ room → 64 ≤ later
+    → valid (resting s) ≡ true
+    → hasRoom (feedingOf (resting s) m room) → hasRoom (feedingOf (feedingOf (resting s) m room .fed .station) q later)
     → OneMessage m → messageOf m .type ≡ typeSet → codeOf s (messageOf m) ≡ Code.done
     → OneMessage q → messageOf q .type ≡ typeRequest → itemIn (messageOf q) ≡ itemIn (messageOf m) → codeOf s (messageOf q) ≡ Code.done
     → repliesWith (feed (resting s) m room) (showing (messageOf m) (valueSet s (messageOf m)))
@@ -170,18 +174,19 @@ pub data Undisturbed (asked : ℕ) : Station → Station → Type 0 where
 abbrev pub FedSetShowsLater : Type 0
 FedSetShowsLater =
     (s : Settings) (m : List ℕ) (room : ℕ) (t : Settings) (q : List ℕ) (later : ℕ)
-    → valid (resting s) ≡ true → 64 ≤ room → 64 ≤ later
+    → valid (resting s) ≡ true → hasRoom (feedingOf (resting s) m room) → hasRoom (feedingOf (resting t) q later)
     → OneMessage m → messageOf m .type ≡ typeSet → codeOf s (messageOf m) ≡ Code.done
     → Undisturbed (itemIn (messageOf m)) (feedingOf (resting s) m room .fed .station) (resting t)
     → OneMessage q → messageOf q .type ≡ typeRequest → itemIn (messageOf q) ≡ itemIn (messageOf m) → codeOf s (messageOf q) ≡ Code.done
     → repliesWith (feedingOf (resting t) q later) (showing (messageOf q) (valueSet s (messageOf m)))
 
--- And other items are unchanged: after any calls, none of which changes what it shows, a whole request is answered as before.
+-- And other items are unchanged: after any calls, none of which changes what it shows, a request is answered as before,
+-- accepted or not and whatever its bytes are.
 abbrev pub FedSameAnswer : Type 0
 FedSameAnswer =
     (s t : Settings) (q : List ℕ) (room later : ℕ)
-    → valid (resting s) ≡ true → 64 ≤ room → 64 ≤ later
-    → OneMessage q → messageOf q .type ≡ typeRequest → Undisturbed (itemIn (messageOf q)) (resting s) (resting t)
+    → valid (resting s) ≡ true → hasRoom (feedingOf (resting s) q room) → hasRoom (feedingOf (resting t) q later)
+    → finishedBy (resting s) q .type ≡ typeRequest → Undisturbed (itemIn (finishedBy (resting s) q)) (resting s) (resting t)
     → feedingOf (resting t) q later .bytes ≡ feedingOf (resting s) q room .bytes
 
 -- What a set changes of another item: after a whole set of the state that is accepted, and any calls of which none changes what the
@@ -189,7 +194,7 @@ FedSameAnswer =
 abbrev pub FedStateShowsInStatus : Type 0
 FedStateShowsInStatus =
     (s : Settings) (m : List ℕ) (room : ℕ) (t : Settings) (q : List ℕ) (later : ℕ)
-    → valid (resting s) ≡ true → 64 ≤ room → 64 ≤ later
+    → valid (resting s) ≡ true → hasRoom (feedingOf (resting s) m room) → hasRoom (feedingOf (resting t) q later)
     → OneMessage m → messageOf m .type ≡ typeSet → itemIn (messageOf m) ≡ state .code → codeOf s (messageOf m) ≡ Code.done
     → Undisturbed (status .code) (feedingOf (resting s) m room .fed .station) (resting t)
     → OneMessage q → messageOf q .type ≡ typeRequest → itemIn (messageOf q) ≡ status .code → codeOf s (messageOf q) ≡ Code.done

@@ -5,6 +5,7 @@ use mathlib.Core.List.{List, [], _∷_, _++_}
 use lib.Dec.{eqb, ltb}
 use lib.ListN.{length}
 use Rattle.wire.specs.Choice.{pick, Check, check, firstOf}
+use Rattle.wire.specs.Codes.{othersWrite}
 use Rattle.wire.specs.Codes as Code
 use Rattle.wire.specs.Number.{number, bytes, field}
 use Rattle.rates.specs.Rate.{isD}
@@ -57,9 +58,9 @@ writtenCode Whole = Code.done
 writtenCode NotAllowed = Code.valueNotAllowed
 writtenCode NoRoom = Code.noRoom
 
--- what is written at the start of the lent slice
+-- what is written at the start of the lent slice: of the head, what the table of codes has beside the code
 abbrev pub writtenBytes : Head → ℕ → List ℕ
-writtenBytes h room = pick (eqb (writeCode h room) Code.done) (headBytes h) []
+writtenBytes h room = othersWrite (writeCode h room) (headBytes h)
 
 -- "reads it from the first 14 bytes given. Under 14 bytes, wrong mark or a value not allowed is 40 (checked before 41, the
 -- version; with another version only mark and length are looked at)."

@@ -2,19 +2,20 @@
 use Prim.Native.Nat.{ℕ}
 use mathlib.Core.Path.{_≡_, refl, _∙_}
 use mathlib.Core.Bool.{true, false, _&&_}
-use mathlib.Core.List.{List, _++_}
+use mathlib.Core.List.{List, [], _++_}
 use lib.ListN.{getD}
 use borrow.Author.Tests.{ne-eqb, eqb-true, not-false}
 use lib.Dec.{eqb}
-use Rattle.wire.specs.Header.{typeSet}
+use Rattle.wire.specs.Codes.{boxWrites}
+use Rattle.wire.specs.Header.{nak, typeSet}
 use Rattle.wire.proofs.Laws.{and-left, and-right, pick-keeps}
-use Rattle.wire.specs.Choice.{Check, firstOf}
-use Rattle.wire.proofs.Checks.{Absent, absent, first-stops, first-goes-on}
+use Rattle.wire.specs.Choice.{pick, Check, firstOf, Absent}
+use Rattle.wire.proofs.Checks.{absent, first-stops, first-goes-on, given-has}
 use Rattle.items.specs.declared.Settings.{Settings}
 use Rattle.items.specs.Items.{listed}
 use Rattle.items.specs.Header.{headerChecks}
 use Rattle.items.specs.Table.{offered, isTotal, tableChecks}
-use Rattle.items.specs.Answer.{Message, itemIn, row, parameters, valueAllowed, refusedRunning, itemChecks, itemCode, checks, codeOf, settingsAfter, judgedOf}
+use Rattle.items.specs.Answer.{Message, itemIn, row, parameters, valueAllowed, refusedRunning, itemChecks, itemCode, checks, codeOf, settingsAfter, judgedOf, replyDue, replyOf}
 use Rattle.items.proofs.Rows.{row-code}
 
 -- an accepted message passed every check
@@ -73,6 +74,14 @@ module _ (s : Settings) (m : Message) where
   pub refused : (code : ℕ) → (code ≡ 1 → ⊥) → codeOf s m ≡ code → record { code = code; settings = s } ≡ judgedOf s m
   unfolding settingsAfter
   refused code h e = rw (e, ne-eqb code 1 h) refl
+
+-- What the table of codes has beside the codes that a message can have: the reply beside 1, nothing beside 2, and beside a
+-- refusal NAK.
+pub reply-by-code : (s : Settings) (m : Message) → replyOf s m ≡ pick (eqb (codeOf s m) 1) (replyDue s m) (pick (eqb (codeOf s m) 2) [] nak)
+unfolding codeOf replyOf
+reply-by-code s m =
+    given-has (λ (code : ℕ). boxWrites code (replyDue s m) ≡ pick (eqb code 1) (replyDue s m) (pick (eqb code 2) [] nak)) (checks s m) 1
+    (refl, (refl, (refl, (refl, (refl, (refl, (refl, (refl, (refl, tt))))))))) refl
 
 -- the two ways that a message goes: an accepted set stores, and everything else leaves every setting
 pub after-ways : (P : Settings → Type 0) (s : Settings) (m : Message)

@@ -8,13 +8,14 @@ use native.Mathlib.Omega.{arith}
 use lib.Dec.{eqb}
 use lib.ListN.{length, take}
 use Rattle.wire.specs.Choice.{pick, Check, firstOf}
-use Rattle.wire.specs.Header.{nak, typeSet}
+use Rattle.wire.specs.Codes.{boxWrites}
+use Rattle.wire.specs.Header.{typeSet}
 use Rattle.wire.specs.Number.{number}
 use Rattle.items.specs.declared.Settings.{Settings}
 use Rattle.items.specs.Items.{Item, noItem, rowOf}
 use Rattle.items.specs.Header.{headerChecks}
 use Rattle.items.specs.Table.{tableChecks}
-use Rattle.items.specs.Answer.{Message, itemChecks, replyTo, codeOf, settingsAfter, replyOf}
+use Rattle.items.specs.Answer.{Message, itemChecks, replyTo, codeOf, settingsAfter, replyDue, replyOf}
 use Rattle.items.proofs.Rows.{_then_, found}
 
 -- an item makes the same of two lists of parameters
@@ -87,9 +88,9 @@ module _ (s : Settings) (type size a b c d : ℕ) (p : List ℕ) (long : 6 ≤ l
   same-reply : replyOf s short ≡ replyOf s full
   unfolding replyOf
   same-reply =
-      ap (λ (k : ℕ). pick (eqb k 1) (replyTo (rowOf item) type (settingsAfter s short) (take 6 p)) (pick (eqb k 2) [] nak)) same-code
-      ∙ ap (λ (t : Settings). pick (eqb (codeOf s full) 1) (replyTo (rowOf item) type t (take 6 p)) (pick (eqb (codeOf s full) 2) [] nak)) same-after
-      ∙ ap (λ (r : List ℕ). pick (eqb (codeOf s full) 1) r (pick (eqb (codeOf s full) 2) [] nak)) (same .replied type (settingsAfter s full))
+      ap (λ (k : ℕ). boxWrites k (replyDue s short)) same-code
+      ∙ ap (λ (t : Settings). boxWrites (codeOf s full) (replyTo (rowOf item) type t (take 6 p))) same-after
+      ∙ ap (boxWrites (codeOf s full)) (same .replied type (settingsAfter s full))
 
 pub ten-decide : (s : Settings) (type size : ℕ) (held : List ℕ) → 10 ≤ length held
     → Same s (heldMessage type size (take 10 held)) (heldMessage type size held)

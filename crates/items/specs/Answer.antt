@@ -5,9 +5,10 @@ use mathlib.Core.List.{List, [], _∷_, _++_}
 use lib.Dec.{eqb}
 use lib.ListN.{length, getD, take, drop}
 use Rattle.wire.specs.Choice.{pick, Check, check, firstOf, oneOf}
+use Rattle.wire.specs.Codes.{boxWrites}
 use Rattle.wire.specs.Codes as Code
 use Rattle.wire.specs.Number.{bytes, field}
-use Rattle.wire.specs.Header.{headerOf, nak, typeSet, typeRange, typeReply, typeRangeReply}
+use Rattle.wire.specs.Header.{headerOf, typeSet, typeRange, typeReply, typeRangeReply}
 use Rattle.tuning.specs.Bands.{bands, rangeBytes}
 use Rattle.items.specs.declared.Settings.{Settings}
 use Rattle.items.specs.declared.Judged.{Judged}
@@ -94,8 +95,10 @@ framed type body = bytes 2 (headerOf type (2 + length body)) ++ body
 abbrev pub replyTo : Item → ℕ → Settings → List ℕ → List ℕ
 replyTo i kind s p = pick (eqb kind typeRange) (framed typeRangeReply (rangeBody i p)) (framed typeReply (replyBody i s p))
 
--- what is written for a code: the reply for 1, nothing for 2, NAK for a refusal
+-- the reply to the message where it is obeyed
+abbrev pub replyDue : Settings → Message → List ℕ
+replyDue s m = replyTo (row m) (m .type) (settingsAfter s m) (parameters m)
+
+-- what the box writes: what the table of "What comes back" has beside the message's code
 unfoldable pub replyOf : Settings → Message → List ℕ
-replyOf s m =
-    pick (eqb (codeOf s m) Code.done) (replyTo (row m) (m .type) (settingsAfter s m) (parameters m))
-    (pick (eqb (codeOf s m) Code.noReplyDue) [] nak)
+replyOf s m = boxWrites (codeOf s m) (replyDue s m)

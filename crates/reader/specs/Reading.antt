@@ -6,6 +6,7 @@ use lib.Dec.{eqb, leb, ltb}
 use lib.IntN.{ℤ}
 use lib.ListN.{drop}
 use Rattle.wire.specs.Choice.{pick, Check, check, firstOf}
+use Rattle.wire.specs.Codes.{othersWrite}
 use Rattle.wire.specs.Codes as Code
 use Rattle.packets.specs.declared.Form.{Form}
 use Rattle.packets.specs.Forms.{noForm, sameForm, listed, wholeOf, isPacket}
@@ -78,7 +79,7 @@ unfoldable pub unpackingOf : List ℕ → ℕ → Unpacked
 unpackingOf packet room =
     record { code = unpackCode packet room; count = pick (eqb (unpackCode packet room) Code.done) (countIn packet) 0 }
 
--- the numbers that unpacking writes at the start of the lent slice
+-- the numbers that unpacking writes at the start of the lent slice: of the packet's, what the table of codes has beside the code
 unfoldable pub unpackedOf : List ℕ → ℕ → List ℤ
 unpackedOf packet room =
-    pick (eqb (unpackCode packet room) Code.done) (samplesFrom (wholeOf packet .bits) (drop 4 packet) 0 (countIn packet)) []
+    othersWrite (unpackCode packet room) (samplesFrom (wholeOf packet .bits) (drop 4 packet) 0 (countIn packet))

@@ -13,7 +13,8 @@ use Rattle.wire.specs.Header.{nak, typeRange, typeReply, typeRangeReply}
 use Rattle.items.specs.declared.Settings.{Settings}
 use Rattle.items.specs.Settings.{inRange}
 use Rattle.items.specs.Items.{echoes, Item, items, rowOf, versionTable}
-use Rattle.items.specs.Answer.{Message, itemIn, codeOf, settingsAfter, row, parameters, replyBody, rangeBody, framed, replyTo, replyOf}
+use Rattle.items.specs.Answer.{Message, itemIn, codeOf, settingsAfter, row, parameters, replyBody, rangeBody, framed, replyTo, replyDue, replyOf}
+use Rattle.items.proofs.Judging.{reply-by-code}
 use Rattle.items.proofs.Rows.{allHave, _then_, found}
 use Rattle.station.proofs.Kept.{serial-long, message-keeps}
 
@@ -60,10 +61,9 @@ reply-small i kind s p h l = go (eqb kind typeRange)
     go false = simp length-append (omega (arith, echo-small (echoes (i .echoed)) p (h .0), h .1 s p l))
 
 pub reply-short : (s : Settings) (m : Message) → inRange s ≡ true → length (replyOf s m) ≤ 64
-unfolding replyOf
-reply-short s m h = go (eqb (codeOf s m) 1) (eqb (codeOf s m) 2)
+reply-short s m h = rw (reply-by-code s m) (go (eqb (codeOf s m) 1) (eqb (codeOf s m) 2))
   where
-    go : (a b : Bool) → length (pick a (replyTo (row m) (m .type) (settingsAfter s m) (parameters m)) (pick b [] nak)) ≤ 64
+    go : (a b : Bool) → length (pick a (replyDue s m) (pick b [] nak)) ≤ 64
     go true b =
         reply-small (row m) (m .type) (settingsAfter s m) (parameters m) (row-small (itemIn m))
         (serial-long (settingsAfter s m) (message-keeps s m h))

@@ -6,13 +6,8 @@ use mathlib.Core.Bool.{Bool, true, false, _&&_, not}
 use mathlib.Core.List.{List, [], _∷_, _++_}
 use borrow.Author.Tests.{eqb-false, ltb-true, not-true}
 use lib.Dec.{eqb, ltb}
-use Rattle.wire.specs.Choice.{pick, Check, firstOf}
+use Rattle.wire.specs.Choice.{pick, Check, firstOf, Absent}
 use Rattle.wire.proofs.Laws.{and-left, and-right, pick-keeps}
-
--- no check of the list holds
-abbrev pub Absent : List Check → Type 0
-Absent [] = Unit {0}
-Absent (c ∷ cs) = (c .holds ≡ false) × Absent cs
 
 -- no check of the list has this code: of codes written as numbers it computes
 abbrev pub differ : ℕ → List Check → Bool

@@ -5,6 +5,5 @@ pub mod Headers
 pub mod Signed
 pub mod Checks
 pub mod Halves
-pub mod Writes
 pub mod Firm
 pub mod Lists

@@ -1,5 +1,6 @@
 -- How document 01's tables become decisions: a test picks, and of a list of checks the first that holds gives the code.
 use Prim.Native.Nat.{ℕ}
+use mathlib.Core.Path.{_≡_}
 use mathlib.Core.Bool.{Bool, true, false, _||_, _&&_}
 use mathlib.Core.List.{List, [], _∷_}
 use lib.Dec.{eqb, leb}
@@ -21,6 +22,11 @@ check c b = record { code = c; holds = b }
 abbrev pub firstOf : List Check → ℕ → ℕ
 firstOf [] otherwise = otherwise
 firstOf (c ∷ cs) otherwise = pick (c .holds) (c .code) (firstOf cs otherwise)
+
+-- no check of the list holds: "earlier ones absent"
+abbrev pub Absent : List Check → Type 0
+Absent [] = Unit {0}
+Absent (c ∷ cs) = (c .holds ≡ false) × Absent cs
 
 -- what is given for the first row of a table for which the test holds, or `otherwise` where there is none
 abbrev pub firstRow {ℓ} : {A : Type 0} {X : Type ℓ} → (A → Bool) → (A → X) → X → List A → X

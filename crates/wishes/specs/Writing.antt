@@ -2,9 +2,10 @@
 use Prim.Native.Nat.{ℕ}
 use mathlib.Core.Bool.{not}
 use mathlib.Core.List.{List, [], _∷_}
-use lib.Dec.{eqb, ltb}
+use lib.Dec.{ltb}
 use lib.ListN.{length}
-use Rattle.wire.specs.Choice.{pick, Check, check, firstOf}
+use Rattle.wire.specs.Choice.{Check, check, firstOf}
+use Rattle.wire.specs.Codes.{othersWrite}
 use Rattle.wire.specs.Codes as Code
 use Rattle.wishes.specs.declared.Wish.{Wish}
 use Rattle.wishes.specs.declared.Written.{Written}
@@ -18,9 +19,9 @@ writeChecks w room = check Code.valueNotAllowed (not (allowed w)) ∷ check Code
 unfoldable pub writeCode : Wish → ℕ → ℕ
 writeCode w room = firstOf (writeChecks w room) Code.done
 
--- what is written at the start of a buffer of so many bytes: the message, or nothing where it refuses
+-- what is written at the start of a buffer of so many bytes: of the message, what the table of codes has beside the code
 unfoldable pub bytesWritten : Wish → ℕ → List ℕ
-bytesWritten w room = pick (eqb (writeCode w room) Code.done) (messageOf w) []
+bytesWritten w room = othersWrite (writeCode w room) (messageOf w)
 
 -- An answer in document 01's terms: its code, and how many bytes were written.
 pub record Told : Type 0 where
