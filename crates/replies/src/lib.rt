@@ -115,7 +115,7 @@ fn is_nak(bytes: &[u8]) -> bool
 pub fn read(w: Wish, bytes: &[u8]) -> Reply
     ensures { λ r. ⌜ told r ≡ toldOf w (now (bytes .entry)) ⌝ }
 {
-    if !wishes::allows(w) {
+    if !wishes::is_allowed(w) {
         return Reply::NotAllowed;
     }
     if is_nak(bytes) {

@@ -139,7 +139,7 @@ fn may_state(fields: StateFields) -> bool
 }
 
 // The box would not refuse the wish's value with 16.
-pub fn allows(w: Wish) -> bool
+pub fn is_allowed(w: Wish) -> bool
     ensures { λ r. ⌜ r ≡ allowed w ⌝ }
 {
     match w {
@@ -160,7 +160,7 @@ pub fn write(w: Wish, buffer: &mut [u8]) -> Written
         ⌜ (told r ≡ toldOf w (length (now (buffer .entry))))
         × (now (buffer .exit) ≡ sets (now (buffer .entry)) 0 (bytesWritten w (length (now (buffer .entry))))) ⌝ }
 {
-    if !allows(w) {
+    if !is_allowed(w) {
         return Written::NotAllowed;
     }
     if buffer.len() < 16 {
