@@ -1,20 +1,15 @@
 -- What is due is written whole where there is room, and not at all where there is none.
 use Prim.Native.Nat.{ℕ, _≤_, _<_}
 use mathlib.Core.Path.{_≡_, refl, sym, ap, subst, _∙_}
-use mathlib.Core.List.{List, [], _∷_}
+use mathlib.Core.List.{List, []}
 use lib.Dec.{ltb}
-use lib.ListN.{length, set}
+use lib.ListN.{length}
 use lib.Seq.{sets}
 use borrow.Author.Tests.{le-ltb, lt-ltb}
 use Rattle.wire.specs.Choice.{pick}
-use Rattle.wire.specs.Number.{bytes}
-use Rattle.wire.specs.Header.{headerOf, typeRangeReply}
-use Rattle.tuning.specs.Bands.{bands, rangeBytes}
 use Rattle.layouts.specs.declared.Layout.{Layout}
 use Rattle.layouts.specs.Layouts.{sizeOf, laid}
 use Rattle.layouts.proofs.Sizes.{length-laid}
-use Rattle.items.specs.Items.{Item}
-use Rattle.items.specs.Answer.{framed, rangeBody}
 use Rattle.answers.specs.Inside.{countIn, bytesIn}
 
 module _ (l due : List ℕ) where
@@ -44,9 +39,3 @@ module _ (l due : List ℕ) where
 -- the same said of what is due in other words
 pub wrote-as : (l : List ℕ) {due also : List ℕ} {r : ℕ} {k : List ℕ} → also ≡ due → Wrote l also r k → Wrote l due r k
 wrote-as l {due} {also} {r} {k} is w = subst (λ (d : List ℕ). Wrote l d r k) is w
-
--- the parts of a range reply, each where the one before ends
-pub range-put : (i : Item) (l l₁ l₂ l₃ : List ℕ) (item header channel : ℕ) → i .code ≡ item → header ≡ headerOf typeRangeReply 36
-    → l₁ ≡ sets l 0 (bytes 2 header) → l₂ ≡ sets l₁ 2 (bytes 2 item) → l₃ ≡ sets (set (set l₂ 4 channel) 5 0x02) 6 (rangeBytes bands)
-    → l₃ ≡ sets l 0 (framed typeRangeReply (rangeBody i (channel ∷ [])))
-range-put i l l₁ l₂ l₃ item header channel code head first second third = third ∙ rw (second, first, head, code) refl

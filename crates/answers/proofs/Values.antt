@@ -12,21 +12,16 @@ use Rattle.wire.specs.Header.{typeReply}
 use Rattle.wire.proofs.Numbers.{bytes-number}
 use Rattle.layouts.specs.Layouts.{laid}
 use Rattle.items.specs.Settings.{freshOf}
-use Rattle.items.specs.Items.{versionTable, isVersion, versions}
+use Rattle.items.specs.Items.{versionTable, isVersion, versions, stateBytes}
 use Rattle.items.proofs.Versions.{version-has, no-version-has}
 use Rattle.items.specs.Answer.{framed, replyBody}
 use Rattle.answers.specs.Inside.{echoing}
 
 -- 80, run byte, mode, 00
-pub state-bytes : (mode run : ℕ) → mode < 256 → run < 256
-    → bytes 4 (mode * 65536 + (run * 256 + 128)) ≡ 0x80 ∷ run ∷ mode ∷ 0x00 ∷ []
-state-bytes mode run m r =
-    ap (bytes 4) whole ∙ bytes-number (0x80 ∷ run ∷ mode ∷ 0x00 ∷ []) small
+pub state-bytes : (run mode n : ℕ) → run < 256 → mode < 256 → n ≡ number (stateBytes run mode) → bytes 4 n ≡ stateBytes run mode
+state-bytes run mode n r m is = ap (bytes 4) is ∙ bytes-number (stateBytes run mode) small
   where
-    whole : mode * 65536 + (run * 256 + 128) ≡ number (0x80 ∷ run ∷ mode ∷ 0x00 ∷ [])
-    whole = omega arith
-
-    small : (k : ℕ) → getD (0x80 ∷ run ∷ mode ∷ 0x00 ∷ []) k 0 < 256
+    small : (k : ℕ) → getD (stateBytes run mode) k 0 < 256
     small zero = lit< tt
     small (suc zero) = r
     small (suc (suc zero)) = m

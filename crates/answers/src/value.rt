@@ -6,7 +6,7 @@ ghost use Rattle.wire.specs.Choice.{pick};
 ghost use Rattle.wire.specs.Number.{bytes};
 ghost use Rattle.wire.specs.Header.{typeReply};
 ghost use Rattle.layouts.specs.Layouts.{laid};
-ghost use Rattle.items.specs.Items.{statusByte, versions, rowOf};
+ghost use Rattle.items.specs.Items.{statusByte, versions, idle, run, stateBytes, rowOf};
 ghost use Rattle.items.specs.Settings.{freshOf};
 ghost use Rattle.items.specs.Answer.{framed, replyBody};
 ghost use Rattle.answers.specs.Inside.{plainly, echoing};
@@ -90,13 +90,12 @@ fn status_value(running: bool) -> u64
 
 // "Replies hold 80, run byte, mode, 00 (house)."
 fn state_value(running: bool, mode: u8) -> u64
-    ensures { λ r. ⌜ bytes 4 r ≡ 0x80 ∷ pick running 2 1 ∷ mode ∷ 0x00 ∷ [] ⌝ }
+    ensures { λ r. ⌜ bytes 4 r ≡ stateBytes (pick running run idle) mode ⌝ }
 {
-    let high = mode as u64 * 0x1_0000;
     if running {
-        return high + 0x0280;
+        return values::state_number(values::RUN, mode);
     }
-    high + 0x0180
+    values::state_number(values::IDLE, mode)
 }
 
 // "eight characters and a zero byte"

@@ -149,14 +149,14 @@ fn shown_by(reply: Reply) -> Shown
     match reply {
         Reply::Nak => saying(0, 0, 0, 0),
         // the seven bytes of "NetSDR" and its zero
-        Reply::Name => saying(table::NAME, 7, 0x4E, 0x65),
+        Reply::Name => saying(table::NAME, 7, values::NAME % 256, values::NAME / 256 % 256),
         Reply::Serial(n) => saying(table::SERIAL, 1, n, 0),
         Reply::Interface(n) => saying(table::INTERFACE, 1, n as u64, 0),
         Reply::Version(id, n) => saying(table::VERSIONS, 2, id as u64, n as u64),
         Reply::Status(running) => saying(table::STATUS, 1, status_byte(running), 0),
         Reply::State(fields) => saying(table::STATE, 2, fields.run as u64, fields.mode as u64),
         Reply::Frequency(hz) => saying(table::FREQUENCY, 1, hz, 0),
-        // minimum, maximum and oscillator of each band
+        // minimum, maximum and oscillator of each band; the first two are those of the first band, which tuning keeps to itself
         Reply::FrequencyRange => saying(table::FREQUENCY, 6, 100_000, 34_000_000),
         Reply::Gain(g) => Shown {
             code: codes::DONE,

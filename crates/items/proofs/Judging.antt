@@ -1,22 +1,31 @@
 -- How the codes of a message's header, of the table and of the item make the message's code.
 use Prim.Native.Nat.{ℕ}
-use mathlib.Core.Path.{_≡_, refl, _∙_}
+use mathlib.Core.Path.{_≡_, refl, sym, _∙_}
 use mathlib.Core.Bool.{true, false, _&&_}
 use mathlib.Core.List.{List, [], _++_}
 use lib.ListN.{getD}
 use borrow.Author.Tests.{ne-eqb, eqb-true, not-false}
 use lib.Dec.{eqb}
 use Rattle.wire.specs.Codes.{boxWrites}
-use Rattle.wire.specs.Header.{nak, typeSet}
-use Rattle.wire.proofs.Laws.{and-left, and-right, pick-keeps}
+use Rattle.wire.specs.Header.{nak, typeSet, typeRange}
+use Rattle.wire.proofs.Laws.{true-not-false, and-left, and-right, pick-keeps}
 use Rattle.wire.specs.Choice.{pick, Check, firstOf, Absent}
 use Rattle.wire.proofs.Checks.{absent, first-stops, first-goes-on, given-has}
 use Rattle.items.specs.declared.Settings.{Settings}
-use Rattle.items.specs.Items.{listed}
+use Rattle.items.specs.Items.{Item, rowOf, frequency, listed}
 use Rattle.items.specs.Header.{headerChecks}
 use Rattle.items.specs.Table.{offered, isTotal, tableChecks}
 use Rattle.items.specs.Answer.{Message, itemIn, row, parameters, valueAllowed, refusedRunning, itemChecks, itemCode, checks, codeOf, settingsAfter, judgedOf, replyDue, replyOf}
-use Rattle.items.proofs.Rows.{row-code}
+use Rattle.items.proofs.Rows.{_then_, found, row-code}
+
+-- "the only range request" is that of the frequency
+only-range : (size code : ℕ) → isTotal (rowOf code .range) size ≡ true → rowOf code ≡ frequency
+only-range size =
+    found (λ i. isTotal (i .range) size ≡ true → i ≡ frequency) no
+    (no then no then no then no then no then no then (λ e. refl) then no then no then no then no then tt)
+  where
+    no : {i : Item} → false ≡ true → i ≡ frequency
+    no e = absurd (true-not-false (sym e))
 
 -- an accepted message passed every check
 pub passed : (s : Settings) (m : Message) → codeOf s m ≡ 1 → Absent (checks s m)
@@ -40,6 +49,10 @@ module _ (s : Settings) (m : Message) (h : codeOf s m ≡ 1) where
   -- its row has its code
   pub accepted-row : row m .code ≡ itemIn m
   accepted-row = row-code (itemIn m) is-listed
+
+  -- and a range request is the frequency's
+  pub range-row : m .type ≡ typeRange → row m ≡ frequency
+  range-row is = only-range (m .size) (itemIn m) (rw is at has-length)
 
 module _ (s : Settings) (m : Message) where
   abbrev Header : List Check

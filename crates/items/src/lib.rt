@@ -1,10 +1,12 @@
 // Items of document 01: the settings of a box, the table of items, and what a header alone decides.
 
 pub mod header; // header.rt: what the header of a message decides
+mod range_reply; // range_reply.rt: the range reply
 pub mod ranges; // ranges.rt: a fresh box, and which settings are within their ranges
 pub mod table; // table.rt: the table's lengths
 pub mod values; // values.rt: the values that the table gives
 
+pub use range_reply::put_range_reply;
 pub use ranges::fresh;
 pub use ranges::in_range;
 

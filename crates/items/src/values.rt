@@ -4,10 +4,10 @@ ghost use mathlib.Core.Path.{_≡_};
 ghost use mathlib.Core.List.{[]};
 ghost use lib.ListN.{getD};
 ghost use Rattle.wire.specs.Number.{number};
-ghost use Rattle.items.specs.Items.{versionTable, isVersion};
+ghost use Rattle.items.specs.Items.{versionTable, isVersion, stateBytes};
 
 // 0001: "NetSDR" and a zero byte.
-pub const NAME: u64 = 0x0052_4453_7465_4E;
+pub const NAME: u64 = 0x00_52_44_53_74_65_4E;
 
 // 0003: 105 in 16 bits.
 pub const INTERFACE: u64 = 105;
@@ -23,6 +23,13 @@ pub const COMPLEX: u8 = 0x80;
 pub const IDLE: u8 = 1;
 
 pub const RUN: u8 = 2;
+
+// 0018: "80 for complex data, run byte, capture mode, 00", as one number.
+pub fn state_number(run: u8, mode: u8) -> u64
+    ensures { λ r. ⌜ r ≡ number (stateBytes run mode) ⌝ }
+{
+    (mode as u64) << 16 | (run as u64) << 8 | COMPLEX as u64
+}
 
 // 0004: "id, then two bytes: 0: 64 00, 1: 6B 00, 2: 66 00, 3: 01 07 (house)". Another id has none.
 pub fn version_of(id: u8) -> u64

@@ -127,7 +127,7 @@ fn pace(s: Station) -> Station {
     let a = ask(s, b"SetClock", Wish::SetClock(80_000_100));
     let b = ask(a, b"AskClock", Wish::AskClock);
     let c = ask(b, b"SetRate", Wish::SetRate(1_907_000));
-    let d = ask(c, b"SetPacketSize", Wish::SetPacketSize(1));
+    let d = ask(c, b"SetPacketSize", Wish::SetPacketSize(packets::SMALL));
     ask(d, b"AskPacketSize", Wish::AskPacketSize)
 }
 

@@ -8,10 +8,10 @@ use station::Station;
 
 // The four packet forms, six packets each.
 fn four_forms(s: Station) -> Station {
-    let first = capturing::capture(s, 0x80, 0, 6);
-    let second = capturing::capture(first, 0x80, 1, 6);
-    let third = capturing::capture(second, 0x00, 0, 6);
-    capturing::capture(third, 0x00, 1, 6)
+    let first = capturing::capture(s, packets::MODE_24, packets::LARGE, 6);
+    let second = capturing::capture(first, packets::MODE_24, packets::SMALL, 6);
+    let third = capturing::capture(second, packets::MODE_16, packets::LARGE, 6);
+    capturing::capture(third, packets::MODE_16, packets::SMALL, 6)
 }
 
 fn main() {
@@ -19,5 +19,5 @@ fn main() {
     let tuned = asking::evening(began.station);
     let heard = four_forms(tuned);
     // "The packet at position 0 has number 0; at position p of 1 or more, ((p - 1) mod 65,535) + 1": past the number's turn.
-    capturing::capture(heard, 0x80, 1, 65540);
+    capturing::capture(heard, packets::MODE_24, packets::SMALL, 65540);
 }

@@ -41,7 +41,7 @@ pub fn put_message(dst: &mut [u8], a: Layout) -> usize
     if dst.len() < size {
         return 0;
     }
-    put_head(dst, wire::header_of(a.kind, size as u16), a.item);
+    put_header_and_item(dst, wire::header_of(a.kind, size as u16), a.item);
     let width = a.width as usize;
     if a.echoed {
         dst[4] = a.echo;
@@ -53,7 +53,7 @@ pub fn put_message(dst: &mut [u8], a: Layout) -> usize
 }
 
 // Header and item code, two bytes each.
-fn put_head(dst: &mut [u8], header: u16, item: u16)
+fn put_header_and_item(dst: &mut [u8], header: u16, item: u16)
     requires { ⌜ 4 ≤ length (now dst) ⌝ }
     ensures { λ r. ⌜ now (dst .exit) ≡ sets (now (dst .entry)) 0 (bytes 2 header ++ bytes 2 item) ⌝ }
 {

@@ -6,13 +6,13 @@ use mathlib.Core.List.{List, [], _∷_, _++_}
 use native.Mathlib.Nat.{lt-of-lt-of-le}
 use native.Mathlib.Omega.{arith}
 use lib.Dec.{eqb, ltb, lit<, lit≤}
-use lib.ListN.{length, getD, replicate}
+use lib.ListN.{length, getD, take, replicate}
 use lib.Seq.{sets}
 use borrow.Author.Tests.{eq-eqb, eqb-true, eqb-false, ltb-true}
 use Rattle.wire.specs.Choice.{pick}
 use Rattle.wire.specs.Number.{number, bytes}
 use Rattle.wire.specs.Signed.{coded}
-use Rattle.wire.specs.Header.{nak, headerOf}
+use Rattle.wire.specs.Header.{nak, typeRangeReply}
 use Rattle.wire.proofs.Laws.{true-not-false, and-left, and-right, within-high}
 use Rattle.rates.specs.Rate.{rateOf, nearestOf, mayAsk, isD}
 use Rattle.rates.specs.Table.{dOf}
@@ -21,7 +21,8 @@ use Rattle.tuning.specs.Bands.{bands, rangeBytes}
 use Rattle.layouts.specs.Layouts.{laid}
 use Rattle.layouts.proofs.Sizes.{least, length-laid}
 use Rattle.layouts.proofs.Values.{value-read}
-use Rattle.items.specs.Items.{nameBytes, versionTable, isVersion}
+use Rattle.items.specs.Items.{nameBytes, versionTable, isVersion, frequency}
+use Rattle.items.specs.Answer.{framed, rangeBody}
 use Rattle.wire.proofs.Signed.{coded-below}
 use Rattle.items.proofs.Versions.{version-has}
 use Rattle.items.specs.Settings.{allSerial}
@@ -102,11 +103,11 @@ is-reply-bytes w bs e =
 abbrev pub rangeNumber : ℕ
 rangeNumber = number (0x02 ∷ rangeBytes bands)
 
--- header, item code with channel and count, and both bands, each written where the one before ends
-pub range-written : (l₁ l₂ l₃ : List ℕ) (h : ℕ) → h ≡ headerOf 2 36 → l₁ ≡ sets (replicate 36 0) 0 (bytes 2 h) → l₂ ≡ sets l₁ 2 (bytes 4 0x0200_0020)
-    → l₃ ≡ sets l₂ 6 (rangeBytes bands) → l₃ ≡ replyBytes AskFrequencyRange rangeNumber
+-- it is the range reply to channel 00, written into as many bytes as it has
+pub range-written : (r : ℕ) (k : List ℕ) → r ≡ 36 → k ≡ sets (replicate 36 0) 0 (framed typeRangeReply (rangeBody frequency (0x00 ∷ [])))
+    → take r k ≡ replyBytes AskFrequencyRange rangeNumber
 unfolding replyBytes
-range-written l₁ l₂ l₃ h is first second third = rw (third, second, first, is)
+range-written r k whole written = rw (whole, written)
 
 -- one reply alone is accepted
 pub range-read : (bs l : List ℕ) (t : Bool) → l ≡ replyBytes AskFrequencyRange rangeNumber → (t ≡ true → bs ≡ l) → (bs ≡ l → t ≡ true)

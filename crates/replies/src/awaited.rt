@@ -1,24 +1,17 @@
 // What a wish waits for: how wide the value is, which values a valid box could give, and what each says.
 ghost use mathlib.Core.Path.{_≡_};
 ghost use mathlib.Core.Bool.{true};
+ghost use mathlib.Core.List.{[], _∷_};
 ghost use Prim.Native.Nat.{_^_, _<_};
+ghost use Rattle.wire.specs.Choice.{oneOf};
 ghost use Rattle.wire.specs.Signed.{signed};
 ghost use Rattle.wishes.specs.Wishes.{allowed};
-ghost use Rattle.replies.specs.Awaited.{awaited, holdsSerial, isStatus, isState, stateCould, saysState};
+ghost use Rattle.replies.specs.Awaited.{awaited, holdsSerial, isStatus, stateShown, isState, stateCould, saysState};
 ghost use Rattle.replies.specs.declared.Reply.the-variants.{State};
 use crate::Reply;
 use items::values;
 use wishes::StateFields;
 use wishes::Wish;
-
-// 0018: "Replies hold 80, run byte, mode, 00 (house)", as numbers, least significant byte first.
-const IDLE_24: u64 = 0x00_80_01_80;
-
-const IDLE_16: u64 = 0x00_00_01_80;
-
-const RUN_24: u64 = 0x00_80_02_80;
-
-const RUN_16: u64 = 0x00_00_02_80;
 
 // How many bytes the value has in a reply to a wish.
 pub(crate) fn width_of(w: Wish) -> u8
@@ -65,14 +58,19 @@ fn is_status(n: u64) -> bool
     false
 }
 
-// 80, a run byte, a mode and 00, idle or running.
+// "Replies hold 80, run byte, mode, 00 (house)": this run byte, and either mode.
+fn is_shown(run: u8, n: u64) -> bool
+    ensures { λ r. ⌜ r ≡ oneOf n (stateShown run 0x80 ∷ stateShown run 0x00 ∷ []) ⌝ }
+{
+    (n == values::state_number(run, packets::MODE_24))
+        | (n == values::state_number(run, packets::MODE_16))
+}
+
+// Idle or running, in either mode.
 fn is_state(n: u64) -> bool
     ensures { λ r. ⌜ r ≡ isState n ⌝ }
 {
-    match n {
-        IDLE_24 | IDLE_16 | RUN_24 | RUN_16 => true,
-        _ => false,
-    }
+    is_shown(values::IDLE, n) | is_shown(values::RUN, n)
 }
 
 // What a box can say to a state that was set: idle in either mode, which it kept, or what was sent.
@@ -80,12 +78,9 @@ fn state_could(fields: StateFields, n: u64) -> bool
     ensures { λ r. ⌜ r ≡ stateCould fields n ⌝ }
 {
     if fields.run == values::IDLE {
-        return match n {
-            IDLE_24 | IDLE_16 => true,
-            _ => false,
-        };
+        return is_shown(values::IDLE, n);
     }
-    n == RUN_16 + 65536 * fields.mode as u64
+    n == values::state_number(values::RUN, fields.mode)
 }
 
 // A valid box could give the value n to the wish: a set is answered with the value that was sent, but for a rate, which is

@@ -91,21 +91,14 @@ fn read_value(w: Wish, bytes: &[u8]) -> Reply
     Reply::NotAReply
 }
 
-// The one reply to the wish for the range, with both bands.
+// The one reply to the wish for the range, whose "channel byte 00" is echoed, with both bands.
 fn read_range(bytes: &[u8]) -> Reply
     requires { ⌜ isNak (now bytes) ≡ false ⌝ }
     ensures { λ r. ⌜ told r ≡ toldOf Wish.AskFrequencyRange (now (bytes .entry)) ⌝ }
 {
     let mut range = [0u8; 36];
-    wire::put(
-        &mut range,
-        0,
-        2,
-        wire::header_of(types::RANGE_REPLY, 36) as u64,
-    );
-    wire::put(&mut range, 2, 4, 0x0200_0020);
-    tuning::put_range(&mut range, 6);
-    if check::same(bytes, &range) {
+    let size = items::put_range_reply(&mut range, 0x00);
+    if check::same(bytes, &range[..size]) {
         return Reply::FrequencyRange;
     }
     Reply::NotAReply
@@ -122,7 +115,7 @@ fn is_nak(bytes: &[u8]) -> bool
 pub fn read(w: Wish, bytes: &[u8]) -> Reply
     ensures { λ r. ⌜ told r ≡ toldOf w (now (bytes .entry)) ⌝ }
 {
-    if !wishes::allows(w) {
+    if !wishes::is_allowed(w) {
         return Reply::NotAllowed;
     }
     if is_nak(bytes) {

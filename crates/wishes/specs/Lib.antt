@@ -1,3 +1,2 @@
 pub mod Wishes
 pub mod Writing
-pub mod Inside

@@ -63,8 +63,8 @@ abbrev pub setting : Item → Value → Asking
 setting item value = record { item = item; kind = typeSet; echo = channel; value = value }
 
 -- "Idle is sent as 00 01 00 00, run as 80 02, mode, 00."
-abbrev pub stateBytes : StateFields → List ℕ
-stateBytes f =
+abbrev pub stateSent : StateFields → List ℕ
+stateSent f =
     pick (eqb (f .run) idle) (0x00 ∷ 0x01 ∷ 0x00 ∷ 0x00 ∷ [])
     (0x80 ∷ f .run ∷ f .mode ∷ 0x00 ∷ [])
 
@@ -75,7 +75,7 @@ asking AskSerial = request serial
 asking AskInterface = request interface
 asking (AskVersion id) = record { item = versions; kind = typeRequest; echo = id; value = whole 0 }
 asking AskStatus = request status
-asking (SetState f) = setting state (inBytes (stateBytes f))
+asking (SetState f) = setting state (inBytes (stateSent f))
 asking AskState = request state
 asking (SetFrequency hz) = setting frequency (whole hz)
 asking AskFrequency = request frequency

@@ -2,11 +2,11 @@
 ghost use mathlib.Core.Path.{_≡_};
 ghost use lib.ListN.{length};
 ghost use lib.Seq.{sets};
+ghost use Rattle.wire.specs.Number.{number};
 ghost use Rattle.wire.specs.Signed.{coded};
 ghost use Rattle.wire.specs.Header.{typeSet, typeRequest};
-ghost use Rattle.wishes.specs.Wishes.{layoutOf, allowed, mayWishState};
+ghost use Rattle.wishes.specs.Wishes.{stateSent, layoutOf, allowed, mayWishState};
 ghost use Rattle.wishes.specs.Writing.{told, toldOf, bytesWritten};
-ghost use Rattle.wishes.specs.Inside.{stateNumber};
 use items::table;
 use items::values;
 use layouts::Layout;
@@ -55,14 +55,14 @@ fn gain_byte(g: i8) -> u8
     ((g as i32 + 256) as u32 % 256) as u8
 }
 
-// The four bytes of a state that is set, as one number: idle as 00 01 00 00, run as 80 02, mode, 00.
-fn state_number(fields: StateFields) -> u64
-    ensures { λ r. ⌜ r ≡ stateNumber fields ⌝ }
+// "Idle is sent as 00 01 00 00, run as 80 02, mode, 00", as one number.
+fn state_sent(fields: StateFields) -> u64
+    ensures { λ r. ⌜ r ≡ number (stateSent fields) ⌝ }
 {
     if fields.run == values::IDLE {
-        return 0x100;
+        return (values::IDLE as u64) << 8;
     }
-    0x80 + 256 * (fields.run as u64 + 256 * fields.mode as u64)
+    values::state_number(fields.run, fields.mode)
 }
 
 // A request has no value.
@@ -103,7 +103,7 @@ pub fn layout_of(w: Wish) -> Layout
         Wish::AskInterface => request(table::INTERFACE, false, 0),
         Wish::AskVersion(id) => request(table::VERSIONS, true, id),
         Wish::AskStatus => request(table::STATUS, false, 0),
-        Wish::SetState(fields) => setting(table::STATE, false, 4, state_number(fields)),
+        Wish::SetState(fields) => setting(table::STATE, false, 4, state_sent(fields)),
         Wish::AskState => request(table::STATE, false, 0),
         Wish::SetFrequency(hz) => setting(table::FREQUENCY, true, 5, hz),
         Wish::AskFrequency => request(table::FREQUENCY, true, 0),
@@ -139,7 +139,7 @@ fn may_state(fields: StateFields) -> bool
 }
 
 // The box would not refuse the wish's value with 16.
-pub fn allows(w: Wish) -> bool
+pub fn is_allowed(w: Wish) -> bool
     ensures { λ r. ⌜ r ≡ allowed w ⌝ }
 {
     match w {
@@ -160,7 +160,7 @@ pub fn write(w: Wish, buffer: &mut [u8]) -> Written
         ⌜ (told r ≡ toldOf w (length (now (buffer .entry))))
         × (now (buffer .exit) ≡ sets (now (buffer .entry)) 0 (bytesWritten w (length (now (buffer .entry))))) ⌝ }
 {
-    if !allows(w) {
+    if !is_allowed(w) {
         return Written::NotAllowed;
     }
     if buffer.len() < 16 {

@@ -7,7 +7,7 @@ use denote.Ref.{now}
 use lib.ListN.{length, getD}
 use Rattle.items.specs.declared.Judged.{Judged}
 use Rattle.items.specs.Answer.{Message, codeOf, settingsAfter, replyOf}
-use Rattle.items.proofs.Judging.{accepted-row}
+use Rattle.items.proofs.Judging.{accepted-row, range-row}
 use Rattle.answers.specs.Inside.{due}
 use Rattle.answers.proofs.Answering.{due-reply, some-due, answers-nothing, answers-short, answers-whole}
 use borrow.Author.Needs.{needs}
@@ -42,7 +42,9 @@ write-requires : tie.Need-write-requires
 write-requires c κs =
     let j = c .before .before .before .before .before .before in
     let i = c .before .before .item-in .ensures in
-    λ one. rw i (accepted-row (j .before .before .args .s) (message (j .before .before)) (sym (code-is j) ∙ one))
+    let s = j .before .before .args .s in
+    let m = message (j .before .before) in
+    λ one. rw i (accepted-row s m (sym (code-is j) ∙ one), range-row s m (sym (code-is j) ∙ one))
 
 same-length : tie.Need-same-length
 same-length c = search needs

@@ -24,8 +24,8 @@ cast-header-of c =
 header-of-requires : tie.Need-header-of-requires
 header-of-requires c κs = search needs
 
-put-head-requires : tie.Need-put-head-requires
-put-head-requires c κs =
+put-header-and-item-requires : tie.Need-put-header-and-item-requires
+put-header-and-item-requires c κs =
     omega (arith, c .before .before .before .size-of .ensures, least (c .before .before .before .before .before .args .a))
 
 cast-width : tie.Need-cast-width
@@ -33,20 +33,20 @@ cast-width c = search needs
 
 slice-write-dst : tie.Need-slice-write-dst
 slice-write-dst c =
-    omega (arith, c .before .before .before .before .put-head .kept .0, c .before .before .before .before .before .before .before .before .size-of .ensures, echoing (c .before .before .before .before .before .before .before .before .before .before .args .a) (c .if2 .taken))
+    omega (arith, c .before .before .before .before .put-header-and-item .kept .0, c .before .before .before .before .before .before .before .before .size-of .ensures, echoing (c .before .before .before .before .before .before .before .before .before .before .args .a) (c .if2 .taken))
 
 put-requires : tie.Need-put-requires
 put-requires c κs = search needs
 
 same-length : tie.Need-same-length
-same-length c = c .before .before .put .kept .0 ∙ simp length-set (c .before .before .before .before .before .before .before .before .put-head .kept .0)
+same-length c = c .before .before .put .kept .0 ∙ simp length-set (c .before .before .before .before .before .before .before .before .put-header-and-item .kept .0)
 
 returns-2 : tie.Need-returns-2
 returns-2 c =
     let s = c .before .before .before .before .before .before .before .before .before .before .before .before .before .before in
     let size = c .before .before .before .before .before .before .before .before .before .before .before .before .size-of in
-    put-echoed (now (s .args .dst)) (s .args .a) (size .result) (c .before .before .before .before .before .before .before .before .before .header-of .result) (c .before .before .before .before .before .before .before .before .put-head .last .0) (c .before .before .put .last .0)
-    (size .ensures) (c .before .before .before .before .before .before .before .before .before .before .before .if1 .left) (c .before .before .before .before .before .before .before .before .before .header-of .ensures) (c .before .before .before .before .before .before .before .before .put-head .ensures) (c .before .before .before .before .if2 .taken)
+    put-echoed (now (s .args .dst)) (s .args .a) (size .result) (c .before .before .before .before .before .before .before .before .before .header-of .result) (c .before .before .before .before .before .before .before .before .put-header-and-item .last .0) (c .before .before .put .last .0)
+    (size .ensures) (c .before .before .before .before .before .before .before .before .before .before .before .if1 .left) (c .before .before .before .before .before .before .before .before .before .header-of .ensures) (c .before .before .before .before .before .before .before .before .put-header-and-item .ensures) (c .before .before .before .before .if2 .taken)
     (c .before .before .put .ensures)
 
 put-requires-2 : tie.Need-put-requires-2
@@ -59,8 +59,8 @@ returns-3 : tie.Need-returns-3
 returns-3 c =
     let s = c .before .before .before .before .before .before .before .before .before .before .before .before .before .before in
     let size = c .before .before .before .before .before .before .before .before .before .before .before .before .size-of in
-    put-plain (now (s .args .dst)) (s .args .a) (size .result) (c .before .before .before .before .before .before .before .before .before .header-of .result) (c .before .before .before .before .before .before .before .before .put-head .last .0) (c .before .before .put2 .last .0)
-    (size .ensures) (c .before .before .before .before .before .before .before .before .before .before .before .if1 .left) (c .before .before .before .before .before .before .before .before .before .header-of .ensures) (c .before .before .before .before .before .before .before .before .put-head .ensures) (c .before .before .before .before .if2 .left)
+    put-plain (now (s .args .dst)) (s .args .a) (size .result) (c .before .before .before .before .before .before .before .before .before .header-of .result) (c .before .before .before .before .before .before .before .before .put-header-and-item .last .0) (c .before .before .put2 .last .0)
+    (size .ensures) (c .before .before .before .before .before .before .before .before .before .before .before .if1 .left) (c .before .before .before .before .before .before .before .before .before .header-of .ensures) (c .before .before .before .before .before .before .before .before .put-header-and-item .ensures) (c .before .before .before .before .if2 .left)
     (c .before .before .put2 .ensures)
 
 pub put-message-spec : {M : Type 1} → statement M
@@ -71,7 +71,7 @@ put-message-spec =
     returns
     cast-header-of
     header-of-requires
-    put-head-requires
+    put-header-and-item-requires
     cast-width
     slice-write-dst
     put-requires

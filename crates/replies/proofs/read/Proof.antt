@@ -13,18 +13,18 @@ use Rattle.replies.proofs.read.Statement.{statement}
 use Rattle.replies.proofs.read.Tie as tie
 
 allowed-here : (c : tie.Else1) → allowed (c .before .before .before .args .w) ≡ true
-allowed-here c = sym (c .before .allows .ensures) ∙ not-false (c .before .allows .result) (c .if1 .left)
+allowed-here c = sym (c .before .is-allowed .ensures) ∙ not-false (c .before .is-allowed .result) (c .if1 .left)
 
 no-nak : (c : tie.Else2) → isNak (c .before .before .before .before .before .args .bytes .now) ≡ false
 no-nak c = sym (c .before .is-nak .ensures) ∙ c .if2 .left
 
-allows-requires : tie.Need-allows-requires
-allows-requires c κs = search needs
+is-allowed-requires : tie.Need-is-allowed-requires
+is-allowed-requires c κs = search needs
 
 returns : tie.Need-returns
 returns c =
     let a = c .before .before .before .args in
-    read-refused (a .w) (a .bytes .now) (sym (c .before .allows .ensures) ∙ not-true (c .before .allows .result) (c .if1 .taken))
+    read-refused (a .w) (a .bytes .now) (sym (c .before .is-allowed .ensures) ∙ not-true (c .before .is-allowed .result) (c .if1 .taken))
 
 is-nak-requires : tie.Need-is-nak-requires
 is-nak-requires c κs = search needs
@@ -57,7 +57,7 @@ pub read-spec : {M : Type 1} → statement M
 read-spec =
     tie.close
     (tie.spec
-    allows-requires
+    is-allowed-requires
     returns
     is-nak-requires
     returns-2

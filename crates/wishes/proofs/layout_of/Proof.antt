@@ -40,8 +40,8 @@ request-requires-5 c κs = search needs
 enum-known-w-2 : tie.Need-enum-known-w-2
 enum-known-w-2 c = search needs
 
-state-number-requires : tie.Need-state-number-requires
-state-number-requires c κs = search needs
+state-sent-requires : tie.Need-state-sent-requires
+state-sent-requires c κs = search needs
 
 setting-requires : tie.Need-setting-requires
 setting-requires c κs = search needs
@@ -146,7 +146,7 @@ returns-5 : tie.Need-returns-5
 returns-5 c = rw (c .before .enum-told4 .given .1) (c .request5 .ensures)
 
 returns-6 : tie.Need-returns-6
-returns-6 c = rw (c .before .before .before .w2 .given .1, ← c .before .state-number .ensures) (c .setting .ensures)
+returns-6 c = rw (c .before .before .before .w2 .given .1, ← c .before .state-sent .ensures) (c .setting .ensures)
 
 returns-7 : tie.Need-returns-7
 returns-7 c = rw (c .before .enum-told5 .given .1) (c .request6 .ensures)
@@ -202,7 +202,7 @@ layout-of-spec =
     enum-told-4
     request-requires-5
     enum-known-w-2
-    state-number-requires
+    state-sent-requires
     setting-requires
     enum-told-5
     request-requires-6

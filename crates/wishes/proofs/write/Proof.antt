@@ -15,13 +15,13 @@ use Rattle.wishes.proofs.write.Statement.{statement}
 use Rattle.wishes.proofs.write.Tie as tie
 
 refused : (c : tie.Then1) → allowed (c .before .before .before .args .w) ≡ false
-refused c = sym (c .before .allows .ensures) ∙ not-true _ (c .if1 .taken)
+refused c = sym (c .before .is-allowed .ensures) ∙ not-true _ (c .if1 .taken)
 
 taken : (c : tie.Else1) → allowed (c .before .before .before .args .w) ≡ true
-taken c = sym (c .before .allows .ensures) ∙ not-false _ (c .if1 .left)
+taken c = sym (c .before .is-allowed .ensures) ∙ not-false _ (c .if1 .left)
 
-allows-requires : tie.Need-allows-requires
-allows-requires c κs = search needs
+is-allowed-requires : tie.Need-is-allowed-requires
+is-allowed-requires c κs = search needs
 
 returns : tie.Need-returns
 unfolding bytesWritten
@@ -62,7 +62,7 @@ pub write-spec : {M : Type 1} → statement M
 write-spec =
     tie.close
     (tie.spec
-    allows-requires
+    is-allowed-requires
     returns
     returns-2
     layout-of-requires

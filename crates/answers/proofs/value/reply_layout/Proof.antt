@@ -76,7 +76,7 @@ unfolding rowOf
 returns c =
     let a = c .before .before in
     ap laid (c .plain .ensures)
-    ∙ shows-plainly (rowOf (a .args .item)) (a .args .item) 7 0x0052_4453_7465_4E (a .args .s) (a .args .echo) (a .pre) (rw (c .before .match .keys1) refl) (rw (c .before .match .keys1) refl)
+    ∙ shows-plainly (rowOf (a .args .item)) (a .args .item) 7 0x00_52_44_53_74_65_4E (a .args .s) (a .args .echo) (a .pre) (rw (c .before .match .keys1) refl) (rw (c .before .match .keys1) refl)
 
 returns-2 : tie.Need-returns-2
 unfolding rowOf

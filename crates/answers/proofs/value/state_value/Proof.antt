@@ -1,24 +1,26 @@
--- The four bytes of the sum are its parts.
+-- The number's four bytes are those that it was made of.
 use lib.Dec.{lit<}
 use Rattle.answers.proofs.Values.{state-bytes}
 use borrow.Author.Needs.{needs}
 use Rattle.answers.proofs.value.state_value.Statement.{statement}
 use Rattle.answers.proofs.value.state_value.Tie as tie
 
-mul-high : tie.Need-mul-high
-mul-high c = search needs
-
-add-result : tie.Need-add-result
-add-result c = search needs
+state-number-requires : tie.Need-state-number-requires
+state-number-requires c κs = search needs
 
 returns : tie.Need-returns
-returns c = rw (c .if1 .taken) (state-bytes (c .before .args .mode) 2 (c .before .fits .mode .fits) (lit< tt))
+returns c =
+    let s = c .before .before in
+    rw (c .before .if1 .taken) (state-bytes 2 (s .args .mode) (c .state-number .result) (lit< tt) (s .fits .mode .fits) (c .state-number .ensures))
 
-add-result-2 : tie.Need-add-result-2
-add-result-2 c = search needs
+state-number-requires-2 : tie.Need-state-number-requires-2
+state-number-requires-2 c κs = search needs
 
 returns-2 : tie.Need-returns-2
-returns-2 c = rw (c .if1 .left) (state-bytes (c .before .args .mode) 1 (c .before .fits .mode .fits) (lit< tt))
+returns-2 c =
+    let s = c .before .before in
+    rw (c .before .if1 .left) (state-bytes 1 (s .args .mode) (c .state-number2 .result) (lit< tt) (s .fits .mode .fits) (c .state-number2 .ensures))
 
 pub state-value-spec : {M : Type 1} → statement M
-state-value-spec = tie.close (tie.spec mul-high add-result returns add-result-2 returns-2)
+state-value-spec =
+    tie.close (tie.spec state-number-requires returns state-number-requires-2 returns-2)

@@ -4,7 +4,7 @@ use mathlib.Core.List.{[], _∷_}
 use denote.Ref.{now}
 use borrow.Author.Tests.{ne-eqb}
 use Rattle.wire.specs.Header.{nak, typeReply, typeRangeReply}
-use Rattle.items.specs.Items.{rowOf}
+use Rattle.items.specs.Items.{frequency, rowOf}
 use Rattle.items.specs.Answer.{framed, replyBody, rangeBody}
 use Rattle.answers.specs.Inside.{due}
 use Rattle.answers.proofs.Room.{wrote-as, message-put}
@@ -24,21 +24,24 @@ returns c =
     let is : nak ≡ due (a .code) (a .kind) (a .item) (a .echo) (a .s) = rw (ne-eqb (a .code) 1 (c .before .before .before .before .if1 .taken)) refl in
     wrote-as (now (a .reply)) is (c .before .before .put-nak .ensures)
 
-put-range-requires : tie.Need-put-range-requires
-put-range-requires c κs = c .before .before .before .before .pre (c .before .before .if1 .left)
+put-range-reply-requires : tie.Need-put-range-reply-requires
+put-range-reply-requires c κs = search needs
 
 same-length-2 : tie.Need-same-length-2
 same-length-2 c = search needs
 
 returns-2 : tie.Need-returns-2
 returns-2 c =
-    let a = c .before .before .before .before .before .before .before .args in
-    let is : framed typeRangeReply (rangeBody (rowOf (a .item)) (a .echo ∷ [])) ≡ due (a .code) (a .kind) (a .item) (a .echo) (a .s)
-    = rw (c .before .before .before .before .before .if1 .left, c .before .before .before .before .if2 .taken) refl in
-    wrote-as (now (a .reply)) is (c .before .before .put-range .ensures)
+    let start = c .before .before .before .before .before .before .before in
+    let a = start .args in
+    let one = c .before .before .before .before .before .if1 .left in
+    let range = c .before .before .before .before .if2 .taken in
+    let is : framed typeRangeReply (rangeBody frequency (a .echo ∷ [])) ≡ due (a .code) (a .kind) (a .item) (a .echo) (a .s)
+    = rw (one, range, start .pre one .1 range) refl in
+    wrote-as (now (a .reply)) is (c .before .before .put-range-reply .ensures)
 
 reply-layout-requires : tie.Need-reply-layout-requires
-reply-layout-requires c κs = c .before .before .before .before .pre (c .before .before .if1 .left)
+reply-layout-requires c κs = c .before .before .before .before .pre (c .before .before .if1 .left) .0
 
 put-message-requires : tie.Need-put-message-requires
 put-message-requires c κs = search needs
@@ -61,7 +64,7 @@ write-spec =
     put-nak-requires
     same-length
     returns
-    put-range-requires
+    put-range-reply-requires
     same-length-2
     returns-2
     reply-layout-requires

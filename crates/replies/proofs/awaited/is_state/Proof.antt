@@ -1,16 +1,31 @@
--- The arm's keys are the definition's list.
-use mathlib.Core.Path.{refl, sym}
-use mathlib.Core.List.{_++_, [], _∷_}
-use Rattle.items.proofs.Keys.{matched, unmatched}
-use Rattle.replies.specs.Awaited.{idleShown, runShown}
+-- The definition's list is that of idle, and then that of run.
+use Prim.Native.Nat.{ℕ}
+use mathlib.Core.Path.{_≡_, refl}
+use mathlib.Core.Bool.{Bool, true, false, _||_}
+use mathlib.Core.List.{_++_}
+use lib.Dec.{eqb}
+use borrow.Author.Needs.{needs}
+use Rattle.wire.specs.Choice.{oneOf}
+use Rattle.replies.specs.Awaited.{stateShown, idleShown, runShown}
 use Rattle.replies.proofs.awaited.is_state.Statement.{statement}
 use Rattle.replies.proofs.awaited.is_state.Tie as tie
 
-returns : tie.Need-returns
-returns c = sym (matched (0x180 ∷ 0x280 ∷ 0x80_0180 ∷ 0x80_0280 ∷ []) (idleShown ++ runShown) (c .before .args .n) refl (c .match .keys1))
+in-either : (n : ℕ) → oneOf n idleShown || oneOf n runShown ≡ oneOf n (idleShown ++ runShown)
+in-either n = go (eqb n (stateShown 1 0x80)) (eqb n (stateShown 1 0x00)) (oneOf n runShown)
+  where
+    go : (a b r : Bool) → (a || (b || false)) || r ≡ a || (b || r)
+    go true b r = refl
+    go false true r = refl
+    go false false r = refl
 
-returns-2 : tie.Need-returns-2
-returns-2 c = sym (unmatched (0x180 ∷ 0x280 ∷ 0x80_0180 ∷ 0x80_0280 ∷ []) (idleShown ++ runShown) (c .before .args .n) refl (c .match .rest .1))
+is-shown-requires : tie.Need-is-shown-requires
+is-shown-requires c κs = search needs
+
+is-shown-requires-2 : tie.Need-is-shown-requires-2
+is-shown-requires-2 c κs = search needs
+
+returns : tie.Need-returns
+returns c = rw (c .before .is-shown .ensures, c .is-shown2 .ensures) (in-either (c .before .before .args .n))
 
 pub is-state-spec : {M : Type 1} → statement M
-is-state-spec = tie.close (tie.spec returns returns-2)
+is-state-spec = tie.close (tie.spec is-shown-requires is-shown-requires-2 returns)

@@ -9,8 +9,8 @@ use Rattle.wire.specs.Signed.{coded}
 use Rattle.items.specs.Settings.{isGain}
 use Rattle.items.proofs.Keys.{matched}
 use Rattle.wishes.proofs.Allowed.{gain-bits, valueless, valueless-allowed}
-use Rattle.wishes.proofs.allows.Statement.{statement}
-use Rattle.wishes.proofs.allows.Tie as tie
+use Rattle.wishes.proofs.is_allowed.Statement.{statement}
+use Rattle.wishes.proofs.is_allowed.Tie as tie
 
 enum-known-w : tie.Need-enum-known-w
 enum-known-w c = search needs
@@ -87,8 +87,8 @@ returns-8 : tie.Need-returns-8
 unfolding valueless
 returns-8 c = sym (valueless-allowed (c .before .args .w) (matched valueless valueless _ refl (c .match .keys8)))
 
-pub allows-spec : {M : Type 1} → statement M
-allows-spec =
+pub is-allowed-spec : {M : Type 1} → statement M
+is-allowed-spec =
     tie.close
     (tie.spec
     enum-known-w

@@ -2,8 +2,8 @@
 use lib.ListN.{length-set}
 use native.Mathlib.Omega.{arith}
 use borrow.Author.Needs.{needs}
-use Rattle.layouts.proofs.put_head.Statement.{statement}
-use Rattle.layouts.proofs.put_head.Tie as tie
+use Rattle.layouts.proofs.put_header_and_item.Statement.{statement}
+use Rattle.layouts.proofs.put_header_and_item.Tie as tie
 
 cast-dst : tie.Need-cast-dst
 cast-dst c = search needs
@@ -35,8 +35,8 @@ same-length c = search needs
 returns : tie.Need-returns
 returns c = search needs
 
-pub put-head-spec : {M : Type 1} → statement M
-put-head-spec =
+pub put-header-and-item-spec : {M : Type 1} → statement M
+put-header-and-item-spec =
     tie.close
     (tie.spec
     cast-dst
