@@ -5,8 +5,8 @@ use mathlib.Core.Bool.{Bool, true, false}
 use mathlib.Core.List.{List, _++_}
 use native.Mathlib.Omega.{arith}
 use mir.Val.{boolByte}
-use lib.ListN.{length, take, length-append}
-use lib.Seq.{sets, take-all}
+use lib.ListN.{length, length-append}
+use lib.Seq.{sets}
 use Rattle.wire.specs.Choice.{pick}
 use Rattle.wire.specs.Number.{bytes}
 use Rattle.wire.proofs.Stores.{sets-then, sets-whole}
@@ -30,18 +30,14 @@ pub narrow-stored : (s : Settings) (l a b c d : List ℕ) → a ≡ sets l 24 (b
 unfolding narrowOf
 narrow-stored s l a b c d p q r t = rw (t, r, q, p, flag-byte (s .running))
 
-pub settings-stored : (s : Settings) (l a b c : List ℕ) → length (s .serial) ≡ 8 → a ≡ sets l 0 (wideOf s) → b ≡ sets a 24 (narrowOf s)
-    → c ≡ sets b 28 (take 8 (s .serial)) → c ≡ sets l 0 (settingsBytes s)
+pub settings-stored : (s : Settings) (l a b c : List ℕ) → a ≡ sets l 0 (wideOf s) → b ≡ sets a 24 (narrowOf s) → c ≡ sets b 28 (s .serial)
+    → c ≡ sets l 0 (settingsBytes s)
 unfolding wideOf narrowOf
-settings-stored s l a b c long p q r =
-    let whole : take 8 (s .serial) ≡ s .serial = take-all 8 (s .serial) (omega arith) in
-    sets-then l 0 (wideOf s) (narrowOf s ++ s .serial) p (sets-then a 24 (narrowOf s) (s .serial) q (rw whole at r))
+settings-stored s l a b c p q r = sets-then l 0 (wideOf s) (narrowOf s ++ s .serial) p (sets-then a 24 (narrowOf s) (s .serial) q r)
 
-pub store-stored : (t : Store) (l a b : List ℕ) → length (t .held) ≡ 64 → a ≡ sets l 36 (take 64 (t .held)) → b ≡ sets a 100 (bytes 8 (t .taken))
+pub store-stored : (t : Store) (l a b : List ℕ) → length (t .held) ≡ 64 → a ≡ sets l 36 (t .held) → b ≡ sets a 100 (bytes 8 (t .taken))
     → b ≡ sets l 36 (storeBytes t)
-store-stored t l a b long p q =
-    let whole : take 64 (t .held) ≡ t .held = take-all 64 (t .held) (omega arith) in
-    sets-then l 36 (t .held) (bytes 8 (t .taken)) (rw whole at p) (rw long q)
+store-stored t l a b long p q = sets-then l 36 (t .held) (bytes 8 (t .taken)) p (rw long q)
 
 pub station-stored : (s : Station) (l a b : List ℕ) → length l ≡ 108 → length (s .settings .serial) ≡ 8 → length (s .store .held) ≡ 64
     → a ≡ sets l 0 (settingsBytes (s .settings)) → b ≡ sets a 36 (storeBytes (s .store)) → b ≡ stationBytes s

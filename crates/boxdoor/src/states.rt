@@ -3,31 +3,18 @@ use framing::Store;
 use items::Settings;
 use station::Station;
 ghost use mathlib.Core.Path.{_≡_};
-ghost use Prim.Native.Nat.{_+_, _≤_};
-ghost use lib.ListN.{length, take, drop};
+ghost use lib.ListN.{length};
 ghost use lib.Seq.{sets};
 ghost use Rattle.boxdoor.specs.States.{settingsIn, storeIn, stationIn, wideOf, narrowOf, settingsBytes, storeBytes, stationBytes};
 
 // A box in bytes: frequency 8, count 8, clock 4, D 4, running 1, mode 1, gain 1, size 1, serial 8, held 64, taken 8.
 pub(crate) const LENGTH: usize = 108;
 
-// Stores n bytes of a slice, from a place of it on, at a place of another.
-fn paste(dst: &mut [u8], to: usize, src: &[u8], from: usize, n: usize)
-    requires { ⌜ (to + n ≤ length (now dst)) × (from + n ≤ length (now src)) ⌝ }
-    ensures { λ _. ⌜ now (dst .exit) ≡ sets (now (dst .entry)) to (take n (drop from (now (src .entry)))) ⌝ }
-{
-    let mut i = 0;
-    while i < n {
-        dst[to + i] = src[from + i];
-        i += 1;
-    }
-}
-
 fn settings_in(b: [u8; LENGTH]) -> Settings
     ensures { λ r. ⌜ r ≡ settingsIn b ⌝ }
 {
     let mut serial = [0u8; 8];
-    paste(&mut serial, 0, &b, 28, 8);
+    wire::copy(&b[28..36], &mut serial, 0);
     Settings {
         frequency: wire::number_at(&b, 0, 8),
         count: wire::number_at(&b, 8, 8),
@@ -45,7 +32,7 @@ fn store_in(b: [u8; LENGTH]) -> Store
     ensures { λ r. ⌜ r ≡ storeIn b ⌝ }
 {
     let mut held = [0u8; 64];
-    paste(&mut held, 0, &b, 36, 64);
+    wire::copy(&b[36..100], &mut held, 0);
     Store {
         held: held,
         taken: wire::number_at(&b, 100, 8) as usize,
@@ -59,7 +46,7 @@ pub(crate) fn station_in(b: &[u8]) -> Station
     ensures { λ r. ⌜ r ≡ stationIn (now (b .entry)) ⌝ }
 {
     let mut own = [0u8; LENGTH];
-    paste(&mut own, 0, b, 0, LENGTH);
+    wire::copy(&b[0..LENGTH], &mut own, 0);
     Station {
         settings: settings_in(own),
         store: store_in(own),
@@ -93,7 +80,7 @@ fn put_settings(b: &mut [u8; LENGTH], s: Settings)
     put_wide(b, s);
     put_narrow(b, s);
     let serial = s.serial;
-    paste(b, 28, &serial, 0, 8);
+    wire::copy(&serial, b, 28);
 }
 
 fn put_store(b: &mut [u8; LENGTH], t: Store)
@@ -101,7 +88,7 @@ fn put_store(b: &mut [u8; LENGTH], t: Store)
     ensures { λ _. ⌜ now (b .exit) ≡ sets (now (b .entry)) 36 (storeBytes t) ⌝ }
 {
     let held = t.held;
-    paste(b, 36, &held, 0, 64);
+    wire::copy(&held, b, 36);
     wire::put(b, 100, 8, t.taken as u64);
 }
 
@@ -115,5 +102,5 @@ pub(crate) fn put_station(b: &mut [u8], s: Station)
     let mut own = [0u8; LENGTH];
     put_settings(&mut own, settings);
     put_store(&mut own, store);
-    paste(b, 0, &own, 0, LENGTH);
+    wire::copy(&own, b, 0);
 }

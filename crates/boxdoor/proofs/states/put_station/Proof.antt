@@ -1,11 +1,10 @@
 -- The settings, and the store behind them, in an array of their own; then its bytes, copied whole.
 use mathlib.Core.Path.{_≡_, refl, sym, _∙_}
-use native.Mathlib.Omega.{arith}
 use lib.ListN.{length, replicate}
-use lib.Seq.{take-all}
+use Rattle.wire.proofs.Stores.{sets-whole}
 use Rattle.boxdoor.specs.States.{settingsBytes, storeBytes, stationBytes}
 use Rattle.boxdoor.proofs.Fields.{station-stored}
-use Rattle.boxdoor.proofs.Parts.{filled, still-long}
+use Rattle.boxdoor.proofs.Parts.{still-long}
 use borrow.Author.Needs.{needs}
 use Rattle.boxdoor.proofs.states.put_station.Statement.{statement}
 use Rattle.boxdoor.proofs.states.put_station.Tie as tie
@@ -38,24 +37,21 @@ long c =
 put-store-requires : tie.Need-put-store-requires
 put-store-requires c κs = settled (c .before)
 
-slice-aggregate-paste : tie.Need-slice-aggregate-paste
-slice-aggregate-paste c = sym (long (c .before .before))
+slice-aggregate-copy : tie.Need-slice-aggregate-copy
+slice-aggregate-copy c = sym (long (c .before))
 
-paste-requires : tie.Need-paste-requires
-paste-requires c κs =
-    let store = c .before .before in
-    (omega (arith, store .before .before .before .before .before .before .before .pre), omega (arith, long store))
+copy-requires : tie.Need-copy-requires
+copy-requires c κs = search needs
 
 same-length : tie.Need-same-length
 same-length c = search needs
 
 returns : tie.Need-returns
 returns c =
-    let paste = c .before .before in
-    let store = paste .before .before .before in
-    let own = store .put-store .last .0 in
+    let copied = c .before .before in
+    let store = copied .before .before .before in
     let start = store .before .before .before .before .before .before .before in
-    filled 0 108 own (start .args .b .now) (start .pre) (omega (arith, long store)) (paste .paste .ensures) ∙ take-all 108 own (omega (arith, long store)) ∙ whole store
+    copied .copy .ensures ∙ sets-whole (start .args .b .now) (store .put-store .last .0) (long store ∙ sym (start .pre)) ∙ whole store
 
 pub put-station-spec : {M : Type 1} → statement M
 put-station-spec =
@@ -63,7 +59,7 @@ put-station-spec =
     (tie.spec
     put-settings-requires
     put-store-requires
-    slice-aggregate-paste
-    paste-requires
+    slice-aggregate-copy
+    copy-requires
     same-length
     returns)
