@@ -9,7 +9,7 @@ use native.Mathlib.Nat.{le-refl, zero-add}
 use native.Mathlib.Omega.{arith}
 use borrow.Author.Tests.{le-leb, lt-leb, ne-eqb}
 use lib.Dec.{leb, eqb}
-use lib.ListN.{length, take}
+use lib.ListN.{length, take, replicate}
 use lib.Seq.{sets, length-sets, length-take-le}
 use Rattle.framing.specs.declared.Store.{Store}
 use Rattle.framing.specs.declared.Took.{Took}
@@ -38,27 +38,34 @@ module _ (held host : List ℕ) (had total : ℕ) (long : length held ≡ 64) (i
       )
 
   -- one that does not is kept, as far as it came
-  pub came-in-part : (count : ℕ) (ten after : List ℕ) → (had ≡ 0 → length host < total) → count ≡ min (total - had) (length host)
-      → after ≡ sets held had (take count host) → ten ≡ firstTen (take (min (had + count) 64) after)
-      → Tells (record { opening = ten; count = count; taken = had + count; finished = leb total (had + count) }) after
-  came-in-part count ten after part n stored e =
-      rw (run, kept)
-      (ap (λ (k : List ℕ). record { opening = k; count = count; taken = had + count; finished = leb total (had + count) }) opened, stored)
-    where
-      run : taken before host ≡ takenRun before host total count
-      run = taken-ahead before host total count is n
+  module _ (count : ℕ) (after : List ℕ) (part : had ≡ 0 → length host < total) (n : count ≡ min (total - had) (length host))
+      (stored : after ≡ sets held had (take count host)) where
+    run : taken before host ≡ takenRun before host total count
+    run = taken-ahead before host total count is n
 
-      kept : (eqb had 0 && leb total (had + count)) ≡ false
-      kept =
-          elim (decLt 0 had) [
-            | yes w ↦ rw (ne-eqb had 0 (λ z. omega arith)) refl
-            | no w ↦
-                let less : length host < total = part (omega arith) in
-                rw (lt-leb total (had + count) (omega arith), and-false) refl
-          ]
+    kept : (eqb had 0 && leb total (had + count)) ≡ false
+    kept =
+        elim (decLt 0 had) [
+          | yes w ↦ rw (ne-eqb had 0 (λ z. omega arith)) refl
+          | no w ↦
+              let less : length host < total = part (omega arith) in
+              rw (lt-leb total (had + count) (omega arith), and-false) refl
+        ]
 
-      opened : ten ≡ firstTen (take (had + count) (sets held had (take count host)))
-      opened =
-          e ∙ rw stored
-          (ap firstTen
-          (rw (length-sets held had (take count host) ∙ long) at (take-most (sets held had (take count host)) (had + count))))
+    -- the message is not finished
+    pub still-open : had + count < total
+        → Tells (record { opening = replicate 10 0; count = count; taken = had + count; finished = false }) after
+    still-open less = rw (run, kept, lt-leb total (had + count) less) (refl, stored)
+
+    -- it is
+    pub came-last : (ten : List ℕ) → total ≤ had + count → ten ≡ firstTen (take (min (had + count) 64) after)
+        → Tells (record { opening = ten; count = count; taken = had + count; finished = true }) after
+    came-last ten all e =
+        rw (run, kept, le-leb total (had + count) all)
+        (ap (λ (k : List ℕ). record { opening = k; count = count; taken = had + count; finished = true }) opened, stored)
+      where
+        opened : ten ≡ firstTen (take (had + count) (sets held had (take count host)))
+        opened =
+            e ∙ rw stored
+            (ap firstTen
+            (rw (length-sets held had (take count host) ∙ long) at (take-most (sets held had (take count host)) (had + count))))

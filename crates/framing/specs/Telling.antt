@@ -1,5 +1,5 @@
--- What a call tells of the bytes that it took: the message's first ten for the whole store. Nothing of document 01 rests on
--- it; that ten bytes decide what the whole message does is `ten-decide` (items/proofs/TenBytes).
+-- What a call tells of the bytes that it took: for the whole store the first ten bytes of a message that they finished. Nothing of
+-- document 01 rests on it; that ten bytes decide what the whole message does is `ten-decide` (items/proofs/TenBytes).
 use Prim.Native.Nat.{ℕ}
 use mathlib.Core.Bool.{_&&_}
 use mathlib.Core.List.{List, _++_}
@@ -14,11 +14,11 @@ use Rattle.framing.specs.Framing.{Taking, taken}
 unfoldable pub firstTen : List ℕ → List ℕ
 firstTen bytes = take 10 (bytes ++ replicate 10 0)
 
--- What a call says of it: the message's first ten bytes for the store.
+-- What a call says of it: for the store the first ten bytes of a finished message, and zeros of another.
 abbrev pub tookOf : Taking → Took
 tookOf t =
     record {
-      opening = firstTen (take (t .store .taken) (t .store .held));
+      opening = pick (t .finished) (firstTen (take (t .store .taken) (t .store .held))) (replicate 10 0);
       count = t .count;
       taken = t .store .taken;
       finished = t .finished;

@@ -15,7 +15,7 @@ pub struct Store {
 }
 
 // What one call took of the host's bytes: how many, how many of the message are taken with them, whether they finished it,
-// and the message's first ten bytes, zero where it has fewer. No message that the box obeys is longer.
+// and the first ten bytes of a finished message, zero where it has fewer. No message that the box obeys is longer.
 pub struct Took {
     pub opening: [u8; 10],
     pub count: usize,
@@ -81,11 +81,19 @@ pub fn take_in(held: &mut [u8; 64], had: usize, host: &[u8]) -> Took
     let count = wire::lesser(wire::left(total, had), host.len());
     wire::copy(&host[..count], held, had);
     let now = had + count;
+    if now < total {
+        return Took {
+            opening: [0; 10],
+            count: count,
+            taken: now,
+            finished: false,
+        };
+    }
     Took {
         opening: opening(held, wire::lesser(now, 64)),
         count: count,
         taken: now,
-        finished: total <= now,
+        finished: true,
     }
 }
 

@@ -88,4 +88,4 @@ module _ (s : Station) (host : List ℕ) (room : ℕ) (r : Took) (after : List �
       (same-answer s all room (omega (arith, taken-long 0 (s .store) host)) ∙ feeding-done s host room all v refl (sym ends ∙ f))
     where
       ten : tookOf all .opening ≡ take 10 (all .store .held)
-      ten = held-opening (all .store .taken) (all .store .held) (omega (arith, taken-long 0 (s .store) host)) (taken-unused 0 (s .store) host (left-zeros (s .store) (valid-store (s .settings) (s .store) v)))
+      ten = rw (sym ends ∙ f) (held-opening (all .store .taken) (all .store .held) (omega (arith, taken-long 0 (s .store) host)) (taken-unused 0 (s .store) host (left-zeros (s .store) (valid-store (s .settings) (s .store) v))))
