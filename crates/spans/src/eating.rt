@@ -104,6 +104,7 @@ fn open(s: Span, piece: &[u8], out: &mut [u8]) -> Eaten
     let held = after.held;
     let code = head_code(&held);
     let told = lines::tell(head_due(code), out);
+    // 16 cannot come: the numbers are a capture's
     if told.code == codes::NO_ROOM {
         return refuse(codes::NO_ROOM, s);
     }
@@ -135,6 +136,7 @@ fn listen(s: Span, piece: &[u8], out: &mut [u8]) -> Eaten
         };
     }
     let told = lines::tell(heard_due(h, r), out);
+    // 16 cannot come: the numbers are a capture's
     if told.code == codes::NO_ROOM {
         return refuse(codes::NO_ROOM, s);
     }

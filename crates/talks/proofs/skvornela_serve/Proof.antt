@@ -17,10 +17,10 @@ use Rattle.talks.proofs.skvornela_serve.Statement.{statement}
 use Rattle.talks.proofs.skvornela_serve.Tie as tie
 
 abbrev Inv-loop : tie.InvT-loop
-Inv-loop host replies₀ s₀ i₀ at₀ left₀ replies s i at left = Going host replies₀ replies s i at left
+Inv-loop host replies₀ s₀ i₀ at₀ calls₀ replies s i at calls = Going host replies₀ replies s i at calls
 
 abbrev μ-loop : tie.MeasureT-loop
-μ-loop host replies₀ s₀ i₀ at₀ left₀ replies s i at left = left
+μ-loop host replies₀ s₀ i₀ at₀ calls₀ replies s i at calls = calls
 
 slice-aggregate-fresh : tie.Need-slice-aggregate-fresh Inv-loop μ-loop
 slice-aggregate-fresh c = search needs
@@ -38,7 +38,7 @@ returns : tie.Need-returns Inv-loop μ-loop
 returns c =
     let l = c .before .before .loop in
     let host = c .before .before .before .before .before .before .before .before .args .host .now in
-    ends _ _ (l .replies) (l .s) (l .i) (l .at) (l .left) (l .inv) (none-more (l .left) _ (l .s) (drop (l .i) host) (omega (arith, length-drop (l .i) host)))
+    ends _ _ (l .replies) (l .s) (l .i) (l .at) (l .calls) (l .inv) (none-more (l .calls) _ (l .s) (drop (l .i) host) (omega (arith, length-drop (l .i) host)))
 
 sub-if2 : tie.Need-sub-if2 Inv-loop μ-loop
 sub-if2 c = search needs
@@ -50,7 +50,7 @@ returns-2 : tie.Need-returns-2 Inv-loop μ-loop
 returns-2 c =
     let l = c .before .before .before .loop in
     let host = c .before .before .before .before .before .before .before .before .before .args .host .now in
-    ends _ _ (l .replies) (l .s) (l .i) (l .at) (l .left) (l .inv) (no-room (l .left) _ (l .s) (drop (l .i) host) (c .if2 .taken))
+    ends _ _ (l .replies) (l .s) (l .i) (l .at) (l .calls) (l .inv) (no-room (l .calls) _ (l .s) (drop (l .i) host) (c .if2 .taken))
 
 sub-feed : tie.Need-sub-feed Inv-loop μ-loop
 sub-feed c = search needs
@@ -98,7 +98,7 @@ room c = length (replies c) - place c
 abbrev calling : tie.After-feed Inv-loop μ-loop → Feeding
 calling c = feedingOf (box c) (rest c) (room c)
 
-going : (c : tie.After-feed Inv-loop μ-loop) → Going (host c) (c .before .before .before .before .before .before .before .before .before .before .before .before .args .replies .now) (replies c) (box c) (eaten c) (place c) (c .before .before .before .before .before .before .loop .left)
+going : (c : tie.After-feed Inv-loop μ-loop) → Going (host c) (c .before .before .before .before .before .before .before .before .before .before .before .before .args .replies .now) (replies c) (box c) (eaten c) (place c) (c .before .before .before .before .before .before .loop .calls)
 going c = c .before .before .before .before .before .before .loop .inv
 
 fed : (c : tie.After-feed Inv-loop μ-loop) → c .feed .result ≡ calling c .fed
@@ -122,8 +122,8 @@ add-at c =
     let f = c .before .before .before .before .before in
     omega (arith, ap (λ (r : Fed). r .wrote) (fed f), bound f .wrote, bound f .fits, going f .long, going f .room, f .before .before .before .before .before .before .before .before .before .before .before .before .good)
 
-sub-left : tie.Need-sub-left Inv-loop μ-loop
-sub-left c = search needs
+sub-calls : tie.Need-sub-calls Inv-loop μ-loop
+sub-calls c = search needs
 
 loop-less : tie.Need-loop-less Inv-loop μ-loop
 loop-less c = search needs
@@ -140,7 +140,7 @@ returns-3 : tie.Need-returns-3 Inv-loop μ-loop
 returns-3 c =
     let l = c .before .loop in
     let host = c .before .before .before .before .before .before .before .args .host .now in
-    ends _ _ (l .replies) (l .s) (l .i) (l .at) (l .left) (l .inv) (none-left (l .left) _ (l .s) (drop (l .i) host) (omega arith))
+    ends _ _ (l .replies) (l .s) (l .i) (l .at) (l .calls) (l .inv) (none-left (l .calls) _ (l .s) (drop (l .i) host) (omega arith))
 
 pub skvornela-serve-spec : {M : Type 1} → statement M
 skvornela-serve-spec =
@@ -165,7 +165,7 @@ skvornela-serve-spec =
     feed-requires
     add-i
     add-at
-    sub-left
+    sub-calls
     loop-less
     loop-again
     same-length-3
