@@ -74,20 +74,26 @@ feed-requires : tie.Need-feed-requires Inv-loop μ-loop
 feed-requires c κs = search needs
 
 -- where the call stands in the loop, and what it is of: the rest of the host's bytes, and the rest of the room
+abbrev turn : tie.After-feed Inv-loop μ-loop → tie.At-loop Inv-loop μ-loop
+turn c = c .before .before .before .before .before .before
+
+abbrev start : tie.After-feed Inv-loop μ-loop → tie.Start Inv-loop μ-loop
+start c = turn c .before .before .before .before .before .before
+
 abbrev host : tie.After-feed Inv-loop μ-loop → List ℕ
-host c = c .before .before .before .before .before .before .before .before .before .before .before .before .args .host .now
+host c = start c .args .host .now
 
 abbrev replies : tie.After-feed Inv-loop μ-loop → List ℕ
-replies c = c .before .before .before .before .before .before .loop .replies
+replies c = turn c .loop .replies
 
 abbrev box : tie.After-feed Inv-loop μ-loop → Station
-box c = c .before .before .before .before .before .before .loop .s
+box c = turn c .loop .s
 
 abbrev eaten : tie.After-feed Inv-loop μ-loop → ℕ
-eaten c = c .before .before .before .before .before .before .loop .i
+eaten c = turn c .loop .i
 
 abbrev place : tie.After-feed Inv-loop μ-loop → ℕ
-place c = c .before .before .before .before .before .before .loop .at
+place c = turn c .loop .at
 
 abbrev rest : tie.After-feed Inv-loop μ-loop → List ℕ
 rest c = drop (eaten c) (host c)
@@ -98,8 +104,9 @@ room c = length (replies c) - place c
 abbrev calling : tie.After-feed Inv-loop μ-loop → Feeding
 calling c = feedingOf (box c) (rest c) (room c)
 
-going : (c : tie.After-feed Inv-loop μ-loop) → Going (host c) (c .before .before .before .before .before .before .before .before .before .before .before .before .args .replies .now) (replies c) (box c) (eaten c) (place c) (c .before .before .before .before .before .before .loop .calls)
-going c = c .before .before .before .before .before .before .loop .inv
+going : (c : tie.After-feed Inv-loop μ-loop)
+    → Going (host c) (start c .args .replies .now) (replies c) (box c) (eaten c) (place c) (turn c .loop .calls)
+going c = turn c .loop .inv
 
 fed : (c : tie.After-feed Inv-loop μ-loop) → c .feed .result ≡ calling c .fed
 fed c = rw (rest-part (eaten c) (host c), rest-long (place c) (replies c)) at (c .feed .ensures .0)
@@ -115,12 +122,12 @@ bound c = feeding-within (box c) (rest c) (room c)
 add-i : tie.Need-add-i Inv-loop μ-loop
 add-i c =
     let f = c .before .before .before .before in
-    omega (arith, ap (λ (r : Fed). r .consumed) (fed f), bound f .consumed, length-drop (eaten f) (host f), going f .inside, f .before .before .before .before .before .before .before .before .before .before .before .before .good)
+    omega (arith, ap (λ (r : Fed). r .consumed) (fed f), bound f .consumed, length-drop (eaten f) (host f), going f .inside, start f .good)
 
 add-at : tie.Need-add-at Inv-loop μ-loop
 add-at c =
     let f = c .before .before .before .before .before in
-    omega (arith, ap (λ (r : Fed). r .wrote) (fed f), bound f .wrote, bound f .fits, going f .long, going f .room, f .before .before .before .before .before .before .before .before .before .before .before .before .good)
+    omega (arith, ap (λ (r : Fed). r .wrote) (fed f), bound f .wrote, bound f .fits, going f .long, going f .room, start f .good)
 
 sub-calls : tie.Need-sub-calls Inv-loop μ-loop
 sub-calls c = search needs
@@ -131,7 +138,8 @@ loop-less c = search needs
 loop-again : tie.Need-loop-again Inv-loop μ-loop
 loop-again c =
     let f = c .before .before .before .before .before in
-    turns (host f) _ (replies f) _ (box f) (eaten f) (place f) _ (calling f) refl (going f) (omega arith) (omega arith) (f .before .before .before .if2 .left) (stored f) (f .feed .result) (fed f)
+    turns (host f) _ (replies f) _ (box f) (eaten f) (place f) _ (calling f) refl (going f) (omega arith) (omega arith) (f .before .before .before .if2 .left) (stored f)
+    (f .feed .result) (fed f)
 
 same-length-3 : tie.Need-same-length-3 Inv-loop μ-loop
 same-length-3 c = c .before .loop .inv .long
