@@ -6,6 +6,48 @@
 
 enum { HELD = 64 };
 
+enum code {
+    WAITING = 0,
+    DONE = 1,
+    NO_REPLY_DUE = 2,
+    TOO_LONG = 10,
+    BAD_HEADER = 11,
+    NOT_LISTED = 12,
+    WRONG_LENGTH = 13,
+    NOT_OFFERED = 14,
+    CHANNEL_NOT_ALLOWED = 15,
+    VALUE_NOT_ALLOWED = 16,
+    NOT_WHILE_RUNNING = 17,
+    NO_ROOM = 20,
+    BROKEN = 21,
+    WHILE_IDLE = 22,
+    WRONG_COUNT = 23,
+    NOT_A_SAMPLE = 24,
+    CAPTURE_FULL = 25,
+    NOT_A_PACKET = 30,
+    NO_FIRST_PACKET = 31,
+    FORM_CHANGED = 32,
+    PAST_LAST = 33,
+};
+
+enum kind { SET, REQUEST, RANGE, ACKNOWLEDGEMENT, DATA };
+
+enum item {
+    NAME = 0x01,
+    SERIAL = 0x02,
+    INTERFACE = 0x03,
+    VERSIONS = 0x04,
+    STATUS = 0x05,
+    STATE = 0x18,
+    FREQUENCY = 0x20,
+    GAIN = 0x38,
+    CLOCK = 0xB0,
+    RATE = 0xB8,
+    PACKET_SIZE = 0xC4,
+};
+
+enum { COMPLEX = 0x80, IDLE = 1, RUN = 2 };
+
 struct station {
     uint64_t frequency, count;
     uint32_t clock, divisor;
@@ -81,78 +123,103 @@ static uint64_t get(const uint8_t *at, int n)
     return v;
 }
 
-/* The answer to a control message of 4 to 64 bytes, in `out`: its code, and its length in *wrote. Where `out` is too short
-   nothing is changed and the code is 20. */
-static int control(struct station *s, unsigned kind, const uint8_t *m, size_t n, uint8_t *out, size_t room, size_t *wrote)
+/* A control message that is in order: what it is about, how long its reply is, and what a set sets (of a state its run
+   byte, and its mode beside). */
+struct asked {
+    unsigned kind, item;
+    uint8_t channel, mode;
+    size_t reply;
+    uint64_t value;
+};
+
+/* The lengths of an item's set, request and reply, 0 where it is not offered; false for an item that is not listed. */
+static bool look_up(unsigned item, size_t *set, size_t *request, size_t *reply)
+{
+    *set = 0;
+    switch (item) {
+    case NAME: *request = 4, *reply = 11; break;
+    case SERIAL: *request = 4, *reply = 13; break;
+    case INTERFACE: *request = 4, *reply = 6; break;
+    case VERSIONS: *request = 5, *reply = 7; break;
+    case STATUS: *request = 4, *reply = 5; break;
+    case STATE: *set = 8, *request = 4, *reply = 8; break;
+    case FREQUENCY: *set = 10, *request = 5, *reply = 10; break;
+    case GAIN: *set = 6, *request = 5, *reply = 6; break;
+    case CLOCK:
+    case RATE: *set = 9, *request = 5, *reply = 9; break;
+    case PACKET_SIZE: *set = 5, *request = 4, *reply = 5; break;
+    default: return false;
+    }
+    return true;
+}
+
+/* Whether a set's value is allowed, and allowed now. */
+static enum code judge_set(const struct station *s, const uint8_t *m, struct asked *a)
+{
+    switch (a->item) {
+    case STATE:
+        a->value = m[5];
+        a->mode = m[6];
+        if (a->value == IDLE) break;
+        if (a->value != RUN || m[4] != COMPLEX || !mode_allowed(a->mode)) return VALUE_NOT_ALLOWED;
+        if (s->running && a->mode != s->mode) return NOT_WHILE_RUNNING;
+        break;
+    case FREQUENCY: if (!frequency_allowed(a->value = get(m + 5, 5))) return VALUE_NOT_ALLOWED; break;
+    case GAIN: if (!gain_allowed(a->value = m[5])) return VALUE_NOT_ALLOWED; break;
+    case CLOCK: if (!clock_allowed(a->value = get(m + 5, 4))) return VALUE_NOT_ALLOWED; break;
+    case RATE:
+        a->value = get(m + 5, 4);
+        if (a->value < 32000 || a->value > 2000000) return VALUE_NOT_ALLOWED;
+        if (s->running) return NOT_WHILE_RUNNING;
+        break;
+    case PACKET_SIZE:
+        if ((a->value = m[4]) > 1) return VALUE_NOT_ALLOWED;
+        if (s->running) return NOT_WHILE_RUNNING;
+        break;
+    }
+    return DONE;
+}
+
+/* The code of a control message of 4 to 64 bytes; where it is in order, *a is filled. */
+static enum code judge(const struct station *s, unsigned kind, const uint8_t *m, size_t n, struct asked *a)
+{
+    a->kind = kind;
+    a->item = get(m + 2, 2);
+    size_t set, request;
+    if (!look_up(a->item, &set, &request, &a->reply)) return NOT_LISTED;
+    size_t expected = kind == SET ? set : kind == REQUEST ? request : a->item == FREQUENCY ? 5 : 0;
+    if (expected == 0) return NOT_OFFERED;
+    if (n != expected) return WRONG_LENGTH;
+    a->channel = n > 4 ? m[4] : 0;
+    if ((a->item == FREQUENCY || a->item == GAIN) && a->channel != 0 && !(kind == SET && a->channel == 0xFF))
+        return CHANNEL_NOT_ALLOWED;
+    if (kind == RANGE) a->reply = 36;
+    if (kind != SET) return a->item == VERSIONS && a->channel > 3 ? VALUE_NOT_ALLOWED : DONE;
+    return judge_set(s, m, a);
+}
+
+static void store(struct station *s, const struct asked *a)
+{
+    switch (a->item) {
+    case STATE:
+        if (a->value == IDLE) s->running = false;
+        else if (!s->running) s->running = true, s->mode = a->mode, s->count = 0;
+        break;
+    case FREQUENCY: s->frequency = a->value; break;
+    case GAIN: s->gain = a->value; break;
+    case CLOCK: s->clock = a->value; break;
+    case RATE: s->divisor = nearest(a->value); break;
+    case PACKET_SIZE: s->size = a->value; break;
+    }
+}
+
+static void write_reply(const struct station *s, const struct asked *a, uint8_t *out)
 {
     static const uint8_t versions[4][2] = {{0x64, 0}, {0x6B, 0}, {0x66, 0}, {1, 7}};
-    unsigned item = get(m + 2, 2);
-    size_t set = 0, request, reply;
-    switch (item) {
-    case 0x01: request = 4, reply = 11; break;
-    case 0x02: request = 4, reply = 13; break;
-    case 0x03: request = 4, reply = 6; break;
-    case 0x04: request = 5, reply = 7; break;
-    case 0x05: request = 4, reply = 5; break;
-    case 0x18: set = 8, request = 4, reply = 8; break;
-    case 0x20: set = 10, request = 5, reply = 10; break;
-    case 0x38: set = 6, request = 5, reply = 6; break;
-    case 0xB0:
-    case 0xB8: set = 9, request = 5, reply = 9; break;
-    case 0xC4: set = 5, request = 4, reply = 5; break;
-    default: return 12;
-    }
-    size_t expected = kind == 0 ? set : kind == 1 ? request : item == 0x20 ? 5 : 0;
-    if (expected == 0) return 14;
-    if (n != expected) return 13;
-    uint8_t channel = n > 4 ? m[4] : 0;
-    if ((item == 0x20 || item == 0x38) && channel != 0 && !(kind == 0 && channel == 0xFF)) return 15;
-    if (kind == 2) reply = 36;
-    uint64_t value = 0;
-    bool start = false;
-    if (kind == 0) {
-        switch (item) {
-        case 0x18:
-            if (m[5] == 1) break;
-            if (m[5] != 2 || m[4] != 0x80 || !mode_allowed(m[6])) return 16;
-            if (s->running && m[6] != s->mode) return 17;
-            start = !s->running;
-            break;
-        case 0x20: if (!frequency_allowed(value = get(m + 5, 5))) return 16; break;
-        case 0x38: if (!gain_allowed(value = m[5])) return 16; break;
-        case 0xB0: if (!clock_allowed(value = get(m + 5, 4))) return 16; break;
-        case 0xB8:
-            value = get(m + 5, 4);
-            if (value < 32000 || value > 2000000) return 16;
-            if (s->running) return 17;
-            break;
-        case 0xC4:
-            if ((value = m[4]) > 1) return 16;
-            if (s->running) return 17;
-            break;
-        }
-    } else if (item == 0x04 && channel > 3) {
-        return 16;
-    }
-    if (room < reply) return 20;
-    if (kind == 0) {
-        switch (item) {
-        case 0x18:
-            if (m[5] == 1) s->running = false;
-            else if (start) s->running = true, s->mode = m[6], s->count = 0;
-            break;
-        case 0x20: s->frequency = value; break;
-        case 0x38: s->gain = value; break;
-        case 0xB0: s->clock = value; break;
-        case 0xB8: s->divisor = nearest(value); break;
-        case 0xC4: s->size = value; break;
-        }
-    }
-    *wrote = reply;
-    put(out, reply | (kind == 2 ? 0x4000 : 0), 2);
-    put(out + 2, item, 2);
-    if (kind == 2) {
-        out[4] = channel;
+    put(out, a->reply | (a->kind == RANGE ? 0x4000 : 0), 2);
+    put(out + 2, a->item, 2);
+    if (a->kind == RANGE) {
+        out[4] = a->channel;
         out[5] = 2;
         put(out + 6, 100000, 5);
         put(out + 11, 34000000, 5);
@@ -160,30 +227,43 @@ static int control(struct station *s, unsigned kind, const uint8_t *m, size_t n,
         put(out + 21, 140000000, 5);
         put(out + 26, 150000000, 5);
         put(out + 31, 160000000, 5);
-        return 1;
+        return;
     }
-    out[4] = channel;
-    switch (item) {
-    case 0x01: memcpy(out + 4, "NetSDR", 7); break;
-    case 0x02: memcpy(out + 4, s->serial, 8); out[12] = 0; break;
-    case 0x03: put(out + 4, 105, 2); break;
-    case 0x04: memcpy(out + 5, versions[channel], 2); break;
-    case 0x05: out[4] = s->running ? 0x0C : 0x0B; break;
-    case 0x18: out[4] = 0x80; out[5] = s->running ? 2 : 1; out[6] = s->mode; out[7] = 0; break;
-    case 0x20: put(out + 5, s->frequency, 5); break;
-    case 0x38: out[5] = s->gain; break;
-    case 0xB0: put(out + 5, s->clock, 4); break;
-    case 0xB8: put(out + 5, achieved(s->divisor), 4); break;
-    case 0xC4: out[4] = s->size; break;
+    out[4] = a->channel;
+    switch (a->item) {
+    case NAME: memcpy(out + 4, "NetSDR", 7); break;
+    case SERIAL: memcpy(out + 4, s->serial, 8); out[12] = 0; break;
+    case INTERFACE: put(out + 4, 105, 2); break;
+    case VERSIONS: memcpy(out + 5, versions[a->channel], 2); break;
+    case STATUS: out[4] = s->running ? 0x0C : 0x0B; break;
+    case STATE: out[4] = COMPLEX; out[5] = s->running ? RUN : IDLE; out[6] = s->mode; out[7] = 0; break;
+    case FREQUENCY: put(out + 5, s->frequency, 5); break;
+    case GAIN: out[5] = s->gain; break;
+    case CLOCK: put(out + 5, s->clock, 4); break;
+    case RATE: put(out + 5, achieved(s->divisor), 4); break;
+    case PACKET_SIZE: out[4] = s->size; break;
     }
-    return 1;
 }
 
-static int feed(struct station *s, const uint8_t *host, size_t n, uint8_t *reply, size_t room, size_t *consumed,
-                size_t *wrote)
+/* The answer to a control message of 4 to 64 bytes, in `out`: its code, and its length in *wrote. Where `out` is too short
+   nothing is changed and the code is 20. */
+static enum code control(struct station *s, unsigned kind, const uint8_t *m, size_t n, uint8_t *out, size_t room, size_t *wrote)
+{
+    struct asked a = {0};
+    enum code code = judge(s, kind, m, n, &a);
+    if (code != DONE) return code;
+    if (room < a.reply) return NO_ROOM;
+    if (kind == SET) store(s, &a);
+    *wrote = a.reply;
+    write_reply(s, &a, out);
+    return DONE;
+}
+
+static enum code feed(struct station *s, const uint8_t *host, size_t n, uint8_t *reply, size_t room, size_t *consumed,
+                      size_t *wrote)
 {
     *consumed = *wrote = 0;
-    if (!sound(s)) return 21;
+    if (!sound(s)) return BROKEN;
     size_t had = s->taken, missing = 0;
     unsigned header = 0;
     bool whole = false;
@@ -196,7 +276,7 @@ static int feed(struct station *s, const uint8_t *host, size_t n, uint8_t *reply
         if (had < HELD) memcpy(s->held + had, host, n < HELD - had ? n : HELD - had);
         s->taken += n;
         *consumed = n;
-        return 0;
+        return WAITING;
     }
     uint8_t joined[HELD];
     const uint8_t *m = host;
@@ -206,16 +286,17 @@ static int feed(struct station *s, const uint8_t *host, size_t n, uint8_t *reply
         m = joined;
     }
     unsigned kind = header >> 13, length = header & 0x1FFF;
-    int code;
-    if ((kind == 0 && length == 2) || (kind >= 4 && length != 1) || (kind == 3 && length == 3 && m[2] <= 3)) code = 2;
-    else if (length < 4 || kind >= 3) code = 11;
-    else if (length > 64) code = 10;
+    enum code code;
+    if ((kind == SET && length == 2) || (kind >= DATA && length != 1) || (kind == ACKNOWLEDGEMENT && length == 3 && m[2] <= 3))
+        code = NO_REPLY_DUE;
+    else if (length < 4 || kind >= ACKNOWLEDGEMENT) code = BAD_HEADER;
+    else if (length > 64) code = TOO_LONG;
     else code = control(s, kind, m, length, reply, room, wrote);
-    if (code >= 10 && code < 20) {
-        if (room < 2) code = 20;
+    if (TOO_LONG <= code && code <= NOT_WHILE_RUNNING) {
+        if (room < 2) code = NO_ROOM;
         else reply[0] = 2, reply[1] = 0, *wrote = 2;
     }
-    if (code == 20) return 20;
+    if (code == NO_ROOM) return NO_ROOM;
     *consumed = missing;
     if (had > 0) {
         memset(s->held, 0, HELD);
@@ -279,24 +360,24 @@ int peer_feed(uint8_t *state, size_t bytes, const uint8_t *host, size_t n, uint8
 {
     struct station s;
     *consumed = *wrote = 0;
-    if (bytes != STATION_BYTES) return 21;
+    if (bytes != STATION_BYTES) return BROKEN;
     station_in(&s, state);
-    int code = feed(&s, host, n, reply, room, consumed, wrote);
-    if (code < 20) put_station(state, &s);
+    enum code code = feed(&s, host, n, reply, room, consumed, wrote);
+    if (code < NO_ROOM) put_station(state, &s);
     return code;
 }
 #endif
 
 static uint16_t number_at(uint64_t position) { return position == 0 ? 0 : (position - 1) % 65535 + 1; }
 
-static int cut(struct station *s, const int32_t *samples, size_t n, uint8_t *packet, size_t room, size_t *wrote)
+static enum code cut(struct station *s, const int32_t *samples, size_t n, uint8_t *packet, size_t room, size_t *wrote)
 {
     *wrote = 0;
-    if (!sound(s)) return 21;
-    if (!s->running) return 22;
-    if (s->count == 4000000000u) return 25;
+    if (!sound(s)) return BROKEN;
+    if (!s->running) return WHILE_IDLE;
+    if (s->count == 4000000000u) return CAPTURE_FULL;
     size_t pairs = s->mode ? (s->size ? 64 : 240) : (s->size ? 128 : 256);
-    if (n != 2 * pairs) return 23;
+    if (n != 2 * pairs) return WRONG_COUNT;
     /* the least and the greatest: gcc makes no vectors of a flag */
     int32_t least = 0, greatest = 0;
     for (size_t i = 0; i < n; i++) {
@@ -304,9 +385,9 @@ static int cut(struct station *s, const int32_t *samples, size_t n, uint8_t *pac
         least = x < least ? x : least;
         greatest = x > greatest ? x : greatest;
     }
-    if (least < -8388608 || greatest > 8388607) return 24;
+    if (least < -8388608 || greatest > 8388607) return NOT_A_SAMPLE;
     size_t total = 4 + n * (s->mode ? 3 : 2);
-    if (room < total) return 20;
+    if (room < total) return NO_ROOM;
     put(packet, 0x8000 | total, 2);
     put(packet + 2, number_at(s->count), 2);
     uint8_t *at = packet + 4;
@@ -325,7 +406,7 @@ static int cut(struct station *s, const int32_t *samples, size_t n, uint8_t *pac
     }
     s->count++;
     *wrote = total;
-    return 1;
+    return DONE;
 }
 
 /* Cuts packets from a run of samples with a box that has just been started; how many. */
@@ -337,7 +418,7 @@ size_t peer_cut_run(uint8_t mode, uint8_t size, const int32_t *samples, size_t n
     s.running = true;
     s.mode = mode;
     s.size = size;
-    while (n >= 2 * pairs && cut(&s, samples, 2 * pairs, packets + at, room - at, &wrote) == 1) {
+    while (n >= 2 * pairs && cut(&s, samples, 2 * pairs, packets + at, room - at, &wrote) == DONE) {
         samples += 2 * pairs;
         n -= 2 * pairs;
         at += wrote;
@@ -358,29 +439,29 @@ static bool form_of(const uint8_t *packet, size_t n, uint64_t *bits, uint64_t *p
     return false;
 }
 
-static int read_packet(struct reader *r, const uint8_t *packet, size_t n, uint64_t *position, uint64_t *sample)
+static enum code read_packet(struct reader *r, const uint8_t *packet, size_t n, uint64_t *position, uint64_t *sample)
 {
     uint64_t bits, pairs, at = 0;
     if (r->heard) {
         bool listed = (r->bits == 24 && (r->pairs == 240 || r->pairs == 64))
             || (r->bits == 16 && (r->pairs == 256 || r->pairs == 128));
-        if (r->position > 3999999999u || !listed) return 21;
+        if (r->position > 3999999999u || !listed) return BROKEN;
     } else if (r->position || r->bits || r->pairs) {
-        return 21;
+        return BROKEN;
     }
-    if (!form_of(packet, n, &bits, &pairs)) return 30;
+    if (!form_of(packet, n, &bits, &pairs)) return NOT_A_PACKET;
     uint16_t number = packet[2] | packet[3] << 8;
     if (number) {
-        if (!r->heard) return 31;
-        if (bits != r->bits || pairs != r->pairs) return 32;
+        if (!r->heard) return NO_FIRST_PACKET;
+        if (bits != r->bits || pairs != r->pairs) return FORM_CHANGED;
         uint16_t last = number_at(r->position);
         at = r->position + number - last + (number > last ? 0 : 65535);
-        if (at > 3999999999u) return 33;
+        if (at > 3999999999u) return PAST_LAST;
     }
     *r = (struct reader){true, at, bits, pairs};
     *position = at;
     *sample = at * pairs;
-    return 1;
+    return DONE;
 }
 
 /* Reads packets of one length one after another by a new reader, to the first that is refused: the position of the last
@@ -389,7 +470,7 @@ uint64_t peer_read_run(const uint8_t *packets, size_t n, size_t total)
 {
     struct reader r = {0};
     uint64_t position, sample = 0;
-    while (n >= total && read_packet(&r, packets, total, &position, &sample) == 1) {
+    while (n >= total && read_packet(&r, packets, total, &position, &sample) == DONE) {
         packets += total;
         n -= total;
     }
@@ -399,8 +480,8 @@ uint64_t peer_read_run(const uint8_t *packets, size_t n, size_t total)
 int peer_unpack(const uint8_t *packet, size_t n, int32_t *numbers, size_t room)
 {
     uint64_t bits, pairs;
-    if (!form_of(packet, n, &bits, &pairs)) return 30;
-    if (room < 2 * pairs) return 20;
+    if (!form_of(packet, n, &bits, &pairs)) return NOT_A_PACKET;
+    if (room < 2 * pairs) return NO_ROOM;
     const uint8_t *at = packet + 4;
     if (bits == 24) {
         for (size_t i = 0; i < 2 * pairs; i++)
@@ -412,5 +493,5 @@ int peer_unpack(const uint8_t *packet, size_t n, int32_t *numbers, size_t room)
             numbers[i] = x;
         }
     }
-    return 1;
+    return DONE;
 }

@@ -8,6 +8,7 @@ use lib.IntN.{ℤ, negsuc}
 use lib.ListN.{replicate}
 use Rattle.wire.specs.Number.{field}
 use Rattle.wire.specs.Header.{nak}
+use Rattle.wire.specs.Codes as Code
 use Rattle.wire.specs.Lists.{same}
 use Rattle.wire.specs.Signed.{signed, sameInteger}
 use Rattle.rates.specs.Rate.{nearestOf, rateOf, mayAsk}
@@ -54,11 +55,11 @@ pub data Example : Type 0 where
   packs : ℕ → ℤ → List ℕ → Example
 
 abbrev pub holds : Example → Bool
-holds (gives message reply) = eqb (does message .fed .code) 1 && same (does message .bytes) reply
+holds (gives message reply) = eqb (does message .fed .code) Code.done && same (does message .bytes) reply
 holds (tunes message hz) = same (does message .bytes) message && eqb (settingsBy message .frequency) hz
 holds (hasWord hz clock word) = eqb (wordOf hz clock) word
 holds (asksFor message hz) = eqb (field 5 5 message) hz
-holds (unanswered message) = eqb (does message .fed .code) 2 && same (does message .bytes) []
+holds (unanswered message) = eqb (does message .fed .code) Code.noReplyDue && same (does message .bytes) []
 holds (getsCode message code) = eqb (does message .fed .code) code && same (does message .bytes) nak
 holds (gains message db) = same (does message .bytes) message && sameInteger (signed 8 (settingsBy message .gain)) db
 holds (givesRate hz d achieved) = mayAsk hz && eqb (nearestOf hz) d && eqb (rateOf d) achieved

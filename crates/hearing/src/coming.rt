@@ -81,28 +81,23 @@ fn code_of(f: Form, t: Tally) -> u8
     requires { ⌜ t .position ≤ last ⌝ }
     ensures { λ r. ⌜ r ≡ heardCode f t ⌝ }
 {
-    let now = packets::form_of_header(t.header);
-    let known = packets::is_listed(now);
-    let total = packets::total_of(now);
-    let same = packets::same_form(now, f);
-    let no_first = lacks_first(t);
-    let position = position_now(t);
     if t.taken < 2 {
         return codes::WAITING;
     }
-    if !known {
+    let now = packets::form_of_header(t.header);
+    if !packets::is_listed(now) {
         return codes::NOT_A_PACKET;
     }
-    if t.taken < total {
+    if t.taken < packets::total_of(now) {
         return codes::WAITING;
     }
-    if !same {
+    if !packets::same_form(now, f) {
         return codes::FORM_CHANGED;
     }
-    if no_first {
+    if lacks_first(t) {
         return codes::NO_FIRST_PACKET;
     }
-    if packets::LAST < position {
+    if packets::LAST < position_now(t) {
         return codes::PAST_LAST;
     }
     codes::DONE

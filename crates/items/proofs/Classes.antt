@@ -1,7 +1,8 @@
 -- The header's classes of length, for the three kinds of control messages.
 use Prim.Native.Nat.{ℕ, zero, suc, _≤_, _<_}
-use mathlib.Core.Path.{_≡_, refl}
+use mathlib.Core.Path.{_≡_, refl, sym, _∙_}
 use native.Mathlib.Omega.{arith}
+use native.Mathlib.Decide.{ℕ-discrete}
 use mathlib.Core.Bool.{false, or-true, and-false}
 use lib.Dec.{eqb, ltb}
 use borrow.Author.Tests.{ne-eqb, le-ltb, lt-ltb, le-leb, lt-leb}
@@ -65,11 +66,15 @@ unnamed kind size named k =
 pub other : (size named : ℕ) → (size ≡ 3 → ⊥) → 11 ≡ firstOf (headerChecks 3 size named) 1
 other size named h = simp (ne-eqb size 3 h, or-true)
 
--- a data item of length 1
-pub data-one : (kind named : ℕ) → 4 ≤ kind → 11 ≡ firstOf (headerChecks kind 1 named) 1
-data-one kind named h = refl
-
--- a data item of another length
+-- a data item of another length than 1
 pub data-other : (kind size named : ℕ) → 4 ≤ kind → (size ≡ 1 → ⊥) → 2 ≡ firstOf (headerChecks kind size named) 1
 data-other kind size named h w =
     simp (ne-eqb kind 0 (λ e. omega arith), ne-eqb kind 3 (λ e. omega arith), lt-leb kind 3 (omega arith), lt-leb kind 2 (omega arith), le-leb 4 kind h, ne-eqb size 1 w, and-false)
+
+-- the four types of data items have the same code, and their third byte names nothing
+pub data-alike : (kind size named : ℕ) → 4 ≤ kind → firstOf (headerChecks 4 size 0) 1 ≡ firstOf (headerChecks kind size named) 1
+data-alike kind size named h =
+    elim (ℕ-discrete size 1) [
+      | yes e ↦ rw e refl
+      | no w ↦ sym (data-other 4 size 0 (omega arith) w) ∙ data-other kind size named h w
+    ]

@@ -3,7 +3,7 @@ ghost use mathlib.Core.Path.{_≡_};
 ghost use Prim.Native.Nat.{_≤_};
 ghost use Rattle.wire.specs.Choice.{firstOf};
 ghost use Rattle.wire.specs.Codes as Code;
-ghost use Rattle.wire.specs.Header.{typeAcknowledgement};
+ghost use Rattle.wire.specs.Header.{typeAcknowledgement, typeData};
 ghost use Rattle.items.specs.Header.{headerChecks};
 use wire::codes;
 use wire::types;
@@ -16,13 +16,7 @@ pub fn header_code(kind: u8, size: u16, named: u8) -> u8
     match kind {
         types::SET..=types::RANGE => control_code(kind, size),
         types::ACKNOWLEDGEMENT => acknowledgement_code(size, named),
-        // data items "of every length but 1" are unanswered
-        _ => {
-            if size == 1 {
-                return codes::BAD_HEADER;
-            }
-            codes::NO_REPLY_DUE
-        }
+        _ => data_code(size),
     }
 }
 
@@ -33,12 +27,10 @@ fn control_code(kind: u8, size: u16) -> u8
 {
     match size {
         0 | 1 => codes::BAD_HEADER,
-        2 => {
-            if kind == types::SET {
-                return codes::NO_REPLY_DUE;
-            }
-            codes::BAD_HEADER
-        }
+        2 => match kind {
+            types::SET => codes::NO_REPLY_DUE,
+            _ => codes::BAD_HEADER,
+        },
         3 => codes::BAD_HEADER,
         4..=64 => codes::DONE,
         _ => codes::TOO_LONG,
@@ -49,11 +41,21 @@ fn control_code(kind: u8, size: u16) -> u8
 fn acknowledgement_code(size: u16, named: u8) -> u8
     ensures { λ r. ⌜ r ≡ firstOf (headerChecks typeAcknowledgement size named) Code.done ⌝ }
 {
-    if size == 3 {
-        if named <= 3 {
-            return codes::NO_REPLY_DUE;
-        }
-        return codes::BAD_HEADER;
+    match size {
+        3 => match named {
+            0..=3 => codes::NO_REPLY_DUE,
+            _ => codes::BAD_HEADER,
+        },
+        _ => codes::BAD_HEADER,
     }
-    codes::BAD_HEADER
+}
+
+// A data item: "of every length but 1" it is unanswered.
+fn data_code(size: u16) -> u8
+    ensures { λ r. ⌜ r ≡ firstOf (headerChecks typeData size 0) Code.done ⌝ }
+{
+    match size {
+        1 => codes::BAD_HEADER,
+        _ => codes::NO_REPLY_DUE,
+    }
 }

@@ -1,4 +1,4 @@
-// What a set of each item does. The readers are handed the message's parameters, its bytes from the fifth on.
+// What a set of each item does. The readers are handed the message's parameters as a part starting at byte four.
 ghost use mathlib.Core.Path.{_≡_};
 ghost use mathlib.Core.List.{[], _∷_};
 ghost use Prim.Native.Nat.{_≤_};

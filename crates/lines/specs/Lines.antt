@@ -12,7 +12,7 @@ abbrev pub lastDigit : ℕ → ℕ
 lastDigit n = 48 + n % 10
 
 -- A number in decimal, with no zeros in front. The first argument is a bound on the digits after the first: a number has
--- fewer digits than it counts, so the number itself serves.
+-- no more of them than it counts, so the number itself serves.
 unfoldable pub digitsIn : ℕ → ℕ → List ℕ
 digitsIn zero n = lastDigit n ∷ []
 digitsIn (suc k) n = pick (ltb n 10) (lastDigit n ∷ []) (digitsIn k (n / 10) ++ lastDigit n ∷ [])

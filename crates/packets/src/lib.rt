@@ -49,7 +49,7 @@ pub fn form_for(mode: u8, size: u8) -> Form
                 bits: 24,
                 pairs: 64,
             },
-            _ => Form { bits: 0, pairs: 0 },
+            _ => no_form(),
         },
         MODE_16 => match size {
             LARGE => Form {
@@ -60,9 +60,9 @@ pub fn form_for(mode: u8, size: u8) -> Form
                 bits: 16,
                 pairs: 128,
             },
-            _ => Form { bits: 0, pairs: 0 },
+            _ => no_form(),
         },
-        _ => Form { bits: 0, pairs: 0 },
+        _ => no_form(),
     }
 }
 
@@ -128,7 +128,7 @@ pub fn form_of_header(header: u16) -> Form
             bits: 16,
             pairs: 128,
         },
-        _ => Form { bits: 0, pairs: 0 },
+        _ => no_form(),
     }
 }
 

@@ -33,7 +33,7 @@ pub record Awaited : Type 0 where
 abbrev pub value : ℕ → (ℕ → Bool) → (ℕ → Reply) → Awaited
 value width could says = record { width = width; could = could; says = says }
 
--- 0002 serial: eight characters and a zero byte
+-- 0002 serial: eight characters and a zero byte (below 256 ^ 8: the ninth byte is zero)
 abbrev pub holdsSerial : ℕ → Bool
 holdsSerial n = allSerial (bytes 8 n) && ltb n (256 ^ 8)
 

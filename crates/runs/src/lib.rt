@@ -3,7 +3,6 @@
 use station::Station;
 use wire::codes;
 ghost use mathlib.Core.Path.{_≡_};
-ghost use Prim.Native.Nat.{min};
 ghost use lib.ListN.{length};
 ghost use lib.Seq.{sets};
 ghost use Rattle.runs.specs.Cutting.{started, cutRun};
@@ -51,12 +50,6 @@ fn started(mode: u8, size: u8) -> Station
     Station { settings, store }
 }
 
-fn lesser(a: usize, b: usize) -> usize
-    ensures { λ r. ⌜ r ≡ min a b ⌝ }
-{
-    if a < b { a } else { b }
-}
-
 // Cuts packets of n samples and `total` bytes one after another by a box that was just started with a mode and a size, as
 // many as there are samples and room for, to the first that it refuses. Answers how many it cut.
 #[no_mangle]
@@ -77,7 +70,7 @@ pub extern "C" fn skvornela_cut_run(
         return 0;
     }
     let mut s = started(mode, size);
-    let mut left = lesser(samples.len() / n, out.len() / total);
+    let mut left = wire::lesser(samples.len() / n, out.len() / total);
     let mut count: usize = 0;
     let mut i: usize = 0;
     let mut at: usize = 0;

@@ -18,7 +18,7 @@ mayPack f samples room = listed f && eqb (length samples) (2 * f .pairs) && leb 
 abbrev pub packedOf : Form → List ℤ → ℕ → List ℕ
 packedOf f samples room = pick (mayPack f samples room) (samplesBytes (f .bits) samples) []
 
--- A packet of a listed form is unpacked that is as long as its form says, into a slice that has room for all its samples.
+-- A packet of a listed form is unpacked that is at least as long as its form says, into a slice that has room for all its samples.
 abbrev pub mayUnpack : Form → ℕ → ℕ → Bool
 mayUnpack f size room = listed f && leb (totalOf f) size && leb (2 * f .pairs) room
 

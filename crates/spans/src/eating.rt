@@ -1,24 +1,21 @@
 // A span takes its input in pieces.
 ghost use mathlib.Core.Path.{_≡_};
-ghost use Prim.Native.Nat.{_-_, _<_, _≤_, min};
-ghost use mathlib.Core.Bool.{true, false};
+ghost use Prim.Native.Nat.{_<_};
+ghost use mathlib.Core.Bool.{true};
 ghost use lib.ListN.{length};
 ghost use lib.Seq.{sets};
-ghost use Rattle.packets.specs.Numbers.{last};
 ghost use Rattle.heads.specs.Head.{allowed, headLength};
-ghost use Rattle.heads.specs.Head.{readCode as headCode};
-ghost use Rattle.lines.specs.Due.{dueLines, sized};
 ghost use Rattle.hearing.specs.Hearing.{inRange};
-ghost use Rattle.spans.specs.Eating.{freshSpan, headOk, validSpan, headOf, headTaken, headLines, heardLines, lastLines, refused, headRead, withTally, opening, listening, eatingOf, finishingOf};
-ghost use Rattle.spans.specs.Inside.{dueNow};
+ghost use Rattle.spans.specs.Eating.{freshSpan, validSpan, headOf, refused, headRead, withTally, opening, listening, eatingOf, finishingOf};
 use crate::Eaten;
 use crate::Span;
-use heads::Head;
-use heads::Opened;
-use hearing::Reach;
+use crate::due::head_due;
+use crate::due::heard_due;
+use crate::due::last_due;
+use crate::head::head_code;
+use crate::head::head_ok;
+use crate::head::take_head;
 use hearing::Tally;
-use lines::Due;
-use lines::Ending;
 use lines::Told;
 use wire::codes;
 
@@ -42,32 +39,6 @@ pub fn fresh() -> Span
     }
 }
 
-// The code with which a head reads.
-fn head_code(s: &[u8]) -> u8
-    ensures { λ r. ⌜ r ≡ headCode (now (s .entry)) ⌝ }
-{
-    let o = heads::read_head(s);
-    match o {
-        Opened::Head(_) => codes::DONE,
-        Opened::NotAHead => codes::NOT_A_HEAD,
-        Opened::OtherVersion => codes::OTHER_VERSION,
-    }
-}
-
-// Whether the head is still coming, or is whole and one that is read.
-fn head_ok(s: Span) -> bool
-    ensures { λ r. ⌜ r ≡ headOk s ⌝ }
-{
-    if s.taken < heads::LENGTH {
-        return true;
-    }
-    if s.taken != heads::LENGTH {
-        return false;
-    }
-    let held = s.held;
-    head_code(&held) == codes::DONE
-}
-
 // Whether a span is not broken: no count of it is out of its range, and no whole head of it is refused.
 fn is_valid(s: Span) -> bool
     ensures { λ r. ⌜ r ≡ validSpan s ⌝ }
@@ -79,31 +50,6 @@ fn is_valid(s: Span) -> bool
         return false;
     }
     head_ok(s)
-}
-
-// The lesser of two counts.
-fn lesser(a: usize, b: usize) -> usize
-    ensures { λ r. ⌜ r ≡ min a b ⌝ }
-{
-    if a < b { a } else { b }
-}
-
-// The span with the bytes that its head lacks taken of a piece.
-fn take_head(s: Span, piece: &[u8]) -> Span
-    requires { ⌜ s .taken < headLength ⌝ }
-    ensures { λ r. ⌜ r ≡ headTaken s (now (piece .entry)) ⌝ }
-{
-    let taken = s.taken;
-    let k = lesser(heads::LENGTH - taken, piece.len());
-    let mut held = s.held;
-    wire::copy(&piece[..k], &mut held, taken);
-    let tally = s.tally;
-    Span {
-        stopped: false,
-        taken: taken + k,
-        held,
-        tally,
-    }
 }
 
 // What a code from 20 answers: nothing is consumed, and the span is the one given.
@@ -118,86 +64,17 @@ fn refuse(code: u8, s: Span) -> Eaten
     }
 }
 
-// The opening line, and what comes behind it; no capture has ended.
-fn opening_due(ending: Ending) -> Due
-    ensures { λ r.
-        ⌜ r
-        ≡ record { opening = true; capture = 0; bits = 0; pairs = 0; divisor = 0; heard = 0; position = 0; ending = ending } ⌝ }
+// The span with a tally, that goes on or has stopped.
+fn with_tally(stopped: bool, s: Span, t: Tally) -> Span
+    ensures { λ r. ⌜ r ≡ withTally stopped s t ⌝ }
 {
-    Due {
-        opening: true,
-        capture: 0,
-        bits: 0,
-        pairs: 0,
-        divisor: 0,
-        heard: 0,
-        position: 0,
-        ending,
-    }
-}
-
-// The lines after a whole head that reads with a code.
-fn head_due(code: u8) -> Due
-    ensures { λ r. ⌜ (dueLines r ≡ headLines code) × (sized r ≡ true) ⌝ }
-{
-    if code == codes::DONE {
-        return opening_due(Ending::Nothing);
-    }
-    opening_due(Ending::Refusal { code, offset: 0 })
-}
-
-// The line of the open capture, and what comes behind it.
-fn ended_due(h: Head, t: Tally, ending: Ending) -> Due
-    ensures { λ r. ⌜ r ≡ dueNow h t ending ⌝ }
-{
-    let f = heads::form_in(h);
-    Due {
-        opening: false,
-        capture: t.captures,
-        bits: f.bits,
-        pairs: f.pairs,
-        divisor: h.divisor as u64,
-        heard: t.heard,
-        position: t.position,
-        ending,
-    }
-}
-
-// The lines that are due where hearing a piece was cut short.
-fn heard_due(h: Head, r: Reach) -> Due
-    requires { ⌜ (allowed h ≡ true) × (r .tally .position ≤ last) ⌝ }
-    ensures { λ d. ⌜ (dueLines d ≡ heardLines h r) × (sized d ≡ true) ⌝ }
-{
-    let t = r.tally;
-    if r.code == codes::DONE {
-        return ended_due(h, t, Ending::Nothing);
-    }
-    let refusal = Ending::Refusal {
-        code: r.code,
-        offset: t.begins,
-    };
-    ended_due(h, t, refusal)
-}
-
-// The lines that the end of the input brings.
-fn last_due(s: Span) -> Due
-    requires { ⌜ (s .tally .position ≤ last) × (headLength ≤ s .taken → allowed (headOf s) ≡ true) ⌝ }
-    ensures { λ d. ⌜ (dueLines d ≡ lastLines s) × (sized d ≡ true) ⌝ }
-{
-    if s.taken < heads::LENGTH {
-        return head_due(codes::NOT_A_HEAD);
-    }
     let held = s.held;
-    let h = heads::head_in(&held);
-    let t = s.tally;
-    if t.taken == 0 {
-        return ended_due(h, t, Ending::Captures(t.captures));
+    Span {
+        stopped,
+        taken: s.taken,
+        held,
+        tally: t,
     }
-    let refusal = Ending::Refusal {
-        code: codes::NOT_A_PACKET,
-        offset: t.begins,
-    };
-    ended_due(h, t, refusal)
 }
 
 // The span after a whole head that reads with a code.
@@ -227,6 +104,7 @@ fn open(s: Span, piece: &[u8], out: &mut [u8]) -> Eaten
     let held = after.held;
     let code = head_code(&held);
     let told = lines::tell(head_due(code), out);
+    // 16 cannot come: the numbers are a capture's
     if told.code == codes::NO_ROOM {
         return refuse(codes::NO_ROOM, s);
     }
@@ -235,19 +113,6 @@ fn open(s: Span, piece: &[u8], out: &mut [u8]) -> Eaten
         consumed: k,
         wrote: told.wrote,
         span: after_head(code, after),
-    }
-}
-
-// The span with a tally, that goes on or has stopped.
-fn with_tally(stopped: bool, s: Span, t: Tally) -> Span
-    ensures { λ r. ⌜ r ≡ withTally stopped s t ⌝ }
-{
-    let held = s.held;
-    Span {
-        stopped,
-        taken: s.taken,
-        held,
-        tally: t,
     }
 }
 
@@ -271,6 +136,7 @@ fn listen(s: Span, piece: &[u8], out: &mut [u8]) -> Eaten
         };
     }
     let told = lines::tell(heard_due(h, r), out);
+    // 16 cannot come: the numbers are a capture's
     if told.code == codes::NO_ROOM {
         return refuse(codes::NO_ROOM, s);
     }

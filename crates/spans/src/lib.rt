@@ -1,5 +1,7 @@
 // The span program's work: it takes the bytes of a capture as they come, and writes the lines that are to be printed.
+mod due;
 mod eating;
+mod head;
 
 pub use eating::eat;
 pub use eating::finish;

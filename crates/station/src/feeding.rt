@@ -13,7 +13,8 @@ use items::Settings;
 use wire::codes;
 
 // Takes the host's bytes up to the end of one message, and answers it. Of a valid box, with room for 64 bytes, calling
-// again with the bytes that are left comes to the same replies and the same box however they are cut (Serving).
+// again with the bytes that are left comes to the same replies and the same box however they are cut (proofs/Serving:
+// `cuts-do-not-matter`).
 pub fn feed(s: Station, host: &[u8], reply: &mut [u8]) -> Fed
     ensures { λ r. do
       room ← ⟦reply.len()⟧ .entry

@@ -72,6 +72,7 @@ pub fn tuning_word(s: Station) -> Tuning
     let settings = s.settings;
     match tuning::word_of(settings.frequency, settings.clock) {
         tuning::Word::Is(w) => Tuning::Word(w),
+        // this never comes up: a valid box always has a word
         tuning::Word::NotAllowed => Tuning::Broken,
     }
 }

@@ -17,8 +17,9 @@ pub extern "C" fn skvornela_serve(host: &[u8], replies: &mut [u8]) -> usize
     let mut s = began.station;
     let mut i: usize = 0;
     let mut at: usize = 0;
-    let mut left = host.len();
-    while 0 < left {
+    // A proved loop has to end: each call consumes a byte or more, so as many calls as there are bytes are enough.
+    let mut calls = host.len();
+    while 0 < calls {
         if host.len() <= i {
             return at;
         }
@@ -30,7 +31,7 @@ pub extern "C" fn skvornela_serve(host: &[u8], replies: &mut [u8]) -> usize
         s = after;
         i += f.consumed;
         at += f.wrote;
-        left -= 1;
+        calls -= 1;
     }
     at
 }

@@ -30,20 +30,17 @@ mod peer {
 fn feed(rounds: usize) {
     let host = talk();
     let room = MESSAGES * MESSAGE + 64;
-    let mut results = Vec::new();
-    {
-        let (mut a, mut b, mut c) = (vec![0; room], vec![0; room], vec![0; room]);
-        let mut runners = runners(
-            || proved_serve(&host, &mut a),
-            || station::serve(black_box(&host), &mut b) as u64,
-            || c_serve(&host, &mut c),
-        );
-        results.extend(best(&mut runners, MESSAGES as f64, rounds));
-        drop(runners);
-        assert!(digest(&b) == digest(&c) || c_absent());
-        assert!(digest(&b) == digest(&a) || proved_absent());
-    }
-    row("feed, a set-frequency message", &results, Some(1.0));
+    let (mut a, mut b, mut c) = (vec![0; room], vec![0; room], vec![0; room]);
+    let mut runners = runners(
+        || proved_serve(&host, &mut a),
+        || station::serve(black_box(&host), &mut b) as u64,
+        || c_serve(&host, &mut c),
+    );
+    let found = best(&mut runners, MESSAGES as f64, rounds);
+    drop(runners);
+    assert!(digest(&b) == digest(&c) || c_absent());
+    assert!(digest(&b) == digest(&a) || proved_absent());
+    row("feed, a set-frequency message", &found, Some(1.0));
 }
 
 const PACKETS: usize = 16;

@@ -31,9 +31,23 @@ put-header-and-item-requires c κs =
 cast-width : tie.Need-cast-width
 cast-width c = search needs
 
+-- the places on the way to what is written behind the head: the call, its size, that there is room, the header
+abbrev headed : tie.After-put-header-and-item → tie.After-header-of
+headed c = c .before
+
+abbrev roomy : tie.After-put-header-and-item → tie.Else1
+roomy c = headed c .before .before
+
+abbrev sized : tie.After-put-header-and-item → tie.After-size-of
+sized c = roomy c .before
+
+abbrev start : tie.After-put-header-and-item → tie.Start
+start c = sized c .before .before
+
 slice-write-dst : tie.Need-slice-write-dst
 slice-write-dst c =
-    omega (arith, c .before .before .before .before .put-header-and-item .kept .0, c .before .before .before .before .before .before .before .before .size-of .ensures, echoing (c .before .before .before .before .before .before .before .before .before .before .args .a) (c .if2 .taken))
+    let h = c .before .before .before .before in
+    omega (arith, h .put-header-and-item .kept .0, sized h .size-of .ensures, echoing (start h .args .a) (c .if2 .taken))
 
 put-requires : tie.Need-put-requires
 put-requires c κs = search needs
@@ -43,11 +57,11 @@ same-length c = c .before .before .put .kept .0 ∙ simp length-set (c .before .
 
 returns-2 : tie.Need-returns-2
 returns-2 c =
-    let s = c .before .before .before .before .before .before .before .before .before .before .before .before .before .before in
-    let size = c .before .before .before .before .before .before .before .before .before .before .before .before .size-of in
-    put-echoed (now (s .args .dst)) (s .args .a) (size .result) (c .before .before .before .before .before .before .before .before .before .header-of .result) (c .before .before .before .before .before .before .before .before .put-header-and-item .last .0) (c .before .before .put .last .0)
-    (size .ensures) (c .before .before .before .before .before .before .before .before .before .before .before .if1 .left) (c .before .before .before .before .before .before .before .before .before .header-of .ensures) (c .before .before .before .before .before .before .before .before .put-header-and-item .ensures) (c .before .before .before .before .if2 .taken)
-    (c .before .before .put .ensures)
+    let p = c .before .before in
+    let echo = p .before .before in
+    let h = echo .before .before .before .before in
+    put-echoed (now (start h .args .dst)) (start h .args .a) (sized h .size-of .result) (headed h .header-of .result) (h .put-header-and-item .last .0) (p .put .last .0)
+    (sized h .size-of .ensures) (roomy h .if1 .left) (headed h .header-of .ensures) (h .put-header-and-item .ensures) (echo .if2 .taken) (p .put .ensures)
 
 put-requires-2 : tie.Need-put-requires-2
 put-requires-2 c κs = search needs
@@ -57,11 +71,11 @@ same-length-2 c = search needs
 
 returns-3 : tie.Need-returns-3
 returns-3 c =
-    let s = c .before .before .before .before .before .before .before .before .before .before .before .before .before .before in
-    let size = c .before .before .before .before .before .before .before .before .before .before .before .before .size-of in
-    put-plain (now (s .args .dst)) (s .args .a) (size .result) (c .before .before .before .before .before .before .before .before .before .header-of .result) (c .before .before .before .before .before .before .before .before .put-header-and-item .last .0) (c .before .before .put2 .last .0)
-    (size .ensures) (c .before .before .before .before .before .before .before .before .before .before .before .if1 .left) (c .before .before .before .before .before .before .before .before .before .header-of .ensures) (c .before .before .before .before .before .before .before .before .put-header-and-item .ensures) (c .before .before .before .before .if2 .left)
-    (c .before .before .put2 .ensures)
+    let p = c .before .before in
+    let plain = p .before .before in
+    let h = plain .before .before .before .before in
+    put-plain (now (start h .args .dst)) (start h .args .a) (sized h .size-of .result) (headed h .header-of .result) (h .put-header-and-item .last .0) (p .put2 .last .0)
+    (sized h .size-of .ensures) (roomy h .if1 .left) (headed h .header-of .ensures) (h .put-header-and-item .ensures) (plain .if2 .left) (p .put2 .ensures)
 
 pub put-message-spec : {M : Type 1} → statement M
 put-message-spec =

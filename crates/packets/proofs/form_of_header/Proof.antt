@@ -1,7 +1,11 @@
 -- `packets::form_of_header` meets its contract: each key is the number that a row's header holds, and the last arm is none.
 use borrow.Author.Tests.{ne-eqb}
+use borrow.Author.Needs.{needs}
 use Rattle.packets.proofs.form_of_header.Statement.{statement}
 use Rattle.packets.proofs.form_of_header.Tie as tie
+
+no-form-requires : tie.Need-no-form-requires
+no-form-requires c κs = search needs
 
 returns : tie.Need-returns
 returns c = rw (c .match .keys1)
@@ -17,7 +21,8 @@ returns-4 c = rw (c .match .keys4)
 
 returns-5 : tie.Need-returns-5
 returns-5 c =
-    rw (ne-eqb _ 0x85A4 (c .match .rest .0 .0 .0 .1), ne-eqb _ 0x8184 (c .match .rest .0 .0 .1), ne-eqb _ 0x8404 (c .match .rest .0 .1), ne-eqb _ 0x8204 (c .match .rest .1))
+    let keys = c .before .match .rest in
+    rw (c .no-form .ensures, ne-eqb _ 0x85A4 (keys .0 .0 .0 .1), ne-eqb _ 0x8184 (keys .0 .0 .1), ne-eqb _ 0x8404 (keys .0 .1), ne-eqb _ 0x8204 (keys .1))
 
 pub form-of-header-spec : {M : Type 1} → statement M
-form-of-header-spec = tie.close (tie.spec returns returns-2 returns-3 returns-4 returns-5)
+form-of-header-spec = tie.close (tie.spec no-form-requires returns returns-2 returns-3 returns-4 returns-5)

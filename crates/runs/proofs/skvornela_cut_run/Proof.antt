@@ -2,12 +2,14 @@
 use Prim.Native.Nat.{ℕ, _+_, _-_}
 use mathlib.Core.Path.{_≡_, refl, ap, _∙_}
 use mathlib.Core.List.{List}
+use lib.IntN.{ℤ}
 use native.Mathlib.Omega.{arith}
 use borrow.Author.Needs.{needs}
 use borrow.Rule.Slice.PartMut.{putMid}
 use lib.ListN.{length, take, drop}
 use lib.Seq.{sets}
 use Rattle.wire.proofs.Stores.{part-sets, rest-long}
+use Rattle.station.specs.declared.Station.{Station}
 use Rattle.cutting.specs.declared.Cut.{Cut}
 use Rattle.cutting.specs.Cutting.{Cutting, cuttingOf}
 use Rattle.runs.specs.Cutting.{ran}
@@ -44,7 +46,10 @@ loop-holds : tie.Need-loop-holds Inv-loop μ-loop
 loop-holds c = begins _ _ _ _ _ _ _ _ (c .before .before .before .if1 .left) (c .before .before .if2 .left) (c .before .started .ensures) (c .lesser .ensures)
 
 add-end : tie.Need-add-end Inv-loop μ-loop
-add-end c = omega (arith, one-more (c .before .loop .left) (c .before .before .before .before .before .before .before .args .n) (omega arith), c .before .loop .inv .sampled, c .before .before .before .before .before .before .before .good)
+add-end c =
+    let l = c .before .loop in
+    let s = c .before .before .before .before .before .before .before in
+    omega (arith, one-more (l .left) (s .args .n) (omega arith), l .inv .sampled, s .good)
 
 mul-cut-packet : tie.Need-mul-cut-packet Inv-loop μ-loop
 mul-cut-packet c = search needs
@@ -56,7 +61,10 @@ part-cut-packet-start : tie.Need-part-cut-packet-start Inv-loop μ-loop
 part-cut-packet-start c = search needs
 
 part-cut-packet-end : tie.Need-part-cut-packet-end Inv-loop μ-loop
-part-cut-packet-end c = omega (arith, one-more (c .before .loop .left) (c .before .before .before .before .before .before .before .args .n) (omega arith), c .before .loop .inv .sampled)
+part-cut-packet-end c =
+    let l = c .before .loop in
+    let s = c .before .before .before .before .before .before .before in
+    omega (arith, one-more (l .left) (s .args .n) (omega arith), l .inv .sampled)
 
 sub-cut-packet-2 : tie.Need-sub-cut-packet-2 Inv-loop μ-loop
 sub-cut-packet-2 c = search needs
@@ -70,46 +78,74 @@ part-cut-packet-end-2 c = search needs
 cut-packet-requires : tie.Need-cut-packet-requires Inv-loop μ-loop
 cut-packet-requires c κs = search needs
 
--- what the call is of: the next samples, and the rest of the room
-abbrev calling : (c : tie.After-cut-packet Inv-loop μ-loop) → Cutting
-calling c = cuttingOf (c .before .before .before .before .loop .s) (take (c .before .before .before .before .before .before .before .before .before .before .args .n) (drop (c .before .before .before .before .loop .i) (c .before .before .before .before .before .before .before .before .before .before .args .samples .now))) (length (c .before .before .before .before .loop .out) - c .before .before .before .before .loop .at)
+-- where the call stands in the loop, and what it is of: the next samples, and the rest of the room
+abbrev turn : tie.After-cut-packet Inv-loop μ-loop → tie.At-loop Inv-loop μ-loop
+turn c = c .before .before .before .before
 
-module _ (c : tie.After-cut-packet Inv-loop μ-loop) where
-  next : c .before .before .before .before .loop .i + c .before .before .before .before .before .before .before .before .before .before .args .n - c .before .before .before .before .loop .i ≡ c .before .before .before .before .before .before .before .before .before .before .args .n
-  next = omega arith
+abbrev start : tie.After-cut-packet Inv-loop μ-loop → tie.Start Inv-loop μ-loop
+start c = turn c .before .before .before .before .before .before
 
-  cut : c .cut-packet .result ≡ calling c .cut
-  cut = rw (next, rest-long (c .before .before .before .before .loop .at) (c .before .before .before .before .loop .out)) at (c .cut-packet .ensures .0)
+abbrev box : tie.After-cut-packet Inv-loop μ-loop → Station
+box c = turn c .loop .s
 
-  stored : putMid (c .before .before .before .before .loop .at) (length (c .before .before .before .before .loop .out) - c .before .before .before .before .loop .at) (c .before .before .before .before .loop .out) (c .cut-packet .last .1 .1 .0) ≡ sets (c .before .before .before .before .loop .out) (c .before .before .before .before .loop .at) (calling c .bytes)
-  stored =
-      ap (λ (v : List ℕ). putMid (c .before .before .before .before .loop .at) (length (c .before .before .before .before .loop .out) - c .before .before .before .before .loop .at) (c .before .before .before .before .loop .out) v) (rw (next, rest-long (c .before .before .before .before .loop .at) (c .before .before .before .before .loop .out)) at (c .cut-packet .ensures .1))
-      ∙ part-sets (c .before .before .before .before .loop .at) (length (c .before .before .before .before .loop .out) - c .before .before .before .before .loop .at) (c .before .before .before .before .loop .out) (calling c .bytes) (omega (arith, c .before .before .before .before .loop .inv .roomy))
+abbrev out : tie.After-cut-packet Inv-loop μ-loop → List ℕ
+out c = turn c .loop .out
 
-  -- a refused packet leaves the lent bytes
-  untouched : (c .cut-packet .result .code ≡ 1 → ⊥) → putMid (c .before .before .before .before .loop .at) (length (c .before .before .before .before .loop .out) - c .before .before .before .before .loop .at) (c .before .before .before .before .loop .out) (c .cut-packet .last .1 .1 .0) ≡ c .before .before .before .before .loop .out
-  untouched bad =
-      stored
-      ∙ ap (λ (v : List ℕ). sets (c .before .before .before .before .loop .out) (c .before .before .before .before .loop .at) v) (none-cut (c .before .before .before .before .loop .s) (take (c .before .before .before .before .before .before .before .before .before .before .args .n) (drop (c .before .before .before .before .loop .i) (c .before .before .before .before .before .before .before .before .before .before .args .samples .now))) (length (c .before .before .before .before .loop .out) - c .before .before .before .before .loop .at) (λ good. bad (ap (λ (r : Cut). r .code) cut ∙ good)))
+abbrev place : tie.After-cut-packet Inv-loop μ-loop → ℕ
+place c = turn c .loop .at
+
+abbrev room : tie.After-cut-packet Inv-loop μ-loop → ℕ
+room c = length (out c) - place c
+
+abbrev nexts : tie.After-cut-packet Inv-loop μ-loop → List ℤ
+nexts c = take (start c .args .n) (drop (turn c .loop .i) (start c .args .samples .now))
+
+abbrev calling : tie.After-cut-packet Inv-loop μ-loop → Cutting
+calling c = cuttingOf (box c) (nexts c) (room c)
+
+going : (c : tie.After-cut-packet Inv-loop μ-loop) → Under (start c .args .mode) (start c .args .size) (start c .args .n) (start c .args .total) (start c .args .samples .now) (start c .args .out .now) (out c) (box c) (turn c .loop .left) (turn c .loop .count) (turn c .loop .i) (place c)
+going c = turn c .loop .inv
+
+next : (c : tie.After-cut-packet Inv-loop μ-loop) → turn c .loop .i + start c .args .n - turn c .loop .i ≡ start c .args .n
+next c = omega arith
+
+cut : (c : tie.After-cut-packet Inv-loop μ-loop) → c .cut-packet .result ≡ calling c .cut
+cut c = rw (next c, rest-long (place c) (out c)) at (c .cut-packet .ensures .0)
+
+stored : (c : tie.After-cut-packet Inv-loop μ-loop) → putMid (place c) (room c) (out c) (c .cut-packet .last .1 .1 .0) ≡ sets (out c) (place c) (calling c .bytes)
+stored c =
+    ap (λ (v : List ℕ). putMid (place c) (room c) (out c) v) (rw (next c, rest-long (place c) (out c)) at (c .cut-packet .ensures .1))
+    ∙ part-sets (place c) (room c) (out c) (calling c .bytes) (omega (arith, going c .roomy))
+
+-- a refused packet leaves the lent bytes
+untouched : (c : tie.After-cut-packet Inv-loop μ-loop) → (c .cut-packet .result .code ≡ 1 → ⊥) → putMid (place c) (room c) (out c) (c .cut-packet .last .1 .1 .0) ≡ out c
+untouched c bad =
+    stored c
+    ∙ ap (λ (v : List ℕ). sets (out c) (place c) v) (none-cut (box c) (nexts c) (room c) (λ good. bad (ap (λ (r : Cut). r .code) (cut c) ∙ good)))
 
 same-length : tie.Need-same-length Inv-loop μ-loop
 same-length c =
     let f = c .before .before .before .before in
-    ap length (untouched f (c .if3 .taken)) ∙ f .before .before .before .before .loop .inv .long
+    ap length (untouched f (c .if3 .taken)) ∙ going f .long
 
 returns-3 : tie.Need-returns-3 Inv-loop μ-loop
 returns-3 c =
     let f = c .before .before .before .before in
-    let l = f .before .before .before .before .loop in
-    let a = f .before .before .before .before .before .before .before .before .before .before .args in
+    let l = turn f .loop in
+    let a = start f .args in
     ap (λ (v : List ℕ). ran (l .count) v) (untouched f (c .if3 .taken))
-    ∙ refused (a .mode) (a .size) (a .n) (a .total) (a .samples .now) (a .out .now) (l .out) (l .s) (l .left) (l .count) (l .i) (l .at) (l .inv) (calling f) (omega arith) refl (λ good. c .if3 .taken (ap (λ (r : Cut). r .code) (cut f) ∙ good))
+    ∙ refused (a .mode) (a .size) (a .n) (a .total) (a .samples .now) (a .out .now) (out f) (box f) (l .left) (l .count) (l .i) (place f) (going f) (calling f) (omega arith) refl
+    (λ good. c .if3 .taken (ap (λ (r : Cut). r .code) (cut f) ∙ good))
 
 add-count : tie.Need-add-count Inv-loop μ-loop
-add-count c = omega (arith, c .before .before .before .before .before .before .before .before .before .loop .inv .counted, c .before .before .before .before .before .before .before .before .before .loop .inv .long, c .before .before .before .before .before .before .before .before .before .before .before .before .before .before .before .good)
+add-count c =
+    let f = c .before .before .before .before .before in
+    omega (arith, going f .counted, going f .long, start f .good)
 
 add-at : tie.Need-add-at Inv-loop μ-loop
-add-at c = omega (arith, one-more (c .before .before .before .before .before .before .before .before .before .loop .left) (c .before .before .before .before .before .before .before .before .before .before .before .before .before .before .before .args .total) (omega arith), c .before .before .before .before .before .before .before .before .before .loop .inv .roomy, c .before .before .before .before .before .before .before .before .before .loop .inv .long, c .before .before .before .before .before .before .before .before .before .before .before .before .before .before .before .good)
+add-at c =
+    let f = c .before .before .before .before .before in
+    omega (arith, one-more (turn f .loop .left) (start f .args .total) (omega arith), going f .roomy, going f .long, start f .good)
 
 sub-left : tie.Need-sub-left Inv-loop μ-loop
 sub-left c = search needs
@@ -120,9 +156,10 @@ loop-less c = search needs
 loop-again : tie.Need-loop-again Inv-loop μ-loop
 loop-again c =
     let f = c .before .before .before .before .before in
-    let l = f .before .before .before .before .loop in
-    let a = f .before .before .before .before .before .before .before .before .before .before .args in
-    turns (a .mode) (a .size) (a .n) (a .total) (a .samples .now) (a .out .now) (l .out) (l .s) (l .left) (l .count) (l .i) (l .at) (l .inv) (calling f) (omega arith) refl _ (f .cut-packet .result) (cut f) (c .before .if3 .left) (stored f)
+    let l = turn f .loop in
+    let a = start f .args in
+    turns (a .mode) (a .size) (a .n) (a .total) (a .samples .now) (a .out .now) (out f) (box f) (l .left) (l .count) (l .i) (place f) (going f) (calling f) (omega arith) refl _
+    (f .cut-packet .result) (cut f) (c .before .if3 .left) (stored f)
 
 same-length-2 : tie.Need-same-length-2 Inv-loop μ-loop
 same-length-2 c = c .before .loop .inv .long

@@ -17,10 +17,10 @@ use Rattle.talks.proofs.skvornela_serve.Statement.{statement}
 use Rattle.talks.proofs.skvornela_serve.Tie as tie
 
 abbrev Inv-loop : tie.InvT-loop
-Inv-loop host replies₀ s₀ i₀ at₀ left₀ replies s i at left = Going host replies₀ replies s i at left
+Inv-loop host replies₀ s₀ i₀ at₀ calls₀ replies s i at calls = Going host replies₀ replies s i at calls
 
 abbrev μ-loop : tie.MeasureT-loop
-μ-loop host replies₀ s₀ i₀ at₀ left₀ replies s i at left = left
+μ-loop host replies₀ s₀ i₀ at₀ calls₀ replies s i at calls = calls
 
 slice-aggregate-fresh : tie.Need-slice-aggregate-fresh Inv-loop μ-loop
 slice-aggregate-fresh c = search needs
@@ -38,7 +38,7 @@ returns : tie.Need-returns Inv-loop μ-loop
 returns c =
     let l = c .before .before .loop in
     let host = c .before .before .before .before .before .before .before .before .args .host .now in
-    ends _ _ (l .replies) (l .s) (l .i) (l .at) (l .left) (l .inv) (none-more (l .left) _ (l .s) (drop (l .i) host) (omega (arith, length-drop (l .i) host)))
+    ends _ _ (l .replies) (l .s) (l .i) (l .at) (l .calls) (l .inv) (none-more (l .calls) _ (l .s) (drop (l .i) host) (omega (arith, length-drop (l .i) host)))
 
 sub-if2 : tie.Need-sub-if2 Inv-loop μ-loop
 sub-if2 c = search needs
@@ -50,7 +50,7 @@ returns-2 : tie.Need-returns-2 Inv-loop μ-loop
 returns-2 c =
     let l = c .before .before .before .loop in
     let host = c .before .before .before .before .before .before .before .before .before .args .host .now in
-    ends _ _ (l .replies) (l .s) (l .i) (l .at) (l .left) (l .inv) (no-room (l .left) _ (l .s) (drop (l .i) host) (c .if2 .taken))
+    ends _ _ (l .replies) (l .s) (l .i) (l .at) (l .calls) (l .inv) (no-room (l .calls) _ (l .s) (drop (l .i) host) (c .if2 .taken))
 
 sub-feed : tie.Need-sub-feed Inv-loop μ-loop
 sub-feed c = search needs
@@ -74,20 +74,26 @@ feed-requires : tie.Need-feed-requires Inv-loop μ-loop
 feed-requires c κs = search needs
 
 -- where the call stands in the loop, and what it is of: the rest of the host's bytes, and the rest of the room
+abbrev turn : tie.After-feed Inv-loop μ-loop → tie.At-loop Inv-loop μ-loop
+turn c = c .before .before .before .before .before .before
+
+abbrev start : tie.After-feed Inv-loop μ-loop → tie.Start Inv-loop μ-loop
+start c = turn c .before .before .before .before .before .before
+
 abbrev host : tie.After-feed Inv-loop μ-loop → List ℕ
-host c = c .before .before .before .before .before .before .before .before .before .before .before .before .args .host .now
+host c = start c .args .host .now
 
 abbrev replies : tie.After-feed Inv-loop μ-loop → List ℕ
-replies c = c .before .before .before .before .before .before .loop .replies
+replies c = turn c .loop .replies
 
 abbrev box : tie.After-feed Inv-loop μ-loop → Station
-box c = c .before .before .before .before .before .before .loop .s
+box c = turn c .loop .s
 
 abbrev eaten : tie.After-feed Inv-loop μ-loop → ℕ
-eaten c = c .before .before .before .before .before .before .loop .i
+eaten c = turn c .loop .i
 
 abbrev place : tie.After-feed Inv-loop μ-loop → ℕ
-place c = c .before .before .before .before .before .before .loop .at
+place c = turn c .loop .at
 
 abbrev rest : tie.After-feed Inv-loop μ-loop → List ℕ
 rest c = drop (eaten c) (host c)
@@ -98,8 +104,9 @@ room c = length (replies c) - place c
 abbrev calling : tie.After-feed Inv-loop μ-loop → Feeding
 calling c = feedingOf (box c) (rest c) (room c)
 
-going : (c : tie.After-feed Inv-loop μ-loop) → Going (host c) (c .before .before .before .before .before .before .before .before .before .before .before .before .args .replies .now) (replies c) (box c) (eaten c) (place c) (c .before .before .before .before .before .before .loop .left)
-going c = c .before .before .before .before .before .before .loop .inv
+going : (c : tie.After-feed Inv-loop μ-loop)
+    → Going (host c) (start c .args .replies .now) (replies c) (box c) (eaten c) (place c) (turn c .loop .calls)
+going c = turn c .loop .inv
 
 fed : (c : tie.After-feed Inv-loop μ-loop) → c .feed .result ≡ calling c .fed
 fed c = rw (rest-part (eaten c) (host c), rest-long (place c) (replies c)) at (c .feed .ensures .0)
@@ -115,15 +122,15 @@ bound c = feeding-within (box c) (rest c) (room c)
 add-i : tie.Need-add-i Inv-loop μ-loop
 add-i c =
     let f = c .before .before .before .before in
-    omega (arith, ap (λ (r : Fed). r .consumed) (fed f), bound f .consumed, length-drop (eaten f) (host f), going f .inside, f .before .before .before .before .before .before .before .before .before .before .before .before .good)
+    omega (arith, ap (λ (r : Fed). r .consumed) (fed f), bound f .consumed, length-drop (eaten f) (host f), going f .inside, start f .good)
 
 add-at : tie.Need-add-at Inv-loop μ-loop
 add-at c =
     let f = c .before .before .before .before .before in
-    omega (arith, ap (λ (r : Fed). r .wrote) (fed f), bound f .wrote, bound f .fits, going f .long, going f .room, f .before .before .before .before .before .before .before .before .before .before .before .before .good)
+    omega (arith, ap (λ (r : Fed). r .wrote) (fed f), bound f .wrote, bound f .fits, going f .long, going f .room, start f .good)
 
-sub-left : tie.Need-sub-left Inv-loop μ-loop
-sub-left c = search needs
+sub-calls : tie.Need-sub-calls Inv-loop μ-loop
+sub-calls c = search needs
 
 loop-less : tie.Need-loop-less Inv-loop μ-loop
 loop-less c = search needs
@@ -131,7 +138,8 @@ loop-less c = search needs
 loop-again : tie.Need-loop-again Inv-loop μ-loop
 loop-again c =
     let f = c .before .before .before .before .before in
-    turns (host f) _ (replies f) _ (box f) (eaten f) (place f) _ (calling f) refl (going f) (omega arith) (omega arith) (f .before .before .before .if2 .left) (stored f) (f .feed .result) (fed f)
+    turns (host f) _ (replies f) _ (box f) (eaten f) (place f) _ (calling f) refl (going f) (omega arith) (omega arith) (f .before .before .before .if2 .left) (stored f)
+    (f .feed .result) (fed f)
 
 same-length-3 : tie.Need-same-length-3 Inv-loop μ-loop
 same-length-3 c = c .before .loop .inv .long
@@ -140,7 +148,7 @@ returns-3 : tie.Need-returns-3 Inv-loop μ-loop
 returns-3 c =
     let l = c .before .loop in
     let host = c .before .before .before .before .before .before .before .args .host .now in
-    ends _ _ (l .replies) (l .s) (l .i) (l .at) (l .left) (l .inv) (none-left (l .left) _ (l .s) (drop (l .i) host) (omega arith))
+    ends _ _ (l .replies) (l .s) (l .i) (l .at) (l .calls) (l .inv) (none-left (l .calls) _ (l .s) (drop (l .i) host) (omega arith))
 
 pub skvornela-serve-spec : {M : Type 1} → statement M
 skvornela-serve-spec =
@@ -165,7 +173,7 @@ skvornela-serve-spec =
     feed-requires
     add-i
     add-at
-    sub-left
+    sub-calls
     loop-less
     loop-again
     same-length-3

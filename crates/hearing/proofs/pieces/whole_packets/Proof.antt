@@ -38,10 +38,20 @@ least c =
 header : (c : tie.After-header-of Inv-loop μ-loop) → c .header-of .result ≡ headerOf typeData (totalOf (c .before .before .before .before .before .args .f))
 header c = c .header-of .ensures ∙ ap (headerOf typeData) (total (c .before))
 
+-- the calls before the loop
+abbrev headed : tie.At-loop Inv-loop μ-loop → tie.After-header-of Inv-loop μ-loop
+headed l = l .before .before .before
+
+abbrev totalled : tie.At-loop Inv-loop μ-loop → tie.After-total-of Inv-loop μ-loop
+totalled l = headed l .before
+
+abbrev start : tie.At-loop Inv-loop μ-loop → tie.Start Inv-loop μ-loop
+start l = totalled l .before .before .before .before
+
 -- the number of the packet that follows
 number : (c : tie.After-word Inv-loop μ-loop)
     → (let l = c .before .before in
-    c .word .result / 65536 ≡ twoAt (now (l .before .before .before .before .before .before .before .before .args .piece)) (l .loop .at + 2))
+    c .word .result / 65536 ≡ twoAt (now (start l .args .piece)) (l .loop .at + 2))
 number c =
     let l = c .before .before in
     let k = l .before .before .before .before .before .before .before in
@@ -86,7 +96,7 @@ loop-holds c =
 word-requires : tie.Need-word-requires Inv-loop μ-loop
 word-requires c κs =
     let l = c .before in
-    omega (arith, l .loop .inv .follows (c .loop-test .taken) .room, least (l .before .before .before .before) .0)
+    omega (arith, l .loop .inv .follows (c .loop-test .taken) .room, least (totalled l) .0)
 
 cast-before : tie.Need-cast-before Inv-loop μ-loop
 cast-before c = omega arith
@@ -95,31 +105,31 @@ add-heard : tie.Need-add-heard Inv-loop μ-loop
 add-heard c =
     let l = c .before .before in
     let r = l .loop .inv in
-    omega (arith, r .few, r .low, r .follows (c .before .loop-test .taken) .room, least (l .before .before .before .before) .0, l .before .before .before .before .before .before .before .before .pre .2 .room)
+    omega (arith, r .few, r .low, r .follows (c .before .loop-test .taken) .room, least (totalled l) .0, start l .pre .2 .room)
 
 add-at : tie.Need-add-at Inv-loop μ-loop
 add-at c =
     let l = c .before .before in
-    omega (arith, l .loop .inv .follows (c .before .loop-test .taken) .room, l .before .before .before .before .before .before .before .before .good)
+    omega (arith, l .loop .inv .follows (c .before .loop-test .taken) .room, start l .good)
 
 follow-requires-2 : tie.Need-follow-requires-2 Inv-loop μ-loop
 follow-requires-2 c κs =
     let l = c .before .before in
     let x = l .loop .inv .follows (c .before .loop-test .taken) in
-    (x .room, omega (arith, least (l .before .before .before .before) .0), x .fits)
+    (x .room, omega (arith, least (totalled l) .0), x .fits)
 
 loop-less : tie.Need-loop-less Inv-loop μ-loop
 loop-less c =
     let l = c .before .before .before in
     let x = l .loop .inv .follows (c .before .before .loop-test .taken) in
-    omega (arith, x .room, least (l .before .before .before .before) .0)
+    omega (arith, x .room, least (totalled l) .0)
 
 loop-again : tie.Need-loop-again Inv-loop μ-loop
 loop-again c =
     let w = c .before in
     let l = w .before .before in
-    let s = l .before .before .before .before .before .before .before .before in
-    onward-turn _ _ _ _ _ _ (s .pre .0) (total (l .before .before .before .before)) (header (l .before .before .before)) _ _ _ _ _ _ _ (l .loop .inv) (w .before .loop-test .taken) (number w) (omega arith) (c .follow2 .ensures)
+    let s = start l in
+    onward-turn _ _ _ _ _ _ (s .pre .0) (total (totalled l)) (header (headed l)) _ _ _ _ _ _ _ (l .loop .inv) (w .before .loop-test .taken) (number w) (omega arith) (c .follow2 .ensures)
 
 sub-t20 : tie.Need-sub-t20 Inv-loop μ-loop
 sub-t20 c = omega (arith, c .before .loop .inv .low)
@@ -128,13 +138,13 @@ add-t21 : tie.Need-add-t21 Inv-loop μ-loop
 add-t21 c =
     let l = c .before .before in
     let r = l .loop .inv in
-    omega (arith, r .low, r .inside, l .before .before .before .before .before .before .before .before .pre .2 .room)
+    omega (arith, r .low, r .inside, start l .pre .2 .room)
 
 returns-2 : tie.Need-returns-2 Inv-loop μ-loop
 returns-2 c =
     let l = c .before .before in
-    let s = l .before .before .before .before .before .before .before .before in
-    (onward-end _ _ _ _ _ _ (s .pre .0) (total (l .before .before .before .before)) (header (l .before .before .before)) _ _ _ _ _ (l .loop .inv) (s .pre .2), l .loop .inv .low)
+    let s = start l in
+    (onward-end _ _ _ _ _ _ (s .pre .0) (total (totalled l)) (header (headed l)) _ _ _ _ _ (l .loop .inv) (s .pre .2), l .loop .inv .low)
 
 pub whole-packets-spec : {M : Type 1} → statement M
 whole-packets-spec =

@@ -5,13 +5,13 @@ use Rattle.items.proofs.header.acknowledgement_code.Statement.{statemen
 use Rattle.items.proofs.header.acknowledgement_code.Tie as tie
 
 returns : tie.Need-returns
-returns c = rw (c .before .if1 .taken) (search cases)
+returns c = rw (c .before .match .keys1) (search cases)
 
 returns-2 : tie.Need-returns-2
-returns-2 c = rw (c .before .if1 .taken) (search cases)
+returns-2 c = rw (c .before .match .keys1) (search cases)
 
 returns-3 : tie.Need-returns-3
-returns-3 c = other (c .before .args .size) (c .before .args .named) (c .if1 .left)
+returns-3 c = other (c .before .args .size) (c .before .args .named) (c .match .rest .1)
 
 pub acknowledgement-code-spec : {M : Type 1} → statement M
 acknowledgement-code-spec = tie.close (tie.spec returns returns-2 returns-3)

@@ -45,13 +45,22 @@ item-in-requires c κs = search needs
 listed-code-requires : tie.Need-listed-code-requires
 listed-code-requires c κs = search needs
 
-header-passed : (c : tie.Else1) → firstOf (headerChecks (c .before .before .before .before .args .kind) (c .before .before .before .before .args .size) (getD (now (c .before .before .before .before .args .opening)) 2 0)) 1 ≡ 1
+-- past the header's checks, and at the table's: the call that began it
+abbrev began : tie.Else1 → tie.Start
+began c = c .before .before .before .before
+
+abbrev asked : tie.After-listed-code → tie.Start
+asked c = began (c .before .before)
+
+header-passed : (c : tie.Else1) → (let a = began c .args in
+    firstOf (headerChecks (a .kind) (a .size) (getD (now (a .opening)) 2 0)) 1 ≡ 1)
 header-passed c = sym (c .before .header-code .ensures) ∙ c .if1 .left
 
-table-says : (c : tie.After-listed-code) → c .listed-code .result ≡ firstOf (tableChecks (itemIn (message (c .before .before .before .before .before .before))) (c .before .before .before .before .before .before .args .kind) (c .before .before .before .before .before .before .args .size)) 1
+table-says : (c : tie.After-listed-code) → c .listed-code .result ≡ firstOf (tableChecks (itemIn (message (asked c))) (asked c .args .kind) (asked c .args .size)) 1
 table-says c = rw (c .before .item-in .ensures) at (c .listed-code .ensures)
 
-table-passed : (c : tie.Else2) → firstOf (tableChecks (itemIn (message (c .before .before .before .before .before .before .before))) (c .before .before .before .before .before .before .before .args .kind) (c .before .before .before .before .before .before .before .args .size)) 1 ≡ 1
+table-passed : (c : tie.Else2) → (let a = asked (c .before) in
+    firstOf (tableChecks (itemIn (message a)) (a .args .kind) (a .args .size)) 1 ≡ 1)
 table-passed c = sym (table-says (c .before)) ∙ c .if2 .left
 
 refused-requires-2 : tie.Need-refused-requires-2
@@ -61,7 +70,7 @@ returns-2 : tie.Need-returns-2
 returns-2 c =
     let d = c .before in
     let t = d .before in
-    let a = t .before .before .before .before .before .before in
+    let a = asked t in
     c .refused2 .ensures
     ∙ refused (a .args .s) (message a) (t .listed-code .result) (d .if2 .taken)
     (by-table (a .args .s) (message a) (header-passed (t .before .before)) (λ e. d .if2 .taken (table-says t ∙ e)) ∙ sym (table-says t))
@@ -81,7 +90,7 @@ set-item-requires c κs = search needs
 returns-3 : tie.Need-returns-3
 returns-3 c =
     let d = c .before .before .before in
-    let a = d .before .before .before .before .before .before .before in
+    let a = asked (d .before) in
     c .set-item .ensures
     ∙ ap (λ (p : List ℕ). setBy (rowOf (d .before .before .item-in .result)) (a .args .s) p) (rest-part 4 (now (a .args .opening)))
     ∙ ap (λ (n : ℕ). setBy (rowOf n) (a .args .s) (parameters (message a))) (d .before .before .item-in .ensures)
@@ -103,7 +112,7 @@ asked-code-requires c κs = search needs
 returns-4 : tie.Need-returns-4
 returns-4 c =
     let d = c .before .before .before in
-    let a = d .before .before .before .before .before .before .before in
+    let a = asked (d .before) in
     ap (λ (n : ℕ). record { code = n; settings = a .args .s })
     (c .asked-code .ensures
     ∙ ap (λ (p : List ℕ). askedBy (rowOf (d .before .before .item-in .result)) p) (rest-part 4 (now (a .args .opening)))

@@ -26,18 +26,22 @@ use Rattle.spans.proofs.eating.listen.Tie as tie
 form : (c : tie.After-form-in) → c .form-in .result ≡ formIn (headOf (c .before .before .before .before .before .before .args .s))
 form c = c .form-in .ensures ∙ ap formIn (c .before .head-in .ensures)
 
+-- the call that the packets were heard in
+abbrev start : tie.After-hear → tie.Start
+start c = c .before .before .before .before .before .before .before
+
 heard : (c : tie.After-hear)
-    → (let a = c .before .before .before .before .before .before .before .args in
+    → (let a = start c .args in
     c .hear .result ≡ outcome (reaching 0 (formIn (headOf (a .s))) (a .s .tally) (now (a .piece))))
 heard c =
-    let s = c .before .before .before .before .before .before .before in
+    let s = start c in
     let a = s .args in
     c .hear .ensures
     ∙ ap (λ (f : Form). hearingOf f (a .s .tally) (now (a .piece))) (form (c .before))
     ∙ hearing-is (formIn (headOf (a .s))) (a .s .tally) (now (a .piece)) (s .pre .1) (form-listed (headOf (a .s)) (s .pre .0))
 
 reached : (c : tie.After-hear)
-    → (let a = c .before .before .before .before .before .before .before .args in
+    → (let a = start c .args in
     c .hear .result .reach ≡ reaching 0 (formIn (headOf (a .s))) (a .s .tally) (now (a .piece)))
 reached c = ap (λ (o : Outcome). o .reach) (heard c)
 
@@ -46,7 +50,7 @@ next c = ap (λ (o : Outcome). o .next) (heard c) ∙ ap nextTally (sym (reached
 
 allowed-position : (c : tie.After-hear) → c .hear .result .reach .tally .position ≤ last
 allowed-position c =
-    let s = c .before .before .before .before .before .before .before in
+    let s = start c in
     let a = s .args in
     let sane = reach-sane (now (a .piece)) 0 0 (formIn (headOf (a .s))) (a .s .tally) (range-sane (a .s .tally) _ (s .pre .1) (omega (arith, s .good))) in
     omega (arith, ap (λ (r : Reach). r .tally .position) (reached c), sane .position)
@@ -54,17 +58,17 @@ allowed-position c =
 cut-short : (c : tie.Else1)
     → (let h = c .before .before .before in
     let r = h .hear .result .reach in
-    let a = h .before .before .before .before .before .before .before .args in
+    let a = start h .args in
     listening (a .s) (now (a .piece)) (length (now (a .out))) ≡ saying (a .s) (length (now (a .out))) (r .at) (heardLines (headOf (a .s)) r) (heardSpan (a .s) r))
 cut-short c =
     let h = c .before .before .before in
     let r = h .hear .result .reach in
-    let a = h .before .before .before .before .before .before .before .args in
+    let a = start h .args in
     listening-by (a .s) (now (a .piece)) (length (now (a .out))) r (reached h) ∙ listening-says (a .s) (length (now (a .out))) r (c .if1 .left)
 
 lines : (c : tie.After-heard-due)
     → (let h = c .before .before .before .before in
-    dueLines (c .heard-due .result) ≡ heardLines (headOf (h .before .before .before .before .before .before .before .args .s)) (h .hear .result .reach))
+    dueLines (c .heard-due .result) ≡ heardLines (headOf (start h .args .s)) (h .hear .result .reach))
 lines c =
     let h = c .before .before .before .before in
     c .heard-due .ensures .0 ∙ ap (λ (x : Head). heardLines x (h .hear .result .reach)) (h .before .before .head-in .ensures)
@@ -88,14 +92,14 @@ returns : tie.Need-returns
 returns c =
     let h = c .before .before .before .before in
     let r = h .hear .result .reach in
-    let a = h .before .before .before .before .before .before .before .args in
+    let a = start h .args in
     answers (now (a .out)) _ (listening-by (a .s) (now (a .piece)) (length (now (a .out))) r (reached h) ∙ listening-waits (a .s) (length (now (a .out))) r (c .before .if1 .taken))
     (ap (λ (x : Span). record { code = 0; consumed = r .at; wrote = 0; span = x }) (c .with-tally .ensures)) refl
 
 heard-due-requires : tie.Need-heard-due-requires
 heard-due-requires c κs =
     let h = c .before .before .before in
-    (ap allowed (h .before .before .head-in .ensures) ∙ h .before .before .before .before .before .before .before .pre .0, allowed-position h)
+    (ap allowed (h .before .before .head-in .ensures) ∙ start h .pre .0, allowed-position h)
 
 tell-requires : tie.Need-tell-requires
 tell-requires c κs = search needs
@@ -113,8 +117,9 @@ returns-2 c =
     let due = told .before .before in
     let h = due .before .before .before .before in
     let r = h .hear .result .reach in
-    let a = h .before .before .before .before .before .before .before .args in
-    no-room (a .s) (heardSpan (a .s) r) (r .at) (heardLines (headOf (a .s)) r) (due .heard-due .result) (lines due) (due .heard-due .ensures .1) (now (a .out)) _ (told .tell .result) (told .tell .ensures) _ (cut-short (due .before)) _ (c .refuse .ensures) (tested .if2 .taken)
+    let a = start h .args in
+    no-room (a .s) (heardSpan (a .s) r) (r .at) (heardLines (headOf (a .s)) r) (due .heard-due .result) (lines due) (due .heard-due .ensures .1) (now (a .out)) _
+    (told .tell .result) (told .tell .ensures) _ (cut-short (due .before)) _ (c .refuse .ensures) (tested .if2 .taken)
 
 with-tally-requires-2 : tie.Need-with-tally-requires-2
 with-tally-requires-2 c κs = search needs
@@ -129,9 +134,11 @@ returns-3 c =
     let due = told .before .before in
     let h = due .before .before .before .before in
     let r = h .hear .result .reach in
-    let a = h .before .before .before .before .before .before .before .args in
+    let a = start h .args in
     let after : c .with-tally2 .result ≡ heardSpan (a .s) r = c .with-tally2 .ensures ∙ ap (withTally (not (eqb (r .code) 1)) (a .s)) (next h) in
-    room (a .s) (heardSpan (a .s) r) (r .at) (heardLines (headOf (a .s)) r) (due .heard-due .result) (lines due) (due .heard-due .ensures .1) (now (a .out)) _ (told .tell .result) (told .tell .ensures) _ (cut-short (due .before)) _ (ap (λ (x : Span). record { code = 1; consumed = r .at; wrote = told .tell .result .wrote; span = x }) after) (tested .if2 .left)
+    room (a .s) (heardSpan (a .s) r) (r .at) (heardLines (headOf (a .s)) r) (due .heard-due .result) (lines due) (due .heard-due .ensures .1) (now (a .out)) _
+    (told .tell .result) (told .tell .ensures) _ (cut-short (due .before)) _
+    (ap (λ (x : Span). record { code = 1; consumed = r .at; wrote = told .tell .result .wrote; span = x }) after) (tested .if2 .left)
 
 pub listen-spec : {M : Type 1} → statement M
 listen-spec =

@@ -22,16 +22,29 @@ held-bytes c k = fit .fits
     fit : Fits w8 (getD (c .args .t .opening) k 0)
     fit = search needs
 
+-- the calls that read its header, and the start
+abbrev sized : tie.After-answer → tie.After-length-in
+sized c = c .before .before .before
+
+abbrev typed : tie.After-answer → tie.After-type-in
+typed c = sized c .before
+
+abbrev numbered : tie.After-answer → tie.After-number-at
+numbered c = typed c .before
+
+abbrev start : tie.After-answer → tie.Start
+start c = numbered c .before .before .before .before .before
+
 -- the message that is handed on
 handed : tie.After-answer → Message
-handed c = record { type = c .before .before .before .before .type-in .result; size = c .before .before .before .length-in .result; held = c .before .before .before .before .before .before .before .before .before .before .args .t .opening }
+handed c = record { type = typed c .type-in .result; size = sized c .length-in .result; held = start c .args .t .opening }
 
 -- it is the one in the store
-handed-is : (c : tie.After-answer) → handed c ≡ messageIn (opened (c .before .before .before .before .before .before .before .before .before .before .args .t) .store)
+handed-is : (c : tie.After-answer) → handed c ≡ messageIn (opened (start c .args .t) .store)
 unfolding handed
 handed-is c =
-    message-is (opened (c .before .before .before .before .before .before .before .before .before .before .args .t)) (c .before .before .before .before .before .number-at .result) (c .before .before .before .before .type-in .result) (c .before .before .before .length-in .result) (c .before .before .before .before .before .number-at .ensures) (c .before .before .before .before .type-in .ensures)
-    (c .before .before .before .length-in .ensures)
+    message-is (opened (start c .args .t)) (numbered c .number-at .result) (typed c .type-in .result) (sized c .length-in .result)
+    (numbered c .number-at .ensures) (typed c .type-in .ensures) (sized c .length-in .ensures)
 
 slice-aggregate-number-at : tie.Need-slice-aggregate-number-at
 slice-aggregate-number-at c = search needs
@@ -40,7 +53,9 @@ number-at-requires : tie.Need-number-at-requires
 number-at-requires c κs = search needs
 
 cast-header : tie.Need-cast-header
-cast-header c = record { fits = rw (c .number-at .ensures) (field-below 0 2 (c .before .before .before .before .before .args .t .opening) (held-bytes (c .before .before .before .before .before))) }
+cast-header c =
+    let s = c .before .before .before .before .before in
+    record { fits = rw (c .number-at .ensures) (field-below 0 2 (s .args .t .opening) (held-bytes s)) }
 
 type-in-requires : tie.Need-type-in-requires
 type-in-requires c κs = search needs
@@ -59,9 +74,11 @@ same-length c = search needs
 
 returns : tie.Need-returns
 unfolding handed
-returns c = let a = c .before .before .before .before .before .before .before .before .before .before .before .before .before .before .args in
+returns c =
+    let r = c .before .before .before .before in
+    let a = start r .args in
     rw (c .refused .ensures)
-    (out-short (a .s) (opened (a .t)) (now (a .reply)) _ (c .before .before .before .before .answer .result) (handed (c .before .before .before .before)) (handed-is (c .before .before .before .before)) (c .before .before .before .before .answer .ensures .0) (c .before .before .before .before .answer .ensures .1) (c .before .if1 .taken))
+    (out-short (a .s) (opened (a .t)) (now (a .reply)) _ (r .answer .result) (handed r) (handed-is r) (r .answer .ensures .0) (r .answer .ensures .1) (c .before .if1 .taken))
 
 done-requires : tie.Need-done-requires
 done-requires c κs = search needs
@@ -71,9 +88,11 @@ same-length-2 c = search needs
 
 returns-2 : tie.Need-returns-2
 unfolding handed
-returns-2 c = let a = c .before .before .before .before .before .before .before .before .before .before .before .before .before .before .before .args in
+returns-2 c =
+    let r = c .before .before .before .before .before in
+    let a = start r .args in
     rw (c .done .ensures)
-    (out-whole (a .s) (opened (a .t)) (now (a .reply)) _ (c .before .before .before .before .before .answer .result) (handed (c .before .before .before .before .before)) (handed-is (c .before .before .before .before .before)) (c .before .before .before .before .before .answer .ensures .0) (c .before .before .before .before .before .answer .ensures .1) (c .before .before .if1 .left))
+    (out-whole (a .s) (opened (a .t)) (now (a .reply)) _ (r .answer .result) (handed r) (handed-is r) (r .answer .ensures .0) (r .answer .ensures .1) (c .before .before .if1 .left))
 
 pub answer-spec : {M : Type 1} → statement M
 answer-spec =

@@ -1,7 +1,7 @@
 -- Field by field.
 use borrow.Author.Needs.{needs}
-use Rattle.spans.proofs.eating.ended_due.Statement.{statement}
-use Rattle.spans.proofs.eating.ended_due.Tie as tie
+use Rattle.spans.proofs.due.ended_due.Statement.{statement}
+use Rattle.spans.proofs.due.ended_due.Tie as tie
 
 form-in-requires : tie.Need-form-in-requires
 form-in-requires c κs = search needs

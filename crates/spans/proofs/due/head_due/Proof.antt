@@ -3,8 +3,8 @@ use native.Mathlib.Omega.{arith}
 use borrow.Author.Needs.{needs}
 use borrow.Author.Tests.{eq-eqb, ne-eqb}
 use Rattle.lines.proofs.Dues.{is-sized}
-use Rattle.spans.proofs.eating.head_due.Statement.{statement}
-use Rattle.spans.proofs.eating.head_due.Tie as tie
+use Rattle.spans.proofs.due.head_due.Statement.{statement}
+use Rattle.spans.proofs.due.head_due.Tie as tie
 
 opening-due-requires : tie.Need-opening-due-requires
 opening-due-requires c κs = search needs

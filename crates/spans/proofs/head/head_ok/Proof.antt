@@ -4,8 +4,8 @@ use mathlib.Core.Path.{ap}
 use Prim.Native.Nat.{ℕ}
 use lib.Dec.{eqb}
 use borrow.Author.Tests.{lt-ltb, le-ltb, eq-eqb, ne-eqb}
-use Rattle.spans.proofs.eating.head_ok.Statement.{statement}
-use Rattle.spans.proofs.eating.head_ok.Tie as tie
+use Rattle.spans.proofs.head.head_ok.Statement.{statement}
+use Rattle.spans.proofs.head.head_ok.Tie as tie
 
 returns : tie.Need-returns
 returns c = rw (lt-ltb _ _ (c .if1 .taken))

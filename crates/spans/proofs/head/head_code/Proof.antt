@@ -2,8 +2,8 @@
 use borrow.Author.Needs.{needs}
 use denote.Ref.{now}
 use Rattle.spans.proofs.Eats.{code-said}
-use Rattle.spans.proofs.eating.head_code.Statement.{statement}
-use Rattle.spans.proofs.eating.head_code.Tie as tie
+use Rattle.spans.proofs.head.head_code.Statement.{statement}
+use Rattle.spans.proofs.head.head_code.Tie as tie
 
 read-head-requires : tie.Need-read-head-requires
 read-head-requires c κs = search needs

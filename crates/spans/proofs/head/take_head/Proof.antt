@@ -5,8 +5,8 @@ use native.Mathlib.Omega.{arith}
 use denote.Ref.{now}
 use lib.ListN.{length}
 use Rattle.spans.proofs.Eats.{lacked, head-taken}
-use Rattle.spans.proofs.eating.take_head.Statement.{statement}
-use Rattle.spans.proofs.eating.take_head.Tie as tie
+use Rattle.spans.proofs.head.take_head.Statement.{statement}
+use Rattle.spans.proofs.head.take_head.Tie as tie
 
 long : (c : tie.Start) → length (c .args .s .held) ≡ 14
 long c = search needs

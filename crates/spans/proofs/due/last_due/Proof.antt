@@ -7,8 +7,8 @@ use Rattle.lines.specs.declared.Ending.the-variants.{Refusal, Captures}
 use Rattle.spans.specs.Eating.{headOf}
 use Rattle.spans.specs.Inside.{dueNow}
 use Rattle.spans.proofs.Eats.{due-sized, due-is}
-use Rattle.spans.proofs.eating.last_due.Statement.{statement}
-use Rattle.spans.proofs.eating.last_due.Tie as tie
+use Rattle.spans.proofs.due.last_due.Statement.{statement}
+use Rattle.spans.proofs.due.last_due.Tie as tie
 
 head-due-requires : tie.Need-head-due-requires
 head-due-requires c κs = search needs

@@ -2,8 +2,8 @@
 use borrow.Author.Needs.{needs}
 use borrow.Author.Tests.{eq-eqb, ne-eqb}
 use Rattle.spans.proofs.Eats.{due-sized, due-is}
-use Rattle.spans.proofs.eating.heard_due.Statement.{statement}
-use Rattle.spans.proofs.eating.heard_due.Tie as tie
+use Rattle.spans.proofs.due.heard_due.Statement.{statement}
+use Rattle.spans.proofs.due.heard_due.Tie as tie
 
 ended-due-requires : tie.Need-ended-due-requires
 ended-due-requires c κs = search needs

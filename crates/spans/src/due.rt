@@ -1,0 +1,98 @@
+// The lines that are due: after the head, where hearing was cut short, at the end of the input.
+ghost use mathlib.Core.Path.{_≡_};
+ghost use Prim.Native.Nat.{_≤_};
+ghost use mathlib.Core.Bool.{true};
+ghost use Rattle.packets.specs.Numbers.{last};
+ghost use Rattle.heads.specs.Head.{allowed, headLength};
+ghost use Rattle.lines.specs.Due.{dueLines, sized};
+ghost use Rattle.spans.specs.Eating.{headOf, headLines, heardLines, lastLines};
+ghost use Rattle.spans.specs.Inside.{dueNow};
+use crate::Span;
+use heads::Head;
+use hearing::Reach;
+use hearing::Tally;
+use lines::Due;
+use lines::Ending;
+use wire::codes;
+
+// The opening line, and what comes behind it; no capture has ended.
+fn opening_due(ending: Ending) -> Due
+    ensures { λ r.
+        ⌜ r
+        ≡ record { opening = true; capture = 0; bits = 0; pairs = 0; divisor = 0; heard = 0; position = 0; ending = ending } ⌝ }
+{
+    Due {
+        opening: true,
+        capture: 0,
+        bits: 0,
+        pairs: 0,
+        divisor: 0,
+        heard: 0,
+        position: 0,
+        ending,
+    }
+}
+
+// The lines after a whole head that reads with a code.
+pub(crate) fn head_due(code: u8) -> Due
+    ensures { λ r. ⌜ (dueLines r ≡ headLines code) × (sized r ≡ true) ⌝ }
+{
+    if code == codes::DONE {
+        return opening_due(Ending::Nothing);
+    }
+    opening_due(Ending::Refusal { code, offset: 0 })
+}
+
+// The line of the open capture, and what comes behind it.
+fn ended_due(h: Head, t: Tally, ending: Ending) -> Due
+    ensures { λ r. ⌜ r ≡ dueNow h t ending ⌝ }
+{
+    let f = heads::form_in(h);
+    Due {
+        opening: false,
+        capture: t.captures,
+        bits: f.bits,
+        pairs: f.pairs,
+        divisor: h.divisor as u64,
+        heard: t.heard,
+        position: t.position,
+        ending,
+    }
+}
+
+// The lines that are due where hearing a piece was cut short.
+pub(crate) fn heard_due(h: Head, r: Reach) -> Due
+    requires { ⌜ (allowed h ≡ true) × (r .tally .position ≤ last) ⌝ }
+    ensures { λ d. ⌜ (dueLines d ≡ heardLines h r) × (sized d ≡ true) ⌝ }
+{
+    let t = r.tally;
+    if r.code == codes::DONE {
+        return ended_due(h, t, Ending::Nothing);
+    }
+    let refusal = Ending::Refusal {
+        code: r.code,
+        offset: t.begins,
+    };
+    ended_due(h, t, refusal)
+}
+
+// The lines that the end of the input brings.
+pub(crate) fn last_due(s: Span) -> Due
+    requires { ⌜ (s .tally .position ≤ last) × (headLength ≤ s .taken → allowed (headOf s) ≡ true) ⌝ }
+    ensures { λ d. ⌜ (dueLines d ≡ lastLines s) × (sized d ≡ true) ⌝ }
+{
+    if s.taken < heads::LENGTH {
+        return head_due(codes::NOT_A_HEAD);
+    }
+    let held = s.held;
+    let h = heads::head_in(&held);
+    let t = s.tally;
+    if t.taken == 0 {
+        return ended_due(h, t, Ending::Captures(t.captures));
+    }
+    let refusal = Ending::Refusal {
+        code: codes::NOT_A_PACKET,
+        offset: t.begins,
+    };
+    ended_due(h, t, refusal)
+}
