@@ -57,7 +57,7 @@ fn put_band(dst: &mut [u8], at: usize, minimum: u64, maximum: u64, oscillator: u
 pub fn put_range(dst: &mut [u8], at: usize)
     ensures { λ r. ⌜ now (dst .exit) ≡ sets (now (dst .entry)) at (rangeBytes bands) ⌝ }
 {
-    // no byte of it has a place; past this test `at + 15` cannot overflow
+    // no byte of it has a place; past this test the place of the second band cannot overflow
     if dst.len() <= at {
         return;
     }
