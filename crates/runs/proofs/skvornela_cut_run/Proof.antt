@@ -103,7 +103,10 @@ nexts c = take (start c .args .n) (drop (turn c .loop .i) (start c .args .sample
 abbrev calling : tie.After-cut-packet Inv-loop μ-loop → Cutting
 calling c = cuttingOf (box c) (nexts c) (room c)
 
-going : (c : tie.After-cut-packet Inv-loop μ-loop) → Under (start c .args .mode) (start c .args .size) (start c .args .n) (start c .args .total) (start c .args .samples .now) (start c .args .out .now) (out c) (box c) (turn c .loop .left) (turn c .loop .count) (turn c .loop .i) (place c)
+going : (c : tie.After-cut-packet Inv-loop μ-loop)
+    → (let a = start c .args in
+    let l = turn c .loop in
+    Under (a .mode) (a .size) (a .n) (a .total) (a .samples .now) (a .out .now) (out c) (box c) (l .left) (l .count) (l .i) (place c))
 going c = turn c .loop .inv
 
 next : (c : tie.After-cut-packet Inv-loop μ-loop) → turn c .loop .i + start c .args .n - turn c .loop .i ≡ start c .args .n

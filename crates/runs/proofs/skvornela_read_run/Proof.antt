@@ -48,20 +48,27 @@ part-read-end c = omega (arith, one-more (c .before .loop .left) (c .before .bef
 read-requires : tie.Need-read-requires Inv-loop μ-loop
 read-requires c κs = search needs
 
+-- where the call stands in the loop
+abbrev turn : tie.After-read Inv-loop μ-loop → tie.At-loop Inv-loop μ-loop
+turn c = c .before .before .before
+
+abbrev start : tie.After-read Inv-loop μ-loop → tie.Start Inv-loop μ-loop
+start c = turn c .before .before .before .before
+
 -- the part that is read is the next packet
 heard : (c : tie.After-read Inv-loop μ-loop)
-    → c .read .result ≡ readingOf (c .before .before .before .loop .r) (take (c .before .before .before .before .before .before .before .args .total) (drop (c .before .before .before .loop .at) (c .before .before .before .before .before .before .before .args .packets .now)))
+    → c .read .result ≡ readingOf (turn c .loop .r) (take (start c .args .total) (drop (turn c .loop .at) (start c .args .packets .now)))
 heard c =
-    let l = c .before .before .before .loop in
-    let total = c .before .before .before .before .before .before .before .args .total in
+    let l = turn c .loop in
+    let total = start c .args .total in
     let part : l .at + total - l .at ≡ total = omega arith in
     rw part at (c .read .ensures)
 
 returns-2 : tie.Need-returns-2 Inv-loop μ-loop
 returns-2 c =
     let read = c .before .before in
-    let l = read .before .before .before .loop in
-    let a = read .before .before .before .before .before .before .before .args in
+    let l = turn read .loop in
+    let a = start read .args in
     run-refused (l .left) (a .total) (l .sample) (l .at) (l .r) (a .packets .now) (read .read .result) (omega arith) (heard read) (c .if2 .taken) (l .inv .1)
 
 sub-left : tie.Need-sub-left Inv-loop μ-loop
@@ -73,10 +80,12 @@ loop-less c = search needs
 loop-again : tie.Need-loop-again Inv-loop μ-loop
 loop-again c =
     let read = c .before .before .before in
-    let l = read .before .before .before .loop in
-    let a = read .before .before .before .before .before .before .before .args in
-    let some : 0 < l .left = omega arith in
-    (omega (arith, one-more (l .left) (a .total) some), run-heard (l .left) (a .total) (l .sample) (l .at) (l .r) (a .packets .now) (read .read .result) some (heard read) (c .before .if2 .left) (l .inv .1))
+    let l = turn read .loop in
+    let a = start read .args in
+    let some : 0 < l .left = omega arith in (
+      omega (arith, one-more (l .left) (a .total) some),
+      run-heard (l .left) (a .total) (l .sample) (l .at) (l .r) (a .packets .now) (read .read .result) some (heard read) (c .before .if2 .left) (l .inv .1),
+    )
 
 returns-3 : tie.Need-returns-3 Inv-loop μ-loop
 returns-3 c =

@@ -42,7 +42,10 @@ loop-holds : tie.Need-loop-holds Inv-loop μ-loop
 loop-holds c = (omega arith, refl, refl)
 
 -- past the test all are samples
-all : (c : tie.Else1 Inv-loop μ-loop) → allSamples (now (c .before .before .before .before .before .before .before .args .samples)) ≡ true
+abbrev asked : tie.Else1 Inv-loop μ-loop → tie.Start Inv-loop μ-loop
+asked c = c .before .before .before .before .before .before .before
+
+all : (c : tie.Else1 Inv-loop μ-loop) → allSamples (now (asked c .args .samples)) ≡ true
 all c = sym (c .before .before .before .narrow .ensures .0) ∙ not-false _ (c .if1 .left)
 
 mul-put3 : tie.Need-mul-put3 Inv-loop μ-loop
@@ -61,7 +64,7 @@ code24-requires : tie.Need-code24-requires Inv-loop μ-loop
 code24-requires c κs =
     let l = c .before .before .before in
     rw (toZ-ofZ (sfits-of (c .code24-arg .given)))
-    (sample-at (now (l .before .before .before .before .before .before .before .before .args .samples)) (l .loop .i) (all (l .before)) (c .before .before .loop-test .taken))
+    (sample-at (now (asked (l .before) .args .samples)) (l .loop .i) (all (l .before)) (c .before .before .loop-test .taken))
 
 mul-joined : tie.Need-mul-joined Inv-loop μ-loop
 mul-joined c = omega arith
@@ -74,14 +77,15 @@ joined-requires c κs = tt
 
 -- what is stored is the i-th sample's code, made of what is its own and what was kept of it
 code : (c : tie.After-joined Inv-loop μ-loop)
-    → c .joined .result ≡ coded 24 (narrowed 24 (getD (now (c .before .before .before .before .before .before .before .before .before .before .before .before .before .before .args .samples)) (c .before .before .before .before .before .before .loop .i) (pos 0)))
+    → (let l = c .before .before .before .before .before .before in
+    c .joined .result ≡ coded 24 (narrowed 24 (getD (now (asked (l .before) .args .samples)) (l .loop .i) (pos 0))))
 code c =
     let d = c .before .before in
     let t = d .before .before .before in
     let l = t .before in
-    let zs = now (l .before .before .before .before .before .before .before .before .args .samples) in
+    let zs = now (asked (l .before) .args .samples) in
     let z = getD zs (l .loop .i) (pos 0) in
-    let long : length zs ≤ length (now (l .before .before .before .before .before .before .before .before .args .held)) = omega arith in
+    let long : length zs ≤ length (now (asked (l .before) .args .held)) = omega arith in
     let lowest : d .code24 .result ≡ coded 24 (narrowed 24 z) = d .code24 .ensures ∙ rw (toZ-ofZ (sfits-of (d .before .code24-arg .given))) in
     c .joined .ensures
     ∙ rw (lowest, kept-code _ _ zs (l .loop .i) (l .before .before .before .before .narrow .ensures .1) (t .loop-test .taken) long (all (l .before)))
@@ -101,7 +105,7 @@ loop-again c =
     let p = c .before .before in
     let t = p .before .before .before .before .before .before in
     let l = t .before in
-    let a = l .before .before .before .before .before .before .before .before .args in (
+    let a = asked (l .before) .args in (
       omega arith,
       p .put3 .kept .0 ∙ l .loop .inv .1,
       rw (p .put3 .ensures)
@@ -117,7 +121,7 @@ same-length-3 c = c .before .loop .inv .1
 returns-2 : tie.Need-returns-2 Inv-loop μ-loop
 returns-2 c =
     let l = c .before in
-    let a = l .before .before .before .before .before .before .before .before .args in (
+    let a = asked (l .before) .args in (
       sym (all (l .before)),
       rw (all (l .before)) (pack-end 24 (l .loop .packet) _ (now (a .samples)) (l .loop .i) (c .loop-test .left) (l .loop .inv .2)),
     )
