@@ -3,22 +3,25 @@
 -- Assumes nothing.
 use Prim.Native.Nat.{ℕ, _≤_, _<_}
 use native.Mathlib.Omega.{arith}
-use mathlib.Core.Path.{_≡_, refl, sym, subst, _∙_}
+use mathlib.Core.Path.{_≡_, refl, sym, ap, subst, _∙_}
 use mathlib.Core.Bool.{Bool, true, false, _&&_, not}
 use mathlib.Core.List.{List, [], _∷_, _++_}
 use mathlib.Core.Logic.{_⊎_, inl, inr, _↔_}
 use borrow.Author.Tests.{eqb-true, eqb-false, ltb-true, ltb-false, ne-eqb, not-true}
 use lib.Dec.{eqb, ltb}
-use lib.ListN.{length}
+use lib.ListN.{length, replicate}
 use Rattle.wire.specs.Choice.{pick, Check, firstOf, Absent}
 use Rattle.wire.specs.Number.{number, field}
-use Rattle.wire.proofs.Checks.{differ, given-exactly}
+use Rattle.wire.proofs.Checks.{differ, given-exactly, not-given}
 use Rattle.wire.proofs.Laws.{and-left, and-right, and-both, true-not-false}
-use Rattle.items.specs.Answer.{codeOf}
+use Rattle.items.specs.Answer.{Message, checks, codeOf}
 use Rattle.items.specs.declared.Settings.{Settings}
+use Rattle.items.specs.declared.Began.{Began}
+use Rattle.items.specs.Settings.{isSerial, freshOf}
 use Rattle.framing.specs.Framing.{Taking, taken, finished}
 use Rattle.station.specs.declared.Station.{Station}
-use Rattle.station.specs.Station.{valid}
+use Rattle.station.specs.Station.{valid, freshBox}
+use Rattle.station.proofs.Valid.{feeding-broken, feeding-waiting}
 use Rattle.station.specs.Feeding.{Feeding, messageIn, refused, answered, waiting, comesTo, feedChecks, feedingOf}
 use Rattle.demands.proofs.Refused.{code-below}
 use Rattle.cutting.specs.Cutting.{cutCode}
@@ -88,6 +91,42 @@ feed-each s host room =
     subst (EachExactly (feedChecks s t room)) (sym (feed-code s host room))
     (each (feedChecks s t room) n refl (rw (ne-eqb 21 n (λ e. omega arith), ne-eqb 20 n (λ e. omega arith)) refl))
 
+-- a serial is one, or the code is 26
+fresh-each : (serial : List ℕ) → (freshBox serial .code ≡ 26) ↔ (isSerial serial ≡ false)
+fresh-each serial = go (isSerial serial) (record { code = 1; settings = freshOf serial }) (record { code = 26; settings = freshOf (replicate 8 0x30) }) refl refl
+  where
+    go : (b : Bool) (x y : Began) → x .code ≡ 1 → y .code ≡ 26 → (pick {X = Began} b x y .code ≡ 26) ↔ (b ≡ false)
+    go true x y one none = (λ e. absurd (omega arith), λ e. absurd (true-not-false e))
+    go false x y one none = (λ e. refl, λ e. none)
+
+-- no finished message waits
+not-waiting : (s : Settings) (m : Message) → codeOf s m ≡ 0 → ⊥
+unfolding codeOf
+not-waiting s m = not-given (checks s m) 1 0 refl (λ e. omega arith)
+
+comes-waiting : (s : Settings) (t : Taking) → finished (t .store) ≡ true → comesTo s t .fed .code ≡ 0 → ⊥
+comes-waiting s t f e = not-waiting s (messageIn (t .store)) (rw f at e)
+
+waits-each : (s : Station) (host : List ℕ) (room : ℕ)
+    → (feedingOf s host room .fed .code ≡ 0) ↔ ((valid s ≡ true) × (finished (taken (s .store) host .store) ≡ false))
+waits-each s host room = go (valid s) (finished (taken (s .store) host .store)) refl refl
+  where
+    t : Taking
+    t = taken (s .store) host
+
+    go : (v f : Bool) → valid s ≡ v → finished (t .store) ≡ f
+        → (feedingOf s host room .fed .code ≡ 0) ↔ ((valid s ≡ true) × (finished (t .store) ≡ false))
+    go false f p q =
+        let is : feedingOf s host room .fed .code ≡ 21 = ap (λ (k : Feeding). k .fed .code) (feeding-broken s host room p) in
+        (λ e. absurd (omega arith), λ h. absurd (true-not-false (sym (h .0) ∙ p)))
+    go true false p q =
+        let is : feedingOf s host room .fed .code ≡ 0 = ap (λ (k : Feeding). k .fed .code) (feeding-waiting (s .settings) (s .store) host room p q) in
+        (λ e. (p, q), λ h. is)
+    go true true p q = (
+      λ e. absurd (not-given (feedChecks s t room) (comesTo (s .settings) t .fed .code) 0 refl (comes-waiting (s .settings) t q) (sym (feed-code s host room) ∙ e)),
+      λ h. absurd (true-not-false (sym q ∙ h .1)),
+    )
+
 head-each : (s : List ℕ) → HeadExactly s
 head-each s = by (ltb (length s) headLength) (eqb (field 0 3 s) (number mark)) (eqb (field 3 2 s) version) (allowed (headIn s)) refl refl refl refl
   where
@@ -138,6 +177,8 @@ pub codes-given-exactly : GivenExactly
 unfolding codeOf cutCode readCode unpackCode headCode writeCode replyCode
 codes-given-exactly =
     record {
+      fresh = fresh-each;
+      waits = waits-each;
       feeding = feed-each;
       message = λ s m. each _ 1 refl refl;
       cutting = λ s samples room. each _ 1 refl refl;

@@ -10,9 +10,11 @@ use Rattle.wire.specs.Choice.{Check, Absent}
 use Rattle.wire.specs.Codes as Code
 use Rattle.wire.specs.Number.{number, field}
 use Rattle.items.specs.declared.Settings.{Settings}
+use Rattle.items.specs.Settings.{isSerial}
 use Rattle.items.specs.Answer.{Message, checks, codeOf}
 use Rattle.station.specs.declared.Station.{Station}
-use Rattle.framing.specs.Framing.{taken}
+use Rattle.station.specs.Station.{valid, freshBox}
+use Rattle.framing.specs.Framing.{taken, finished}
 use Rattle.station.specs.Feeding.{feedChecks, feedingOf}
 use Rattle.cutting.specs.Cutting.{cutChecks, cutCode}
 use Rattle.reader.specs.declared.Reader.{Reader}
@@ -41,6 +43,10 @@ pub record HeadExactly (s : List ℕ) : Type 0 where
       ↔ ((headLength ≤ length s) × (field 0 3 s ≡ number mark) × (field 3 2 s ≡ version → ⊥))
 
 pub record GivenExactly : Type 0 where
+  pub fresh : (serial : List ℕ) → (freshBox serial .code ≡ Code.notASerial) ↔ (isSerial serial ≡ false)
+  -- 0, which no list has: the box is not broken, and the bytes finish no message
+  pub waits : (s : Station) (host : List ℕ) (room : ℕ)
+      → (feedingOf s host room .fed .code ≡ Code.waiting) ↔ ((valid s ≡ true) × (finished (taken (s .store) host .store) ≡ false))
   pub feeding : (s : Station) (host : List ℕ) (room : ℕ) → EachExactly (feedChecks s (taken (s .store) host) room) (feedingOf s host room .fed .code)
   pub message : (s : Settings) (m : Message) → EachExactly (checks s m) (codeOf s m)
   pub cutting : (s : Station) (samples : List ℤ) (room : ℕ) → EachExactly (cutChecks s samples room) (cutCode s samples room)

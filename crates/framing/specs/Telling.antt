@@ -1,4 +1,4 @@
--- What a call tells of the bytes that it took: for the whole store the first ten bytes of a message that they finished. Nothing of
+-- What a call tells of the bytes that it took: in the store's place, the first ten bytes of a message that they finished. Nothing of
 -- document 01 rests on it; that ten bytes decide what the whole message does is `ten-decide` (items/proofs/TenBytes).
 use Prim.Native.Nat.{ℕ}
 use mathlib.Core.Bool.{_&&_}
@@ -14,7 +14,7 @@ use Rattle.framing.specs.Framing.{Taking, taken}
 unfoldable pub firstTen : List ℕ → List ℕ
 firstTen bytes = take 10 (bytes ++ replicate 10 0)
 
--- What a call says of it: for the store the first ten bytes of a finished message, and zeros of another.
+-- What a call says of it: in the store's place, the first ten bytes of a finished message, and zeros for one that is not finished.
 abbrev pub tookOf : Taking → Took
 tookOf t =
     record {

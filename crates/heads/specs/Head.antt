@@ -58,7 +58,7 @@ writtenCode Whole = Code.done
 writtenCode NotAllowed = Code.valueNotAllowed
 writtenCode NoRoom = Code.noRoom
 
--- what is written at the start of the lent slice: of the head, what the table of codes has beside the code
+-- what is written at the start of the lent slice: the head or nothing, by the column "Written" of the table of codes
 abbrev pub writtenBytes : Head → ℕ → List ℕ
 writtenBytes h room = othersWrite (writeCode h room) (headBytes h)
 

@@ -79,7 +79,8 @@ unfoldable pub unpackingOf : List ℕ → ℕ → Unpacked
 unpackingOf packet room =
     record { code = unpackCode packet room; count = pick (eqb (unpackCode packet room) Code.done) (countIn packet) 0 }
 
--- the numbers that unpacking writes at the start of the lent slice: of the packet's, what the table of codes has beside the code
+-- the numbers that unpacking writes at the start of the lent slice: all of the packet's or none, by the column "Written" of the
+-- table of codes
 unfoldable pub unpackedOf : List ℕ → ℕ → List ℤ
 unpackedOf packet room =
     othersWrite (unpackCode packet room) (samplesFrom (wholeOf packet .bits) (drop 4 packet) 0 (countIn packet))

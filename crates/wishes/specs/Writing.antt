@@ -19,7 +19,7 @@ writeChecks w room = check Code.valueNotAllowed (not (allowed w)) ∷ check Code
 unfoldable pub writeCode : Wish → ℕ → ℕ
 writeCode w room = firstOf (writeChecks w room) Code.done
 
--- what is written at the start of a buffer of so many bytes: of the message, what the table of codes has beside the code
+-- what is written at the start of a buffer of so many bytes: the message or nothing, by the column "Written" of the table of codes
 unfoldable pub bytesWritten : Wish → ℕ → List ℕ
 bytesWritten w room = othersWrite (writeCode w room) (messageOf w)
 
