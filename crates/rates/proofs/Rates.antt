@@ -1,5 +1,5 @@
 -- The table of achieved rates: each entry by the rounding rule, all distinct, and each the rate of one D.
-use Prim.Native.Nat.{ℕ, zero, suc, _+_, _-_, _<_, _≤_, suc-le-suc}
+use Prim.Native.Nat.{ℕ, zero, suc, _+_, _*_, _-_, _/_, _%_, _<_, _≤_, suc-le-suc}
 use mathlib.Core.Path.{_≡_, refl, sym, ap, _∙_}
 use mathlib.Core.Bool.{Bool, true, false}
 use mathlib.Core.List.{List, [], _∷_}
@@ -64,6 +64,25 @@ rate-names d is = nearest-chosen (rateOf d) (rate-asked d is) ∙ at-d (λ e. ch
 
 pub rate-one : (d e : ℕ) → isD d ≡ true → isD e ≡ true → rateOf d ≡ rateOf e → d ≡ e
 rate-one d e p q same = sym (rate-names d p) ∙ ap nearestOf same ∙ rate-names e q
+
+-- ---- a place by its stretch of 56, as `achieved` reads it
+
+-- the place is where its stretch begins, and its place in the stretch
+pub stretch : (k i : ℕ) → i / 56 ≡ k → 56 * k + i % 56 ≡ i
+stretch k i is = omega arith
+
+-- none of the first n numbers
+abbrev pub Past : ℕ → ℕ → Type 0
+Past zero k = Unit
+Past (suc n) k = Past n k × (k ≡ n → ⊥)
+
+past : (n k : ℕ) → Past n k → n ≤ k
+past zero k others = omega arith
+past (suc n) k others = omega (arith, past n k (others .0), others .1)
+
+-- the stretch that is none of the first ten is the last
+pub last-stretch : (i : ℕ) → i < 616 → Past 10 (i / 56) → i / 56 ≡ 10
+last-stretch i inside others = omega (arith, past 10 (i / 56) others)
 
 -- ---- the D of an achieved rate
 

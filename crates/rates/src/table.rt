@@ -20,7 +20,23 @@ pub fn achieved(d: u32) -> u32
     if !is_d(d) {
         return 0;
     }
-    RATES[(d - 10) as usize]
+    // The place is D less ten. The compiler lays all 616 numbers on the stack at each reading, save those that it sees cannot be
+    // read: so each arm reads in one stretch of 56, the `rest` being below 56, and only that stretch is laid.
+    let place = (d - 10) as usize;
+    let rest = place % 56;
+    match place / 56 {
+        0 => RATES[rest],
+        1 => RATES[56 + rest],
+        2 => RATES[112 + rest],
+        3 => RATES[168 + rest],
+        4 => RATES[224 + rest],
+        5 => RATES[280 + rest],
+        6 => RATES[336 + rest],
+        7 => RATES[392 + rest],
+        8 => RATES[448 + rest],
+        9 => RATES[504 + rest],
+        _ => RATES[560 + rest],
+    }
 }
 
 // The D whose achieved rate is exactly this one, and 0 where there is none. No other than the nearest can be it.
