@@ -4,7 +4,12 @@ use crate::item::{MODE_16, MODE_24, SIZE_LARGE, SIZE_SMALL};
 use crate::packet::{number_at, Form};
 use crate::random::Random;
 
+/// Packets cut or unpacked in a run: what a cache near the processor holds.
 pub const PACKETS: usize = 16;
+
+/// Packets read in a run. Of these only the first bytes are looked at, and that takes so little time that in fewer the clock
+/// would be seen.
+pub const PACKETS_READ: usize = 256;
 
 /// A form with its name, mode and size.
 pub const FORMS: [(&str, Form, u8, u8); 4] = [
@@ -33,7 +38,7 @@ pub fn packets(form: Form, positions: impl IntoIterator<Item = u64>) -> Vec<u8> 
     packets
 }
 
-/// PACKETS packets, none lost.
-pub fn run(form: Form) -> Vec<u8> {
-    packets(form, 0..PACKETS as u64)
+/// The first packets of a capture, none lost.
+pub fn first_packets(form: Form, count: usize) -> Vec<u8> {
+    packets(form, 0..count as u64)
 }

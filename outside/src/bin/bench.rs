@@ -13,7 +13,7 @@ use std::process::{Command, Stdio};
 use std::time::Instant;
 
 use outside::boundary::{Library, Plain};
-use outside::capture::{packets, run, signal, FORMS, PACKETS};
+use outside::capture::{first_packets, packets, signal, FORMS, PACKETS, PACKETS_READ};
 use outside::packet::number_at;
 use outside::random::Random;
 use outside::talk::{frequencies, kinds, Talk};
@@ -238,13 +238,13 @@ fn main() {
         cut(what, form, mode, size, rounds, wanted);
     }
     for (what, form, ..) in FORMS {
-        read(&format!("read, {what}"), &run(form), form.total(), rounds * 10, Some(1.0));
+        read(&format!("read, {what}"), &first_packets(form, PACKETS_READ), form.total(), rounds, Some(1.0));
     }
     for percent in [0, 1, 30] {
         read_lossy("small, 24 bits", Form::SMALL_24, percent, rounds / 4);
     }
     for ((what, form, ..), wanted) in FORMS.into_iter().zip([Some(0.8), None, Some(1.0), None]) {
-        unpack(what, form, &run(form), rounds, wanted);
+        unpack(what, form, &first_packets(form, PACKETS), rounds, wanted);
     }
     println!();
     head("message, by kind");

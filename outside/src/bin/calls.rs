@@ -10,7 +10,7 @@ use std::hint::black_box;
 
 use outside::boundary::{self, Library, Plain, Said, WishFields, READER_BYTES, STATION_BYTES};
 use outside::boundary::{ASK_RATE, ASK_VERSION, SET_CLOCK, SET_FREQUENCY, SET_GAIN, SET_RATE, SET_SIZE, SET_STATE};
-use outside::capture::{run, signal, FORMS, PACKETS};
+use outside::capture::{first_packets, signal, FORMS, PACKETS, PACKETS_READ};
 use outside::random::Random;
 use outside::talk::LONGEST_REPLY;
 use outside::timing::{best, both, head, row, Rooms, Who};
@@ -125,8 +125,8 @@ fn read(what: &str, form: Form, packets: &[u8], rounds: usize) {
     let mut readers = Rooms::new(READER_BYTES);
     let found = time(
         &format!("read, {what}"),
-        PACKETS,
-        rounds * 10,
+        PACKETS_READ,
+        rounds,
         || run(Proved, packets, total, black_box(&mut readers.proved)),
         || run(Plain, packets, total, black_box(&mut readers.rust)),
     );
@@ -144,8 +144,8 @@ fn sample_bytes(what: &str, form: Form, packets: &[u8], rounds: usize) {
     let total = black_box(form.total());
     time(
         &format!("sample bytes, {what}"),
-        PACKETS,
-        rounds * 10,
+        PACKETS_READ,
+        rounds,
         || run(Proved, packets, total),
         || run(Plain, packets, total),
     );
@@ -269,10 +269,10 @@ fn main() {
         cut(what, form, mode, size, rounds);
     }
     for (what, form, ..) in FORMS {
-        read(what, form, &run(form), rounds);
+        read(what, form, &first_packets(form, PACKETS_READ), rounds);
     }
     for (what, form, ..) in FORMS {
-        sample_bytes(what, form, &run(form), rounds);
+        sample_bytes(what, form, &first_packets(form, PACKETS_READ), rounds);
     }
     let kinds = [
         ("0001 name, request", Some(0)),
