@@ -16,11 +16,13 @@ free=$(df -Pk "$room" | awk 'NR == 2 { print $4 }')
 ./native.sh
 cc -O3 -c c/peer.c -o target/native/bench.o
 cc -O3 -DPIECES -c c/peer.c -o target/native/pieces.o
-DOOR_FOLDER=$PWD/target/native PEER_FOLDER=$PWD/target/native cargo build --quiet --release --offline --bin bench --bin pieces
+DOOR_FOLDER=$PWD/target/native PEER_FOLDER=$PWD/target/native cargo build --quiet --release --offline --bin bench --bin pieces --bin calls
 
 kind=$(lscpu 2>/dev/null | sed -n 's/^Model name: *//p' | head -n 1)
 echo "$(uname -m)${kind:+, $kind}, $(getconf _NPROCESSORS_ONLN) cores; $(rustc --version | cut -d' ' -f1-2), $(cc --version | head -n 1)"
 echo
 target/release/pieces "$@"
+echo
+target/release/calls "$@"
 echo
 SPAN_PROGRAM=$PWD/target/native/span CAPTURE_FOLDER=$room target/release/bench "$@"

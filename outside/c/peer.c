@@ -86,7 +86,8 @@ static size_t total_of(unsigned header)
     return length < 2 ? 2 : length;
 }
 
-static bool sound(const struct station *s)
+/* inline: it has two callers, and gcc would make a call of it */
+static inline bool sound(const struct station *s)
 {
     static const uint8_t unused[HELD];
     if (!frequency_allowed(s->frequency) || s->count > 4000000000u || !clock_allowed(s->clock)) return false;
@@ -477,9 +478,10 @@ uint64_t peer_read_run(const uint8_t *packets, size_t n, size_t total)
     return sample;
 }
 
-int peer_unpack(const uint8_t *packet, size_t n, int32_t *numbers, size_t room)
+int peer_unpack(const uint8_t *packet, size_t n, int32_t *numbers, size_t room, size_t *count)
 {
     uint64_t bits, pairs;
+    *count = 0;
     if (!form_of(packet, n, &bits, &pairs)) return NOT_A_PACKET;
     if (room < 2 * pairs) return NO_ROOM;
     const uint8_t *at = packet + 4;
@@ -493,5 +495,6 @@ int peer_unpack(const uint8_t *packet, size_t n, int32_t *numbers, size_t room)
             numbers[i] = x;
         }
     }
+    *count = 2 * pairs;
     return DONE;
 }

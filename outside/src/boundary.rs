@@ -38,9 +38,9 @@ pub trait Library {
     /// Code, numbers written.
     fn unpack(&self, packet: &[u8], numbers: &mut [i32]) -> (u8, usize);
     /// Code, bytes written.
-    fn write_wish(&self, which: u64, value: u64, buffer: &mut [u8]) -> (u8, usize);
+    fn write_wish(&self, fields: WishFields, buffer: &mut [u8]) -> (u8, usize);
     /// Code, and what the bytes say.
-    fn read_reply(&self, which: u64, value: u64, bytes: &[u8]) -> (u8, Said);
+    fn read_reply(&self, fields: WishFields, bytes: &[u8]) -> (u8, Said);
     /// Code.
     fn write_head(&self, divisor: u32, frequency: u64, mode: u8, size: u8, buffer: &mut [u8]) -> u8;
     /// Code, and the head, zeros where there is none.
@@ -51,35 +51,63 @@ pub trait Library {
     fn span(&self, input: &[u8]) -> Option<Vec<u8>>;
 }
 
-/// The wish of a number and a value. A state is its run byte and 256 times its mode. `None` where there is no such wish, or
-/// no such value of it: a value that does not fit its field is one that the box would refuse.
-pub fn wish(which: u64, value: u64) -> Option<Wish> {
-    let byte = || u8::try_from(value).ok();
-    let word = || u32::try_from(value).ok();
-    Some(match which {
-        0 => Wish::Name,
-        1 => Wish::Serial,
-        2 => Wish::Interface,
-        ASK_VERSION => Wish::Version(byte()?),
-        4 => Wish::Status,
-        SET_STATE => {
-            let [run, mode] = u16::try_from(value).ok()?.to_le_bytes();
-            Wish::SetState(StateWish { run, mode })
+/// A wish as it crosses: its number, and the fields of every case.
+#[derive(Clone, Copy, Debug, Default, PartialEq, Eq)]
+pub struct WishFields {
+    pub which: u8,
+    pub byte: u8,
+    pub mode: u8,
+    pub gain: i8,
+    pub word: u32,
+    pub hertz: u64,
+}
+
+impl WishFields {
+    /// The wish of a number and a value. A state is its run byte and 256 times its mode. A number that names no wish where
+    /// the value does not fit its field: such a value is one that the box would refuse.
+    pub fn of(which: u64, value: u64) -> Self {
+        let none = WishFields { which: u8::MAX, ..WishFields::default() };
+        let Ok(which) = u8::try_from(which) else { return none };
+        let fields = WishFields { which, ..WishFields::default() };
+        let byte = u8::try_from(value);
+        let word = u32::try_from(value);
+        match u64::from(which) {
+            ASK_VERSION | SET_SIZE => byte.map_or(none, |byte| WishFields { byte, ..fields }),
+            SET_STATE => u16::try_from(value).map_or(none, |state| {
+                let [byte, mode] = state.to_le_bytes();
+                WishFields { byte, mode, ..fields }
+            }),
+            SET_FREQUENCY => WishFields { hertz: value, ..fields },
+            SET_GAIN => byte.map_or(none, |byte| WishFields { gain: byte as i8, ..fields }),
+            SET_CLOCK | SET_RATE => word.map_or(none, |word| WishFields { word, ..fields }),
+            _ => fields,
         }
-        6 => Wish::State,
-        SET_FREQUENCY => Wish::SetFrequency(value),
-        8 => Wish::Frequency,
-        9 => Wish::FrequencyRange,
-        SET_GAIN => Wish::SetGain(byte()? as i8),
-        11 => Wish::Gain,
-        SET_CLOCK => Wish::SetClock(word()?),
-        13 => Wish::Clock,
-        SET_RATE => Wish::SetRate(word()?),
-        ASK_RATE => Wish::Rate,
-        SET_SIZE => Wish::SetPacketSize(byte()?),
-        17 => Wish::PacketSize,
-        _ => return None,
-    })
+    }
+
+    /// `None` where the number names no wish.
+    pub fn wish(self) -> Option<Wish> {
+        Some(match u64::from(self.which) {
+            0 => Wish::Name,
+            1 => Wish::Serial,
+            2 => Wish::Interface,
+            ASK_VERSION => Wish::Version(self.byte),
+            4 => Wish::Status,
+            SET_STATE => Wish::SetState(StateWish { run: self.byte, mode: self.mode }),
+            6 => Wish::State,
+            SET_FREQUENCY => Wish::SetFrequency(self.hertz),
+            8 => Wish::Frequency,
+            9 => Wish::FrequencyRange,
+            SET_GAIN => Wish::SetGain(self.gain),
+            11 => Wish::Gain,
+            SET_CLOCK => Wish::SetClock(self.word),
+            13 => Wish::Clock,
+            SET_RATE => Wish::SetRate(self.word),
+            ASK_RATE => Wish::Rate,
+            SET_SIZE => Wish::SetPacketSize(self.byte),
+            17 => Wish::PacketSize,
+            _ => return None,
+        })
+    }
 }
 
 /// What a reply says, as numbers: the item's code, how many values it has, the first two of them, and a gain, which is
@@ -185,13 +213,15 @@ pub fn reader_bytes(reader: &Reader) -> [u8; READER_BYTES] {
 }
 
 /// The implementation of this folder. As over the other side of the boundary, a state of another length is 21 with nothing
-/// written, and a state is written back only where the call was not refused.
+/// written, and a state is written back only where the call was not refused. The calls stand apart from their callers, as
+/// those of a linked library do: so a benchmark times the same call of both.
 pub struct Plain;
 
 const BROKEN: u8 = 21;
 const BAD_VALUE: u8 = 16;
 
 impl Library for Plain {
+    #[inline(never)]
     fn fresh(&self, serial: &[u8], state: &mut [u8]) -> u8 {
         if state.len() != STATION_BYTES {
             return BROKEN;
@@ -201,6 +231,7 @@ impl Library for Plain {
         code as u8
     }
 
+    #[inline(never)]
     fn feed(&self, state: &mut [u8], host: &[u8], reply: &mut [u8]) -> (u8, usize, usize) {
         if state.len() != STATION_BYTES {
             return (BROKEN, 0, 0);
@@ -213,6 +244,7 @@ impl Library for Plain {
         (fed.code as u8, fed.consumed, fed.wrote)
     }
 
+    #[inline(never)]
     fn word(&self, state: &[u8]) -> (u8, u64) {
         if state.len() != STATION_BYTES {
             return (BROKEN, 0);
@@ -223,6 +255,7 @@ impl Library for Plain {
         }
     }
 
+    #[inline(never)]
     fn cut(&self, state: &mut [u8], samples: &[i32], packet: &mut [u8]) -> (u8, usize) {
         if state.len() != STATION_BYTES {
             return (BROKEN, 0);
@@ -235,6 +268,7 @@ impl Library for Plain {
         (cut.code as u8, cut.wrote)
     }
 
+    #[inline(never)]
     fn read(&self, reader: &mut [u8], packet: &[u8]) -> (u8, u64, u64) {
         if reader.len() != READER_BYTES {
             return (BROKEN, 0, 0);
@@ -249,11 +283,13 @@ impl Library for Plain {
         }
     }
 
+    #[inline(never)]
     fn sample_byte(&self, packet: &[u8], place: usize) -> (usize, u8) {
         let part = crate::packet::sample_bytes(packet);
         (part.len(), part.get(place).copied().unwrap_or(0))
     }
 
+    #[inline(never)]
     fn unpack(&self, packet: &[u8], numbers: &mut [i32]) -> (u8, usize) {
         match reader::unpack(packet, numbers) {
             Ok(count) => (1, count),
@@ -261,22 +297,25 @@ impl Library for Plain {
         }
     }
 
-    fn write_wish(&self, which: u64, value: u64, buffer: &mut [u8]) -> (u8, usize) {
-        let Some(wish) = wish(which, value) else { return (BAD_VALUE, 0) };
+    #[inline(never)]
+    fn write_wish(&self, fields: WishFields, buffer: &mut [u8]) -> (u8, usize) {
+        let Some(wish) = fields.wish() else { return (BAD_VALUE, 0) };
         match wish.write(buffer) {
             Ok(length) => (1, length),
             Err(code) => (code as u8, 0),
         }
     }
 
-    fn read_reply(&self, which: u64, value: u64, bytes: &[u8]) -> (u8, Said) {
-        let Some(wish) = wish(which, value) else { return (BAD_VALUE, Said::default()) };
+    #[inline(never)]
+    fn read_reply(&self, fields: WishFields, bytes: &[u8]) -> (u8, Said) {
+        let Some(wish) = fields.wish() else { return (BAD_VALUE, Said::default()) };
         match reply::read(wish, bytes) {
             Ok(reply) => (1, said(wish, reply)),
             Err(code) => (code as u8, Said::default()),
         }
     }
 
+    #[inline(never)]
     fn write_head(&self, divisor: u32, frequency: u64, mode: u8, size: u8, buffer: &mut [u8]) -> u8 {
         match (Head { divisor, frequency, mode, size }).write(buffer) {
             Ok(_) => 1,
@@ -284,6 +323,7 @@ impl Library for Plain {
         }
     }
 
+    #[inline(never)]
     fn read_head(&self, bytes: &[u8]) -> (u8, Head) {
         match Head::read(bytes) {
             Ok(head) => (1, head),

@@ -5,6 +5,7 @@
 //! over exact chunks, state behind `&mut self`, nothing copied that can be borrowed.
 
 pub mod boundary;
+pub mod capture;
 pub mod code;
 pub mod head;
 pub mod item;
@@ -18,6 +19,7 @@ pub mod reader;
 pub mod reply;
 pub mod span;
 pub mod station;
+pub mod talk;
 pub mod timing;
 pub mod tuning;
 pub mod wish;

@@ -3,8 +3,7 @@
 use std::io::Write;
 use std::process::{Command, Stdio};
 
-use crate::boundary::{Library, Said};
-use crate::boundary::{ASK_VERSION, SET_CLOCK, SET_FREQUENCY, SET_GAIN, SET_RATE, SET_SIZE, SET_STATE};
+use crate::boundary::{Library, Said, WishFields};
 use crate::head::Head;
 use crate::packet::Form;
 use crate::random::Random;
@@ -106,39 +105,6 @@ mod door {
     }
 }
 
-/// A wish as the door takes it: its number, and the fields of every case.
-#[derive(Default)]
-struct Fields {
-    which: u8,
-    byte: u8,
-    mode: u8,
-    gain: i8,
-    word: u32,
-    hertz: u64,
-}
-
-impl Fields {
-    /// A number that names no wish where the value does not fit its field.
-    fn of(which: u64, value: u64) -> Self {
-        let none = Fields { which: u8::MAX, ..Fields::default() };
-        let Ok(which) = u8::try_from(which) else { return none };
-        let fields = Fields { which, ..Fields::default() };
-        let byte = u8::try_from(value);
-        let word = u32::try_from(value);
-        match u64::from(which) {
-            ASK_VERSION | SET_SIZE => byte.map_or(none, |byte| Fields { byte, ..fields }),
-            SET_STATE => u16::try_from(value).map_or(none, |state| {
-                let [byte, mode] = state.to_le_bytes();
-                Fields { which, byte, mode, ..Fields::default() }
-            }),
-            SET_FREQUENCY => Fields { hertz: value, ..fields },
-            SET_GAIN => byte.map_or(none, |byte| Fields { gain: byte as i8, which, ..Fields::default() }),
-            SET_CLOCK | SET_RATE => word.map_or(none, |word| Fields { word, which, ..Fields::default() }),
-            _ => fields,
-        }
-    }
-}
-
 /// Calls go to the archive that was linked in.
 pub struct Proved;
 
@@ -215,17 +181,16 @@ impl Library for Proved {
         (code, count)
     }
 
-    fn write_wish(&self, which: u64, value: u64, buffer: &mut [u8]) -> (u8, usize) {
-        let wish = Fields::of(which, value);
+    fn write_wish(&self, fields: WishFields, buffer: &mut [u8]) -> (u8, usize) {
         let mut wrote = usize::MAX;
         let code = unsafe {
             door::skvornela_wish(
-                wish.which,
-                wish.byte,
-                wish.mode,
-                wish.gain,
-                wish.word,
-                wish.hertz,
+                fields.which,
+                fields.byte,
+                fields.mode,
+                fields.gain,
+                fields.word,
+                fields.hertz,
                 buffer.as_mut_ptr(),
                 buffer.len(),
                 &mut wrote,
@@ -234,17 +199,16 @@ impl Library for Proved {
         (code, wrote)
     }
 
-    fn read_reply(&self, which: u64, value: u64, bytes: &[u8]) -> (u8, Said) {
-        let wish = Fields::of(which, value);
+    fn read_reply(&self, fields: WishFields, bytes: &[u8]) -> (u8, Said) {
         let mut said = Said { item: u16::MAX, count: usize::MAX, first: u64::MAX, second: u64::MAX, gain: i8::MAX };
         let code = unsafe {
             door::skvornela_reply(
-                wish.which,
-                wish.byte,
-                wish.mode,
-                wish.gain,
-                wish.word,
-                wish.hertz,
+                fields.which,
+                fields.byte,
+                fields.mode,
+                fields.gain,
+                fields.word,
+                fields.hertz,
                 bytes.as_ptr(),
                 bytes.len(),
                 &mut said.item,
@@ -285,7 +249,7 @@ impl Library for Proved {
         let program = std::env::var_os("SPAN_PROGRAM")?;
         let mut child =
             Command::new(program).stdin(Stdio::piped()).stdout(Stdio::piped()).spawn().expect("the span program runs");
-        let mut stdin = child.stdin.take()?;
+        let mut stdin = child.stdin.take().expect("a pipe to it");
         let mut random = Random::new(input.len() as u64);
         let mut rest = input;
         while !rest.is_empty() {

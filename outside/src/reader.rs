@@ -84,6 +84,7 @@ pub fn unpack(packet: &[u8], numbers: &mut [i32]) -> Result<usize, Code> {
 
 /// Reads packets of one length one after another by a new reader, to the first that is refused: the position of the last
 /// packet's first sample.
+#[inline(never)]
 pub fn read_run(packets: &[u8], total: usize) -> u64 {
     let mut reader = Reader::default();
     let mut sample = 0;

@@ -1,9 +1,8 @@
 //! How the benchmarks are taken: candidates in turn, the best of many runs, a row of a table in markdown.
 
 use std::hint::black_box;
+use std::ops::{Deref, DerefMut};
 use std::time::Instant;
-
-use crate::random::Random;
 
 /// Who is timed: the columns of the table.
 #[derive(Clone, Copy, PartialEq)]
@@ -60,47 +59,80 @@ pub fn row(what: &str, found: &[(Who, f64)], wanted: Option<f64>) {
     );
 }
 
-/// A sum over bytes, so that a run's output is looked at.
-pub fn digest(bytes: &[u8]) -> u64 {
-    bytes.iter().fold(0u64, |sum, b| sum.wrapping_mul(31).wrapping_add(u64::from(*b)))
-}
-
 /// The runners that were built. What was not linked in is never called.
 pub fn runners<'a>(
     proved: impl FnMut() -> u64 + 'a,
     rust: impl FnMut() -> u64 + 'a,
     c: impl FnMut() -> u64 + 'a,
 ) -> Vec<Runner<'a>> {
-    let mut list = vec![Runner { who: Who::Rust, run: Box::new(rust) }];
-    if !c_absent() {
+    let mut list = both(proved, rust);
+    if cfg!(peer) {
         list.push(Runner { who: Who::C, run: Box::new(c) });
     }
-    if !proved_absent() {
+    list
+}
+
+/// Those of a call that the C peer does not have.
+pub fn both<'a>(proved: impl FnMut() -> u64 + 'a, rust: impl FnMut() -> u64 + 'a) -> Vec<Runner<'a>> {
+    let mut list = vec![Runner { who: Who::Rust, run: Box::new(rust) }];
+    if cfg!(proved) {
         list.push(Runner { who: Who::Proved, run: Box::new(proved) });
     }
     list
 }
 
-pub fn proved_absent() -> bool {
-    cfg!(not(proved))
+/// Room for what a candidate writes. It begins with a page, so that no candidate gains by where its room happens to lie.
+pub struct Room<T> {
+    all: Vec<T>,
+    from: usize,
+    count: usize,
 }
 
-pub fn c_absent() -> bool {
-    cfg!(not(peer))
-}
+const PAGE: usize = 4096;
 
-pub const MESSAGES: usize = 1000;
-
-/// A set-frequency message has ten bytes, and so has its reply.
-pub const MESSAGE: usize = 10;
-
-/// What a host says that sets the frequency again and again.
-pub fn talk() -> Vec<u8> {
-    let mut random = Random::new(1);
-    let mut host = Vec::new();
-    for _ in 0..MESSAGES {
-        host.extend([0x0A, 0x00, 0x20, 0x00, 0x00]);
-        host.extend(&random.within(100_000, 34_000_000).to_le_bytes()[..5]);
+impl<T: Clone + Default> Room<T> {
+    pub fn new(count: usize) -> Self {
+        let all = vec![T::default(); count + PAGE / size_of::<T>()];
+        let from = all.as_ptr().align_offset(PAGE);
+        Room { all, from, count }
     }
-    host
+}
+
+impl<T> Deref for Room<T> {
+    type Target = [T];
+
+    fn deref(&self) -> &[T] {
+        &self.all[self.from..][..self.count]
+    }
+}
+
+impl<T> DerefMut for Room<T> {
+    fn deref_mut(&mut self) -> &mut [T] {
+        &mut self.all[self.from..][..self.count]
+    }
+}
+
+/// A room for each candidate.
+pub struct Rooms<T> {
+    pub proved: Room<T>,
+    pub rust: Room<T>,
+    pub c: Room<T>,
+}
+
+impl<T: Clone + Default + PartialEq> Rooms<T> {
+    pub fn new(count: usize) -> Self {
+        Rooms { proved: Room::new(count), rust: Room::new(count), c: Room::new(count) }
+    }
+
+    /// All who were timed must have written the same.
+    pub fn agree(&self, found: &[(Who, f64)]) {
+        for (who, _) in found {
+            let room = match who {
+                Who::Proved => &self.proved,
+                Who::Rust => &self.rust,
+                Who::C => &self.c,
+            };
+            assert!(room[..] == self.rust[..], "the rooms differ");
+        }
+    }
 }

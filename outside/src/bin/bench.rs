@@ -12,10 +12,18 @@ use std::path::Path;
 use std::process::{Command, Stdio};
 use std::time::Instant;
 
+use outside::boundary::{Library, Plain};
+use outside::capture::{first_packets, packets, signal, FORMS, PACKETS, PACKETS_READ};
 use outside::packet::number_at;
 use outside::random::Random;
-use outside::timing::{best, c_absent, digest, head, proved_absent, row, runners, talk, MESSAGE, MESSAGES};
+use outside::talk::{frequencies, kinds, Talk};
+use outside::timing::{best, head, row, runners, Rooms};
 use outside::{reader, station, Form, Head};
+
+#[cfg(proved)]
+use outside::proved::{cut_run, read_run, serve, Proved};
+#[cfg(not(proved))] // names for what is then not called
+use {outside::boundary::Plain as Proved, reader::read_run, station::cut_run, station::serve};
 
 #[cfg(peer)]
 mod peer {
@@ -23,216 +31,136 @@ mod peer {
         pub fn peer_serve(host: *const u8, n: usize, replies: *mut u8, room: usize) -> usize;
         pub fn peer_cut_run(mode: u8, size: u8, samples: *const i32, n: usize, packets: *mut u8, room: usize) -> usize;
         pub fn peer_read_run(packets: *const u8, n: usize, total: usize) -> u64;
-        pub fn peer_unpack(packet: *const u8, n: usize, numbers: *mut i32, room: usize) -> i32;
+        pub fn peer_unpack(packet: *const u8, n: usize, numbers: *mut i32, room: usize, count: *mut usize) -> i32;
     }
 }
 
-fn feed(rounds: usize) {
-    let host = talk();
-    let room = MESSAGES * MESSAGE + 64;
-    let (mut a, mut b, mut c) = (vec![0; room], vec![0; room], vec![0; room]);
+// All three must make the same call. The proved library and the C are compiled apart from this program; a Rust call would be
+// fitted to its one caller, whose lengths the compiler knows and who may drop a part of the answer. So what is lent is a black
+// box, the Rust calls are never inlined here, and code and count are both looked at. And compilers inline by the number of
+// callers: each call has one place here, for any number of rows, and the test that a box is not broken, which in Rust and C has
+// several callers and in each proved library one, is inlined in all three.
+
+fn feed(talk: &Talk, rounds: usize, wanted: Option<f64>) {
+    let host = &talk.host[..];
+    let mut rooms = Rooms::new(talk.room());
     let mut runners = runners(
-        || proved_serve(&host, &mut a),
-        || station::serve(black_box(&host), &mut b) as u64,
-        || c_serve(&host, &mut c),
+        || serve(black_box(host), black_box(&mut rooms.proved)) as u64,
+        || station::serve(black_box(host), black_box(&mut rooms.rust)) as u64,
+        || c_serve(black_box(host), black_box(&mut rooms.c)) as u64,
     );
-    let found = best(&mut runners, MESSAGES as f64, rounds);
+    let found = best(&mut runners, talk.messages as f64, rounds);
     drop(runners);
-    assert!(digest(&b) == digest(&c) || c_absent());
-    assert!(digest(&b) == digest(&a) || proved_absent());
-    row("feed, a set-frequency message", &found, Some(1.0));
+    rooms.agree(&found);
+    row(talk.what, &found, wanted);
 }
 
-const PACKETS: usize = 16;
-
-fn form_name(form: Form) -> String {
-    let size = if form == Form::LARGE_24 || form == Form::LARGE_16 { "large" } else { "small" };
-    format!("{size}, {} bits", form.bits)
-}
-
-fn settings_of(form: Form) -> (u8, u8) {
-    let mode = if form.bits == 24 { 0x80 } else { 0x00 };
-    (mode, (form == Form::SMALL_24 || form == Form::SMALL_16).into())
-}
-
-fn signal(count: usize) -> Vec<i32> {
-    let mut random = Random::new(2);
-    (0..count).map(|_| (random.any() as i32) >> 8).collect()
-}
-
-fn cut(form: Form, rounds: usize, wanted: Option<f64>) {
-    let (mode, size) = settings_of(form);
-    let samples = signal(PACKETS * form.samples());
-    let room = PACKETS * form.total();
-    let (mut a, mut b, mut c) = (vec![0; room], vec![0; room], vec![0; room]);
+fn cut(what: &str, form: Form, mode: u8, size: u8, rounds: usize, wanted: Option<f64>) {
+    let (mode, size, samples) = (black_box(mode), black_box(size), &signal(form)[..]);
+    let mut rooms = Rooms::new(PACKETS * form.total());
     let mut runners = runners(
-        || proved_cut(mode, size, &samples, &mut a),
-        || station::cut_run(black_box(mode), black_box(size), &samples, &mut b) as u64,
-        || c_cut(mode, size, &samples, &mut c),
+        || cut_run(mode, size, black_box(samples), black_box(&mut rooms.proved)) as u64,
+        || station::cut_run(mode, size, black_box(samples), black_box(&mut rooms.rust)) as u64,
+        || c_cut_run(mode, size, black_box(samples), black_box(&mut rooms.c)) as u64,
     );
     let found = best(&mut runners, PACKETS as f64, rounds);
     drop(runners);
-    assert!(digest(&b) == digest(&c) || c_absent());
-    assert!(digest(&b) == digest(&a) || proved_absent());
-    row(&format!("cut, {}", form_name(form)), &found, wanted);
+    rooms.agree(&found);
+    row(&format!("cut, {what}"), &found, wanted);
 }
 
-fn packets(form: Form) -> Vec<u8> {
-    let (mode, size) = settings_of(form);
-    let samples = signal(PACKETS * form.samples());
-    let mut packets = vec![0; PACKETS * form.total()];
-    assert_eq!(station::cut_run(mode, size, &samples, &mut packets), PACKETS);
-    packets
-}
-
-fn read(form: Form, rounds: usize, wanted: Option<f64>) {
-    let packets = packets(form);
-    let total = form.total();
+fn read(what: &str, packets: &[u8], total: usize, rounds: usize, wanted: Option<f64>) {
     let mut runners = runners(
-        || proved_read(&packets, total),
-        || reader::read_run(black_box(&packets), black_box(total)),
-        || c_read(&packets, total),
+        || read_run(black_box(packets), black_box(total)),
+        || reader::read_run(black_box(packets), black_box(total)),
+        || c_read_run(black_box(packets), black_box(total)),
     );
-    let found = best(&mut runners, PACKETS as f64, rounds * 10);
+    let found = best(&mut runners, (packets.len() / total) as f64, rounds);
     drop(runners);
-    row(&format!("read, {}", form_name(form)), &found, wanted);
+    row(what, &found, wanted);
 }
 
 /// A run so long that no processor learns by heart which packets are missing.
-fn read_lossy(form: Form, percent: u64, rounds: usize) {
+fn read_lossy(what: &str, form: Form, percent: u64, rounds: usize) {
     const HEARD: usize = 4096;
-    let total = form.total();
     let mut random = Random::new(4);
-    let mut packets = vec![0; HEARD * total];
     let mut position = 0;
-    for packet in packets.chunks_exact_mut(total) {
-        packet[..2].copy_from_slice(&form.header());
-        packet[2..4].copy_from_slice(&number_at(position).to_le_bytes());
+    let positions = (0..HEARD).map(|_| {
+        let here = position;
         position += 1;
         while random.within(1, 100) <= percent {
             position += 1;
         }
-    }
-    let mut runners = runners(
-        || proved_read(&packets, total),
-        || reader::read_run(black_box(&packets), black_box(total)),
-        || c_read(&packets, total),
-    );
-    let found = best(&mut runners, HEARD as f64, rounds);
-    drop(runners);
-    row(&format!("read, {}, {percent} % lost", form_name(form)), &found, None);
+        here
+    });
+    let packets = packets(form, positions);
+    read(&format!("read, {what}, {percent} % lost"), &packets, form.total(), rounds, None);
 }
 
-fn unpack(form: Form, rounds: usize, wanted: Option<f64>) {
-    let packets = packets(form);
-    let count = form.samples();
-    let (mut a, mut b, mut c) = (vec![0; count], vec![0; count], vec![0; count]);
+fn unpack(what: &str, form: Form, packets: &[u8], rounds: usize, wanted: Option<f64>) {
+    let total = black_box(form.total());
+    let mut rooms = Rooms::new(form.samples());
     let mut runners = runners(
-        || each(&packets, form, |packet| proved_unpack(packet, &mut a)),
-        || each(&packets, form, |packet| rust_unpack(packet, &mut b)),
-        || each(&packets, form, |packet| c_unpack(packet, &mut c)),
+        || each(packets, total, black_box(&mut rooms.proved), |packet, numbers| Proved.unpack(packet, numbers)),
+        || each(packets, total, black_box(&mut rooms.rust), |packet, numbers| Plain.unpack(packet, numbers)),
+        || each(packets, total, black_box(&mut rooms.c), c_unpack),
     );
     let found = best(&mut runners, PACKETS as f64, rounds);
     drop(runners);
-    assert!(b == c || c_absent());
-    assert!(b == a || proved_absent());
-    row(&format!("unpack, {}", form_name(form)), &found, wanted);
+    rooms.agree(&found);
+    row(&format!("unpack, {what}"), &found, wanted);
 }
 
-fn each(packets: &[u8], form: Form, unpack: impl FnMut(&[u8]) -> u64) -> u64 {
-    packets.chunks_exact(form.total()).map(unpack).sum()
-}
-
-/// Out of line, as the other two are.
-#[inline(never)]
-fn rust_unpack(packet: &[u8], numbers: &mut [i32]) -> u64 {
-    reader::unpack(packet, numbers).map_or_else(|code| code as u64, |_| 1)
-}
-
-#[cfg(proved)]
-use outside::proved;
-
-#[cfg(proved)]
-fn proved_serve(host: &[u8], replies: &mut [u8]) -> u64 {
-    proved::serve(host, replies) as u64
-}
-
-#[cfg(proved)]
-fn proved_cut(mode: u8, size: u8, samples: &[i32], packets: &mut [u8]) -> u64 {
-    proved::cut_run(mode, size, samples, packets) as u64
-}
-
-#[cfg(proved)]
-fn proved_read(packets: &[u8], total: usize) -> u64 {
-    proved::read_run(packets, total)
-}
-
-#[cfg(proved)]
-fn proved_unpack(packet: &[u8], numbers: &mut [i32]) -> u64 {
-    use outside::boundary::Library;
-    proved::Proved.unpack(packet, numbers).0.into()
-}
-
-#[cfg(not(proved))]
-fn proved_serve(_: &[u8], _: &mut [u8]) -> u64 {
-    0
-}
-
-#[cfg(not(proved))]
-fn proved_cut(_: u8, _: u8, _: &[i32], _: &mut [u8]) -> u64 {
-    0
-}
-
-#[cfg(not(proved))]
-fn proved_read(_: &[u8], _: usize) -> u64 {
-    0
-}
-
-#[cfg(not(proved))]
-fn proved_unpack(_: &[u8], _: &mut [i32]) -> u64 {
-    0
+/// Unpacks packets of one length, each by a call of its own, and looks at both code and count.
+fn each(packets: &[u8], total: usize, numbers: &mut [i32], unpack: impl Fn(&[u8], &mut [i32]) -> (u8, usize)) -> u64 {
+    let unpacked = packets.chunks_exact(total).map(|packet| {
+        let (code, count) = unpack(packet, numbers);
+        u64::from(code) + count as u64
+    });
+    unpacked.sum()
 }
 
 #[cfg(peer)]
-fn c_serve(host: &[u8], replies: &mut [u8]) -> u64 {
-    unsafe { peer::peer_serve(host.as_ptr(), host.len(), replies.as_mut_ptr(), replies.len()) as u64 }
+fn c_serve(host: &[u8], replies: &mut [u8]) -> usize {
+    unsafe { peer::peer_serve(host.as_ptr(), host.len(), replies.as_mut_ptr(), replies.len()) }
 }
 
 #[cfg(peer)]
-fn c_cut(mode: u8, size: u8, samples: &[i32], packets: &mut [u8]) -> u64 {
-    unsafe {
-        peer::peer_cut_run(mode, size, samples.as_ptr(), samples.len(), packets.as_mut_ptr(), packets.len()) as u64
-    }
+fn c_cut_run(mode: u8, size: u8, samples: &[i32], packets: &mut [u8]) -> usize {
+    unsafe { peer::peer_cut_run(mode, size, samples.as_ptr(), samples.len(), packets.as_mut_ptr(), packets.len()) }
 }
 
 #[cfg(peer)]
-fn c_read(packets: &[u8], total: usize) -> u64 {
+fn c_read_run(packets: &[u8], total: usize) -> u64 {
     unsafe { peer::peer_read_run(packets.as_ptr(), packets.len(), total) }
 }
 
 #[cfg(peer)]
-fn c_unpack(packet: &[u8], numbers: &mut [i32]) -> u64 {
-    unsafe { peer::peer_unpack(packet.as_ptr(), packet.len(), numbers.as_mut_ptr(), numbers.len()) as u64 }
+fn c_unpack(packet: &[u8], numbers: &mut [i32]) -> (u8, usize) {
+    let mut count = 0;
+    let code =
+        unsafe { peer::peer_unpack(packet.as_ptr(), packet.len(), numbers.as_mut_ptr(), numbers.len(), &mut count) };
+    (code as u8, count)
 }
 
 #[cfg(not(peer))]
-fn c_serve(_: &[u8], _: &mut [u8]) -> u64 {
+fn c_serve(_: &[u8], _: &mut [u8]) -> usize {
     0
 }
 
 #[cfg(not(peer))]
-fn c_cut(_: u8, _: u8, _: &[i32], _: &mut [u8]) -> u64 {
+fn c_cut_run(_: u8, _: u8, _: &[i32], _: &mut [u8]) -> usize {
     0
 }
 
 #[cfg(not(peer))]
-fn c_read(_: &[u8], _: usize) -> u64 {
+fn c_read_run(_: &[u8], _: usize) -> u64 {
     0
 }
 
 #[cfg(not(peer))]
-fn c_unpack(_: &[u8], _: &mut [i32]) -> u64 {
-    0
+fn c_unpack(_: &[u8], _: &mut [i32]) -> (u8, usize) {
+    (0, 0)
 }
 
 // ---- the span program against cat
@@ -305,18 +233,23 @@ fn main() {
     let quick = std::env::args().any(|word| word == "--quick");
     let rounds = if quick { 200 } else { 4000 };
     head("message or packet");
-    feed(rounds);
-    for (form, wanted) in Form::LISTED.into_iter().zip([Some(0.8), None, Some(1.25), None]) {
-        cut(form, rounds, wanted);
+    feed(&frequencies(), rounds, Some(1.0));
+    for ((what, form, mode, size), wanted) in FORMS.into_iter().zip([Some(0.8), None, Some(1.25), None]) {
+        cut(what, form, mode, size, rounds, wanted);
     }
-    for form in Form::LISTED {
-        read(form, rounds, Some(1.0));
+    for (what, form, ..) in FORMS {
+        read(&format!("read, {what}"), &first_packets(form, PACKETS_READ), form.total(), rounds, Some(1.0));
     }
     for percent in [0, 1, 30] {
-        read_lossy(Form::SMALL_24, percent, rounds / 4);
+        read_lossy("small, 24 bits", Form::SMALL_24, percent, rounds / 4);
     }
-    for (form, wanted) in Form::LISTED.into_iter().zip([Some(0.8), None, Some(1.0), None]) {
-        unpack(form, rounds, wanted);
+    for ((what, form, ..), wanted) in FORMS.into_iter().zip([Some(0.8), None, Some(1.0), None]) {
+        unpack(what, form, &first_packets(form, PACKETS), rounds, wanted);
+    }
+    println!();
+    head("message, by kind");
+    for talk in kinds() {
+        feed(&talk, rounds, Some(1.0));
     }
     let (Ok(program), Ok(folder)) = (std::env::var("SPAN_PROGRAM"), std::env::var("CAPTURE_FOLDER")) else {
         return;

@@ -3,11 +3,18 @@
 //!     pieces [--quick]
 //!
 //! A program of its own, so that in `bench` feeding keeps its one caller in each language, and the compilers what they make
-//! of that.
+//! of that. What is lent to a call is a black box, as there.
 
-use outside::boundary::{self, Library};
-use outside::timing::{best, c_absent, digest, head, proved_absent, row, runners, talk, MESSAGE, MESSAGES};
-use outside::Station;
+use std::hint::black_box;
+
+use outside::boundary::{Library, Plain, STATION_BYTES};
+use outside::talk::{frequencies, MESSAGE, MESSAGES};
+use outside::timing::{best, head, row, runners, Rooms};
+
+#[cfg(not(proved))] // a name for what is then not called
+use outside::boundary::Plain as Proved;
+#[cfg(proved)]
+use outside::proved::Proved;
 
 #[cfg(peer)]
 mod peer {
@@ -28,52 +35,41 @@ mod peer {
 /// The same talk in pieces of one size, each handed over by a call of its own with the box in bytes, as a program that
 /// reads from a socket has to. Both peers keep the box in the same bytes between the calls.
 fn feed_pieces(what: &str, size: usize, rounds: usize) {
-    let host = talk();
-    let room = MESSAGES * MESSAGE + 64;
-    let (mut a, mut b, mut c) = (vec![0; room], vec![0; room], vec![0; room]);
+    let talk = frequencies();
+    let (mut rooms, mut states) = (Rooms::new(talk.room()), Rooms::new(STATION_BYTES));
+    let host = &talk.host[..];
     let mut runners = runners(
-        || by_pieces(&host, size, &mut a, proved_feed),
-        || by_pieces(&host, size, &mut b, rust_feed),
-        || by_pieces(&host, size, &mut c, c_feed),
+        || by_pieces(host, size, &mut states.proved, &mut rooms.proved, |s, h, r| Proved.feed(s, h, r)),
+        || by_pieces(host, size, &mut states.rust, &mut rooms.rust, |s, h, r| Plain.feed(s, h, r)),
+        || by_pieces(host, size, &mut states.c, &mut rooms.c, c_feed),
     );
     let found = best(&mut runners, MESSAGES as f64, rounds);
     drop(runners);
-    assert!(digest(&b) == digest(&c) || c_absent());
-    assert!(digest(&b) == digest(&a) || proved_absent());
+    rooms.agree(&found);
+    states.agree(&found);
     row(what, &found, None);
 }
 
-/// One call of feeding: code, bytes consumed, bytes of reply.
-type Feed = fn(&mut [u8], &[u8], &mut [u8]) -> (u8, usize, usize);
-
-/// How many bytes of reply a fresh box writes.
-fn by_pieces(host: &[u8], size: usize, replies: &mut [u8], feed: Feed) -> u64 {
-    let mut state = boundary::station_bytes(&Station::fresh(b"MT123456").0);
+/// How many bytes of reply a fresh box writes. A call answers code, bytes consumed, bytes of reply.
+fn by_pieces(
+    host: &[u8],
+    size: usize,
+    state: &mut [u8],
+    replies: &mut [u8],
+    feed: impl Fn(&mut [u8], &[u8], &mut [u8]) -> (u8, usize, usize),
+) -> u64 {
+    let (state, replies, size) = (black_box(state), black_box(replies), black_box(size));
+    Plain.fresh(b"MT123456", state);
     let mut at = 0;
     for mut piece in host.chunks(size) {
         while !piece.is_empty() {
-            let (code, consumed, wrote) = feed(&mut state, piece, &mut replies[at..]);
+            let (code, consumed, wrote) = feed(state, piece, &mut replies[at..]);
             assert!(code < 2, "a message of the talk was answered with {code}");
             piece = &piece[consumed..];
             at += wrote;
         }
     }
     at as u64
-}
-
-#[inline(never)]
-fn rust_feed(state: &mut [u8], host: &[u8], reply: &mut [u8]) -> (u8, usize, usize) {
-    boundary::Plain.feed(state, host, reply)
-}
-
-#[cfg(proved)]
-fn proved_feed(state: &mut [u8], host: &[u8], reply: &mut [u8]) -> (u8, usize, usize) {
-    outside::proved::Proved.feed(state, host, reply)
-}
-
-#[cfg(not(proved))]
-fn proved_feed(_: &mut [u8], _: &[u8], _: &mut [u8]) -> (u8, usize, usize) {
-    (0, 0, 0)
 }
 
 #[cfg(peer)]

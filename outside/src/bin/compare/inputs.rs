@@ -1,6 +1,6 @@
 //! Inputs: values at every edge, messages, boxes, readers, packets, captures; sound ones and damaged ones.
 
-use outside::boundary::{reader_bytes, station_bytes, wish, READER_BYTES, STATION_BYTES};
+use outside::boundary::{reader_bytes, station_bytes, WishFields, READER_BYTES, STATION_BYTES};
 use outside::boundary::{ASK_VERSION, SET_CLOCK, SET_FREQUENCY, SET_GAIN, SET_RATE, SET_SIZE, SET_STATE};
 use outside::packet::number_at;
 use outside::random::Random;
@@ -441,12 +441,12 @@ pub fn wish_numbers(r: &mut Random) -> (u64, u64) {
 /// What a box answers to a wish, or something that is no answer to it.
 pub fn answer(r: &mut Random, which: u64, value: u64) -> Vec<u8> {
     let mut station = sound(r);
-    let wished = match wish(which, value) {
+    let wished = match WishFields::of(which, value).wish() {
         // at times the answer belongs to another wish
         Some(wished) if !r.once_in(12) => Some(wished),
         _ => {
             let (which, value) = wish_numbers(r);
-            wish(which, value)
+            WishFields::of(which, value).wish()
         }
     };
     let mut message = [0; 16];

@@ -11,7 +11,7 @@ use std::collections::BTreeMap;
 use std::fmt::Debug;
 use std::process::{exit, ExitCode};
 
-use outside::boundary::{station_in, wish, Library, Plain, READER_BYTES, STATION_BYTES};
+use outside::boundary::{station_in, Library, Plain, WishFields, READER_BYTES, STATION_BYTES};
 use outside::boundary::{ASK_RATE, ASK_VERSION, SET_CLOCK, SET_FREQUENCY, SET_GAIN, SET_RATE, SET_SIZE, SET_STATE};
 use outside::random::Random;
 use outside::{rate, Form, Reader};
@@ -111,14 +111,16 @@ impl Comparison<'_> {
 
     fn write_wish(&mut self, which: u64, value: u64, room: usize) {
         let (mut ours, mut theirs) = (vec![0xEE; room], vec![0xEE; room]);
-        let done = self.plain.write_wish(which, value, &mut ours);
-        let other = self.other.write_wish(which, value, &mut theirs);
+        let fields = WishFields::of(which, value);
+        let done = self.plain.write_wish(fields, &mut ours);
+        let other = self.other.write_wish(fields, &mut theirs);
         self.note("wish", done.0, (done, ours), (other, theirs), || format!("wish {which} value {value} room {room}"));
     }
 
     fn read_reply(&mut self, which: u64, value: u64, bytes: &[u8]) {
-        let done = self.plain.read_reply(which, value, bytes);
-        let other = self.other.read_reply(which, value, bytes);
+        let fields = WishFields::of(which, value);
+        let done = self.plain.read_reply(fields, bytes);
+        let other = self.other.read_reply(fields, bytes);
         self.note("reply", done.0, done, other, || format!("wish {which} value {value} bytes {bytes:02X?}"));
     }
 
@@ -548,7 +550,7 @@ fn every_reply(c: &mut Comparison, r: &mut Random) {
         let station = inputs::sound(r);
         for &(which, value) in &wishes {
             let mut message = [0; 16];
-            let length = wish(which, value).unwrap().write(&mut message).unwrap();
+            let length = WishFields::of(which, value).wish().unwrap().write(&mut message).unwrap();
             let mut reply = [0; 64];
             let wrote = station.clone().feed(&message[..length], &mut reply).wrote;
             for &(other, with) in &wishes {

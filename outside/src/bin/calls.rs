@@ -1,0 +1,301 @@
+//! Times every call over the boundary but feeding and unpacking, which `pieces` and `bench` time: the proved library against
+//! the plain Rust of this folder. The C peer does not have them.
+//!
+//!     calls [--quick]
+//!
+//! Both sides keep box and reader in the same bytes. What is lent to a call is a black box, as in `bench`, and values differ
+//! from call to call.
+
+use std::hint::black_box;
+
+use outside::boundary::{self, Library, Plain, Said, WishFields, READER_BYTES, STATION_BYTES};
+use outside::boundary::{ASK_RATE, ASK_VERSION, SET_CLOCK, SET_FREQUENCY, SET_GAIN, SET_RATE, SET_SIZE, SET_STATE};
+use outside::capture::{first_packets, signal, FORMS, PACKETS, PACKETS_READ};
+use outside::random::Random;
+use outside::talk::LONGEST_REPLY;
+use outside::timing::{best, both, head, row, Rooms, Who};
+use outside::{head, message, Form, Head, Station};
+
+#[cfg(not(proved))] // a name for what is then not called
+use outside::boundary::Plain as Proved;
+#[cfg(proved)]
+use outside::proved::Proved;
+
+/// A call that keeps no state is made so often in a run.
+const CALLS: usize = 256;
+
+const SERIAL: &[u8; 8] = b"MT123456";
+
+fn time(
+    what: &str,
+    calls: usize,
+    rounds: usize,
+    proved: impl FnMut() -> u64,
+    rust: impl FnMut() -> u64,
+) -> Vec<(Who, f64)> {
+    let found = best(&mut both(proved, rust), calls as f64, rounds);
+    row(what, &found, None);
+    found
+}
+
+fn fresh(rounds: usize) {
+    fn run(library: impl Library, serials: &[u8], length: usize, state: &mut [u8]) -> u64 {
+        serials.chunks_exact(length).map(|serial| u64::from(library.fresh(serial, state))).sum()
+    }
+    let mut random = Random::new(4);
+    let serials: Vec<u8> = (0..CALLS * SERIAL.len()).map(|_| random.of(b"ABCXYZ019")).collect();
+    let length = black_box(SERIAL.len());
+    let mut states = Rooms::new(STATION_BYTES);
+    let found = time(
+        "a fresh box",
+        CALLS,
+        rounds,
+        || run(Proved, &serials, length, black_box(&mut states.proved)),
+        || run(Plain, &serials, length, black_box(&mut states.rust)),
+    );
+    states.agree(&found);
+}
+
+fn tuning_word(rounds: usize) {
+    fn run(library: impl Library, states: &[u8], bytes: usize) -> u64 {
+        let words = states.chunks_exact(bytes).map(|state| {
+            let (code, word) = library.word(state);
+            u64::from(code) + word
+        });
+        words.sum()
+    }
+    let mut random = Random::new(5);
+    let mut states = Vec::new();
+    for _ in 0..CALLS {
+        let mut station = Station::fresh(SERIAL).0;
+        let bands = [random.within(100_000, 34_000_000), random.within(140_000_000, 150_000_000)];
+        station.settings.frequency = random.of(&bands);
+        station.settings.clock = random.within(79_992_000, 80_008_000) as u32;
+        states.extend(boundary::station_bytes(&station));
+    }
+    let bytes = black_box(STATION_BYTES);
+    time("tuning word", CALLS, rounds, || run(Proved, &states, bytes), || run(Plain, &states, bytes));
+}
+
+fn cut(what: &str, form: Form, mode: u8, size: u8, rounds: usize) {
+    fn run(
+        library: impl Library,
+        started: &[u8],
+        samples: &[i32],
+        (count, total): (usize, usize),
+        state: &mut [u8],
+        packets: &mut [u8],
+    ) -> u64 {
+        state.copy_from_slice(started);
+        let cuts = samples.chunks_exact(count).zip(packets.chunks_exact_mut(total)).map(|(samples, packet)| {
+            let (code, wrote) = library.cut(state, samples, packet);
+            u64::from(code) + wrote as u64
+        });
+        cuts.sum()
+    }
+    let mut station = Station::fresh(SERIAL).0;
+    station.settings.running = true;
+    station.settings.mode = mode;
+    station.settings.size = size;
+    let started = boundary::station_bytes(&station);
+    let samples = signal(form);
+    let lengths = black_box((form.samples(), form.total()));
+    let (mut states, mut rooms) = (Rooms::new(STATION_BYTES), Rooms::new(PACKETS * form.total()));
+    let found = time(
+        &format!("cut, {what}"),
+        PACKETS,
+        rounds * 4,
+        || run(Proved, &started, &samples, lengths, black_box(&mut states.proved), black_box(&mut rooms.proved)),
+        || run(Plain, &started, &samples, lengths, black_box(&mut states.rust), black_box(&mut rooms.rust)),
+    );
+    states.agree(&found);
+    rooms.agree(&found);
+}
+
+fn read(what: &str, form: Form, packets: &[u8], rounds: usize) {
+    fn run(library: impl Library, packets: &[u8], total: usize, reader: &mut [u8]) -> u64 {
+        reader.fill(0);
+        let places = packets.chunks_exact(total).map(|packet| {
+            let (code, position, sample) = library.read(reader, packet);
+            u64::from(code) + position + sample
+        });
+        places.sum()
+    }
+    let total = black_box(form.total());
+    let mut readers = Rooms::new(READER_BYTES);
+    let found = time(
+        &format!("read, {what}"),
+        PACKETS_READ,
+        rounds,
+        || run(Proved, packets, total, black_box(&mut readers.proved)),
+        || run(Plain, packets, total, black_box(&mut readers.rust)),
+    );
+    readers.agree(&found);
+}
+
+fn sample_bytes(what: &str, form: Form, packets: &[u8], rounds: usize) {
+    fn run(library: impl Library, packets: &[u8], total: usize) -> u64 {
+        let bytes = packets.chunks_exact(total).enumerate().map(|(place, packet)| {
+            let (count, byte) = library.sample_byte(packet, place);
+            count as u64 + u64::from(byte)
+        });
+        bytes.sum()
+    }
+    let total = black_box(form.total());
+    time(
+        &format!("sample bytes, {what}"),
+        PACKETS_READ,
+        rounds,
+        || run(Proved, packets, total),
+        || run(Plain, packets, total),
+    );
+}
+
+/// A wish of a number, its value at random among those that a box takes.
+fn some_wish(which: u64, random: &mut Random) -> WishFields {
+    let value = match which {
+        ASK_VERSION => random.below(4),
+        SET_STATE => random.of(&[0x0001, 0x0002, 0x8002]),
+        SET_FREQUENCY => random.within(100_000, 34_000_000),
+        SET_GAIN => random.of(&[0x00, 0xF6, 0xEC, 0xE2]),
+        SET_CLOCK => random.within(79_992_000, 80_008_000),
+        SET_RATE => random.within(32_000, 2_000_000),
+        SET_SIZE => random.below(2),
+        _ => 0,
+    };
+    WishFields::of(which, value)
+}
+
+/// Wishes of one number, or of all in random order.
+fn some_wishes(which: Option<u64>) -> Vec<WishFields> {
+    let mut random = Random::new(6);
+    let mut next = || some_wish(which.unwrap_or_else(|| random.below(18)), &mut random);
+    (0..CALLS).map(|_| next()).collect()
+}
+
+fn wish(what: &str, which: Option<u64>, rounds: usize) {
+    fn run(library: impl Library, wishes: &[WishFields], buffer: &mut [u8]) -> u64 {
+        let written = wishes.iter().map(|fields| {
+            let (code, wrote) = library.write_wish(*fields, buffer);
+            u64::from(code) + wrote as u64
+        });
+        written.sum()
+    }
+    let wishes = some_wishes(which);
+    let mut rooms = Rooms::new(16);
+    let found = time(
+        &format!("wish, {what}"),
+        CALLS,
+        rounds,
+        || run(Proved, &wishes, black_box(&mut rooms.proved)),
+        || run(Plain, &wishes, black_box(&mut rooms.rust)),
+    );
+    rooms.agree(&found);
+}
+
+/// What a box of any rate and frequency answers to a wish.
+fn answer(fields: WishFields, random: &mut Random) -> Vec<u8> {
+    let mut station = Station::fresh(SERIAL).0;
+    let (mut message, mut reply) = ([0; 16], [0; 64]);
+    let mut wrote = 0;
+    for fields in [some_wish(SET_FREQUENCY, random), some_wish(SET_RATE, random), fields] {
+        let (_, length) = Plain.write_wish(fields, black_box(&mut message));
+        wrote = station.feed(&message[..length], &mut reply).wrote;
+    }
+    reply[..wrote].to_vec()
+}
+
+fn reply(what: &str, wishes: &[WishFields], replies: &[Vec<u8>], rounds: usize) {
+    fn run(library: impl Library, wishes: &[WishFields], replies: &[Vec<u8>]) -> u64 {
+        let heard = wishes.iter().zip(replies).map(|(fields, bytes)| {
+            let (code, Said { item, count, first, second, gain }) = library.read_reply(*fields, bytes);
+            u64::from(code) + u64::from(item) + count as u64 + first + second + gain as u64
+        });
+        heard.fold(0, u64::wrapping_add)
+    }
+    time(
+        &format!("reply, {what}"),
+        CALLS,
+        rounds,
+        || run(Proved, wishes, black_box(replies)),
+        || run(Plain, wishes, black_box(replies)),
+    );
+}
+
+fn some_head(random: &mut Random) -> Head {
+    Head {
+        divisor: random.within(10, 625) as u32,
+        frequency: random.within(100_000, 34_000_000),
+        mode: random.of(&[0x80, 0x00]),
+        size: random.of(&[0, 1]),
+    }
+}
+
+fn heads(rounds: usize) {
+    fn write(library: impl Library, heads: &[Head], length: usize, bytes: &mut [u8]) -> u64 {
+        let written = heads.iter().zip(bytes.chunks_exact_mut(length));
+        written.map(|(h, to)| u64::from(library.write_head(h.divisor, h.frequency, h.mode, h.size, to))).sum()
+    }
+    fn read(library: impl Library, bytes: &[u8], length: usize) -> u64 {
+        let found = bytes.chunks_exact(length).map(|bytes| {
+            let (code, head) = library.read_head(bytes);
+            u64::from(code) + u64::from(head.divisor) + head.frequency + u64::from(head.mode) + u64::from(head.size)
+        });
+        found.sum()
+    }
+    let mut random = Random::new(7);
+    let heads: Vec<Head> = (0..CALLS).map(|_| some_head(&mut random)).collect();
+    let length = black_box(head::LENGTH);
+    let mut rooms = Rooms::new(CALLS * length);
+    let found = time(
+        "write a capture head",
+        CALLS,
+        rounds,
+        || write(Proved, &heads, length, black_box(&mut rooms.proved)),
+        || write(Plain, &heads, length, black_box(&mut rooms.rust)),
+    );
+    rooms.agree(&found);
+    let bytes = &rooms.rust[..];
+    time("read a capture head", CALLS, rounds, || read(Proved, bytes, length), || read(Plain, bytes, length));
+}
+
+fn main() {
+    let quick = std::env::args().any(|word| word == "--quick");
+    let rounds = if quick { 50 } else { 1000 };
+    head("call over the boundary");
+    fresh(rounds);
+    tuning_word(rounds);
+    for (what, form, mode, size) in FORMS {
+        cut(what, form, mode, size, rounds);
+    }
+    for (what, form, ..) in FORMS {
+        read(what, form, &first_packets(form, PACKETS_READ), rounds);
+    }
+    for (what, form, ..) in FORMS {
+        sample_bytes(what, form, &first_packets(form, PACKETS_READ), rounds);
+    }
+    let kinds = [
+        ("0001 name, request", Some(0)),
+        ("0004 versions, request", Some(ASK_VERSION)),
+        ("0018 state, set", Some(SET_STATE)),
+        ("0020 frequency, set", Some(SET_FREQUENCY)),
+        ("0020 frequency, request range", Some(9)),
+        ("0038 RF gain, set", Some(SET_GAIN)),
+        ("00B8 rate, set", Some(SET_RATE)),
+        ("00B8 rate, request", Some(ASK_RATE)),
+        ("all in random order", None),
+    ];
+    for (what, which) in kinds {
+        wish(what, which, rounds);
+    }
+    let mut random = Random::new(8);
+    for (what, which) in kinds {
+        let wishes = some_wishes(which);
+        let replies: Vec<Vec<u8>> = wishes.iter().map(|fields| answer(*fields, &mut random)).collect();
+        reply(what, &wishes, &replies, rounds);
+    }
+    let wishes = some_wishes(None);
+    reply("NAK to any wish", &wishes, &vec![message::NAK.to_vec(); CALLS], rounds);
+    reply("no reply to any wish", &wishes, &vec![vec![0; LONGEST_REPLY]; CALLS], rounds);
+    heads(rounds);
+}
