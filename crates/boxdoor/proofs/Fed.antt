@@ -1,32 +1,107 @@
 -- What the calls on a box come to over the door, from the tests that led there.
-use Prim.Native.Nat.{ℕ}
-use mathlib.Core.Path.{_≡_, _∙_}
+use Prim.Native.Nat.{ℕ, _≤_, _<_}
+use mathlib.Core.Path.{_≡_, refl, sym, ap, _∙_}
+use mathlib.Core.Bool.{Bool, true, false}
 use mathlib.Core.List.{List}
-use borrow.Author.Tests.{eq-eqb, ne-eqb}
+use native.Mathlib.Omega.{arith}
+use borrow.Author.Tests.{eq-eqb, ne-eqb, lt-ltb, le-ltb}
+use borrow.Rule.Slice.PartMut.{midOf, putMid, same-len-mid, put-same}
 use lib.Dec.{ltb}
 use lib.ListN.{length}
 use lib.Seq.{sets}
 use Rattle.wire.specs.Choice.{pick}
+use Rattle.wire.specs.Number.{bytes, field}
 use Rattle.wire.specs.Told.{Told}
+use Rattle.items.specs.declared.Settings.{Settings}
 use Rattle.station.specs.declared.Began.{Began}
 use Rattle.station.specs.declared.Fed.{Fed}
+use Rattle.station.specs.declared.FedHeld.{FedHeld}
 use Rattle.station.specs.declared.Station.{Station}
-use Rattle.station.specs.Station.{freshBox, tuningTold}
-use Rattle.station.specs.Feeding.{feedingOf}
-use Rattle.boxdoor.specs.States.{stationIn, stationBytes}
+use Rattle.station.specs.Station.{boxOf, valid, freshBox, tuningTold}
+use Rattle.station.specs.Feeding.{Feeding, feedingOf, partsOf}
+use Rattle.framing.proofs.Leaving.{left-long}
+use Rattle.station.proofs.Kept.{serial-long}
+use Rattle.station.proofs.Valid.{valid-settings, valid-store, feeding-broken}
+use Rattle.station.proofs.Calls.{refused-returns, feeding-keeps}
+use Rattle.boxdoor.specs.States.{settingsIn, storeIn, stationIn, settingsBytes, stationBytes}
 use Rattle.boxdoor.specs.Feeding.{fedOver, feedOver, repliedOver, freshOver, Tuned, tuned, tunedOver}
+use Rattle.boxdoor.proofs.Parts.{length-part}
+use Rattle.boxdoor.proofs.Fields.{parts-stored, held-put}
 
--- bytes of a box: what feeding says, and the box written back where the call was not refused
-pub feed-whole : (state host after : List ℕ) (room : ℕ) (s : Station) (f : Fed) → length state ≡ 108 → s ≡ stationIn state
-    → f ≡ feedingOf s host room .fed → after ≡ pick (ltb (f .code) 20) (stationBytes (f .station)) state
-    → record { code = f .code; consumed = f .consumed; wrote = f .wrote; state = after } ≡ feedOver state host room
-unfolding fedOver feedOver
-feed-whole state host after room s f long p q t = rw (t, q, p, eq-eqb (length state) 108 long)
+-- Bytes of a box, which was fed with its held bytes lent where they lie: what was read of the rest, and what came back.
+pub record Lent (state host : List ℕ) (room : ℕ) : Type 0 where
+  pub settings : Settings
+  pub taken : ℕ
+  pub held : List ℕ
+  pub back : FedHeld
+  pub long : length state ≡ 108
+  pub read : settings ≡ settingsIn state
+  pub had : taken ≡ field 100 8 state
+  pub told : back ≡ partsOf (feedingOf (boxOf settings (midOf 36 64 state) taken) host room .fed)
+  pub kept : held ≡ feedingOf (boxOf settings (midOf 36 64 state) taken) host room .fed .station .store .held
 
-pub replied-whole : (state host reply after : List ℕ) (room : ℕ) (s : Station) → length state ≡ 108 → s ≡ stationIn state
-    → after ≡ sets reply 0 (feedingOf s host room .bytes) → after ≡ sets reply 0 (repliedOver state host room)
-unfolding repliedOver
-replied-whole state host reply after room s long p q = rw (q, p, eq-eqb (length state) 108 long)
+-- the box after it, from its parts
+box-after : {fed : Fed} (f : FedHeld) (held : List ℕ) → f ≡ partsOf fed → held ≡ fed .station .store .held → boxOf (f .settings) held (f .taken) ≡ fed .station
+box-after f held told kept = rw (told, kept) refl
+
+-- All but the held bytes is written back where the call was not refused.
+module _ (state host : List ℕ) (room : ℕ) (l : Lent state host room) where
+  abbrev f : FedHeld
+  f = l .back
+
+  -- the box that was fed
+  abbrev lent : Station
+  lent = boxOf (l .settings) (midOf 36 64 state) (l .taken)
+
+  abbrev fed : Fed
+  fed = feedingOf lent host room .fed
+
+  lent-is : lent ≡ stationIn state
+  unfolding storeIn
+  lent-is = rw (l .read, l .had) refl
+
+  answer : (after : List ℕ) → after ≡ pick (ltb (f .code) 20) (stationBytes (fed .station)) state
+      → record { code = f .code; consumed = f .consumed; wrote = f .wrote; state = after } ≡ feedOver state host room
+  unfolding fedOver feedOver
+  answer after e =
+      rw e
+      (ap (λ (k : FedHeld). record { code = k .code; consumed = k .consumed; wrote = k .wrote; state = pick (ltb (k .code) 20) (stationBytes (fed .station)) state }) (l .told)
+      ∙ rw (eq-eqb (length state) 108 (l .long), ← lent-is) refl)
+
+  -- a box that was not refused was a valid one, and still is
+  still-valid : f .code < 20 → valid (fed .station) ≡ true
+  still-valid low = go (valid lent) refl
+    where
+      go : (b : Bool) → valid lent ≡ b → valid (fed .station) ≡ true
+      go true v = feeding-keeps lent host room v
+      go false v =
+          let broken : fed .code ≡ 21 = ap (λ (k : Feeding). k .fed .code) (feeding-broken lent host room v) in
+          absurd (omega (arith, ap (λ (k : FedHeld). k .code) (l .told)))
+
+  pub feed-done : (after : List ℕ) → f .code < 20
+      → after ≡ sets (sets (putMid 36 64 state (l .held)) 0 (settingsBytes (f .settings))) 100 (bytes 8 (f .taken))
+      → record { code = f .code; consumed = f .consumed; wrote = f .wrote; state = after } ≡ feedOver state host room
+  feed-done after low e =
+      let serial : length (f .settings .serial) ≡ 8 = rw (l .told) (serial-long (fed .station .settings) (valid-settings (fed .station .settings) (fed .station .store) (still-valid low))) in
+      let many : length (l .held) ≡ 64 = rw (l .kept) (left-long (fed .station .store) (valid-store (fed .station .settings) (fed .station .store) (still-valid low))) in
+      let part : length (midOf 36 64 state) ≡ 64 = length-part 36 64 state (omega arith) in
+      let size : length (putMid 36 64 state (l .held)) ≡ 108 = same-len-mid 36 64 state (l .held) (many ∙ sym part) ∙ l .long in
+      answer after
+      (e
+      ∙ parts-stored (f .settings) (l .held) (putMid 36 64 state (l .held)) (f .taken) size serial (held-put state (l .held) (l .long) many)
+      ∙ ap stationBytes (box-after f (l .held) (l .told) (l .kept))
+      ∙ rw (lt-ltb (f .code) 20 low) refl)
+
+  pub feed-refused : 20 ≤ f .code
+      → record { code = f .code; consumed = f .consumed; wrote = f .wrote; state = putMid 36 64 state (l .held) } ≡ feedOver state host room
+  feed-refused high =
+      let code : f .code ≡ fed .code = ap (λ (k : FedHeld). k .code) (l .told) in
+      let same : l .held ≡ midOf 36 64 state = l .kept ∙ ap (λ (k : Station). k .store .held) (refused-returns lent host room (omega arith)) in
+      answer (putMid 36 64 state (l .held)) (ap (putMid 36 64 state) same ∙ put-same 36 64 state ∙ rw (le-ltb (f .code) 20 high) refl)
+
+  pub replied-whole : (reply after : List ℕ) → after ≡ sets reply 0 (feedingOf lent host room .bytes) → after ≡ sets reply 0 (repliedOver state host room)
+  unfolding repliedOver
+  replied-whole reply after q = rw (q, eq-eqb (length state) 108 (l .long), ← lent-is) refl
 
 -- other bytes: 21
 pub feed-broken : (state host : List ℕ) (room : ℕ) → (length state ≡ 108 → ⊥)

@@ -1,19 +1,20 @@
 -- Fields stored one behind the other are the store of the whole state.
-use Prim.Native.Nat.{ℕ}
-use mathlib.Core.Path.{_≡_, refl, _∙_}
+use Prim.Native.Nat.{ℕ, _+_, _*_}
+use mathlib.Core.Path.{_≡_, refl, ap, _∙_}
 use mathlib.Core.Bool.{Bool, true, false}
-use mathlib.Core.List.{List, _++_}
+use mathlib.Core.List.{List, [], _++_, append-assoc, append-nil}
 use native.Mathlib.Omega.{arith}
 use mir.Val.{boolByte}
-use lib.ListN.{length, length-append}
-use lib.Seq.{sets}
+use lib.ListN.{length, take, drop, drop-of-length-le}
+use lib.Seq.{sets, sets-eq, length-sets, length-take-le, take-append-add, take-at, drop-at}
+use borrow.Rule.Slice.PartMut.{putMid}
 use Rattle.wire.specs.Choice.{pick}
-use Rattle.wire.specs.Number.{bytes}
-use Rattle.wire.proofs.Stores.{sets-then, sets-whole}
-use Rattle.framing.specs.declared.Store.{Store}
+use Rattle.wire.specs.Number.{bytes, field}
+use Rattle.wire.proofs.Numbers.{field-step, length-bytes}
+use Rattle.wire.proofs.Stores.{sets-then, sets-taken, take-sets}
 use Rattle.items.specs.declared.Settings.{Settings}
-use Rattle.station.specs.declared.Station.{Station}
-use Rattle.boxdoor.specs.States.{wideOf, narrowOf, settingsBytes, storeBytes, stationBytes}
+use Rattle.station.specs.Station.{boxOf}
+use Rattle.boxdoor.specs.States.{wideOf, narrowOf, settingsBytes, stationBytes}
 
 -- a flag as the code casts it
 flag-byte : (b : Bool) → boolByte b ≡ pick b 1 0
@@ -35,15 +36,56 @@ pub settings-stored : (s : Settings) (l a b c : List ℕ) → a ≡ sets l 0 (wi
 unfolding wideOf narrowOf
 settings-stored s l a b c p q r = sets-then l 0 (wideOf s) (narrowOf s ++ s .serial) p (sets-then a 24 (narrowOf s) (s .serial) q r)
 
-pub store-stored : (t : Store) (l a b : List ℕ) → length (t .held) ≡ 64 → a ≡ sets l 36 (t .held) → b ≡ sets a 100 (bytes 8 (t .taken))
-    → b ≡ sets l 36 (storeBytes t)
-store-stored t l a b long p q = sets-then l 36 (t .held) (bytes 8 (t .taken)) p (rw long q)
+-- ---- all but the held bytes: 36 bytes at the start, and eight at the 100th
 
-pub station-stored : (s : Station) (l a b : List ℕ) → length l ≡ 108 → length (s .settings .serial) ≡ 8 → length (s .store .held) ≡ 64
-    → a ≡ sets l 0 (settingsBytes (s .settings)) → b ≡ sets a 36 (storeBytes (s .store)) → b ≡ stationBytes s
+module _ (front back l : List ℕ) (first : length front ≡ 36) (last : length back ≡ 8) (long : length l ≡ 108) where
+  -- with the held bytes in their places they are the whole
+  placed : (held : List ℕ) → take 64 (drop 36 l) ≡ held → sets (sets l 0 front) 100 back ≡ front ++ (held ++ back)
+  placed held there =
+      let begun : sets l 0 front ≡ front ++ drop 36 l = sets-eq front l 0 (omega arith) ∙ rw first refl in
+      let kept : take 100 (front ++ drop 36 l) ≡ front ++ held = rw first at (take-append-add front (drop 36 l) 64) ∙ ap (λ (r : List ℕ). front ++ r) there in
+      let size : length (sets l 0 front) ≡ 108 = length-sets l 0 front ∙ long in
+      let rest : drop (100 + length back) (sets l 0 front) ≡ [] = drop-of-length-le (sets l 0 front) {i = 100 + length back} (omega arith) in
+      sets-eq back (sets l 0 front) 100 (omega arith)
+      ∙ rw rest (append-nil (take 100 (sets l 0 front) ++ back))
+      ∙ ap (λ (r : List ℕ). take 100 r ++ back) begun
+      ∙ rw kept (append-assoc front held back)
+
+  -- read again from an array that they were stored in
+  pub front-again : (a b : List ℕ) → a ≡ sets l 0 front → b ≡ sets a 100 back → take 36 b ≡ front
+  front-again a b p q =
+      rw (q, take-sets 36 a 100 back (omega arith), p) (rw first at (sets-taken l 0 front (omega arith)))
+
+  pub back-again : (b : List ℕ) → b ≡ sets l 100 back → take 8 (drop 100 b) ≡ back
+  back-again b q = rw q (rw last at (sets-taken l 100 back (omega arith)))
+
+pub settings-long : (s : Settings) → length (s .serial) ≡ 8 → length (settingsBytes s) ≡ 36
 unfolding wideOf narrowOf
-station-stored s l a b room serial held p q =
-    let front : length (settingsBytes (s .settings)) ≡ 36 = rw serial in
-    let all : length (stationBytes s) ≡ length l =
-    omega (arith, length-append (s .settings .serial) (storeBytes (s .store)), length-append (s .store .held) (bytes 8 (s .store .taken))) in
-    sets-then l 0 (settingsBytes (s .settings)) (storeBytes (s .store)) p (rw front q) ∙ sets-whole l (stationBytes s) all
+settings-long s serial = rw serial
+
+pub parts-stored : (s : Settings) (held l : List ℕ) (taken : ℕ) → length l ≡ 108 → length (s .serial) ≡ 8 → take 64 (drop 36 l) ≡ held
+    → sets (sets l 0 (settingsBytes s)) 100 (bytes 8 taken) ≡ stationBytes (boxOf s held taken)
+parts-stored s held l taken long serial there =
+    placed (settingsBytes s) (bytes 8 taken) l (settings-long s serial) (length-bytes 8 taken) long held there
+
+-- ---- a box whose held bytes are lent where they lie
+
+-- held bytes put in their places, read again
+pub held-put : (l held : List ℕ) → length l ≡ 108 → length held ≡ 64 → take 64 (drop 36 (putMid 36 64 l held)) ≡ held
+held-put l held long many =
+    rw (drop-at (take 36 l) (held ++ drop 64 (drop 36 l)) 36 (length-take-le 36 l (omega arith))) (take-at held (drop 64 (drop 36 l)) 64 many)
+
+-- how many were taken, in two words
+pub taken-words : (l : List ℕ) → length l ≡ 108 → field 100 4 l + 4294967296 * field 104 4 l ≡ field 100 8 l
+taken-words l long =
+    omega (
+      arith,
+      field-step l 100 7 (omega arith),
+      field-step l 101 6 (omega arith),
+      field-step l 102 5 (omega arith),
+      field-step l 103 4 (omega arith),
+      field-step l 100 3 (omega arith),
+      field-step l 101 2 (omega arith),
+      field-step l 102 1 (omega arith),
+      field-step l 103 0 (omega arith),
+    )

@@ -38,13 +38,16 @@ pub extern "C" fn skvornela_feed(
         ≡ sets (now (reply .entry)) 0 (repliedOver (now (state .entry)) (now (host .entry)) (length (now (reply .entry))))) ⌝ }
 {
     if state.len() == crate::states::LENGTH {
-        let f = station::feed(crate::states::station_in(state), host, reply);
+        let settings = crate::states::settings_of(state);
+        let taken = crate::states::taken_of(state);
+        // the held bytes are fed where they lie
+        let f = station::feed_held(settings, &mut state[36..100], taken, host, reply);
         *consumed = f.consumed;
         *wrote = f.wrote;
         // "Codes from 20 consume nothing and return the state given."
         if f.code < codes::NO_ROOM {
-            let after = f.station;
-            crate::states::put_station(state, after);
+            let after = f.settings;
+            crate::states::put_parts(state, after, f.taken);
         }
         return f.code;
     }

@@ -3,9 +3,11 @@ use framing::Store;
 use items::Settings;
 use station::Station;
 ghost use mathlib.Core.Path.{_≡_};
+ghost use Prim.Native.Nat.{_+_, _≤_, _<_};
 ghost use lib.ListN.{length};
 ghost use lib.Seq.{sets};
-ghost use Rattle.boxdoor.specs.States.{settingsIn, storeIn, stationIn, wideOf, narrowOf, settingsBytes, storeBytes, stationBytes};
+ghost use Rattle.wire.specs.Number.{bytes, field};
+ghost use Rattle.boxdoor.specs.States.{settingsIn, stationIn, wideOf, narrowOf, settingsBytes, stationBytes};
 
 // A box in bytes: frequency 8, count 8, clock 4, D 4, running 1, mode 1, gain 1, size 1, serial 8, held 64, taken 8.
 pub(crate) const LENGTH: usize = 108;
@@ -28,28 +30,54 @@ fn settings_in(b: [u8; LENGTH]) -> Settings
     }
 }
 
-fn store_in(b: [u8; LENGTH]) -> Store
-    ensures { λ r. ⌜ r ≡ storeIn b ⌝ }
+// The settings in a box's 108 bytes. They are copied first: of an array the length is known to the compiler, which then
+// reads each number at once, and not byte by byte with a test for the end of the slice. Storing does the same.
+pub(crate) fn settings_of(b: &[u8]) -> Settings
+    requires { ⌜ length (now b) ≡ 108 ⌝ }
+    ensures { λ r. ⌜ r ≡ settingsIn (now (b .entry)) ⌝ }
 {
-    let mut held = [0u8; 64];
-    wire::copy(&b[36..100], &mut held, 0);
-    Store {
-        held: held,
-        taken: wire::number_at(&b, 100, 8) as usize,
-    }
+    let mut own = [0u8; LENGTH];
+    wire::copy(&b[0..LENGTH], &mut own, 0);
+    settings_in(own)
 }
 
-// The box in 108 bytes. They are copied first: of an array the length is known to the compiler, which then reads each number at
-// once, and not byte by byte with a test for the end of the slice. Storing a box does the same.
+// How many bytes of its message are taken: two words, each read at once.
+pub(crate) fn taken_of(b: &[u8]) -> usize
+    requires { ⌜ length (now b) ≡ 108 ⌝ }
+    ensures { λ r. ⌜ r ≡ field 100 8 (now (b .entry)) ⌝ }
+{
+    word(b, 100) + 4_294_967_296 * word(b, 104)
+}
+
+// The number in four bytes at a place: bytes side by side in one sum are one read of the processor's.
+fn word(b: &[u8], at: usize) -> usize
+    requires { ⌜ at + 4 ≤ length (now b) ⌝ }
+    ensures { λ r. ⌜ (r ≡ field at 4 (now (b .entry))) × (r < 4294967296) ⌝ }
+{
+    wide(b[at]) + 256 * wide(b[at + 1]) + 65536 * wide(b[at + 2]) + 16777216 * wide(b[at + 3])
+}
+
+// A byte as a part of a word.
+fn wide(b: u8) -> usize
+    ensures { λ r. ⌜ (r ≡ b) × (r ≤ 255) ⌝ }
+{
+    b as usize
+}
+
+// The box in 108 bytes.
 pub(crate) fn station_in(b: &[u8]) -> Station
     requires { ⌜ length (now b) ≡ 108 ⌝ }
     ensures { λ r. ⌜ r ≡ stationIn (now (b .entry)) ⌝ }
 {
-    let mut own = [0u8; LENGTH];
-    wire::copy(&b[0..LENGTH], &mut own, 0);
+    let mut held = [0u8; 64];
+    wire::copy(&b[36..100], &mut held, 0);
+    let store = Store {
+        held: held,
+        taken: taken_of(b),
+    };
     Station {
-        settings: settings_in(own),
-        store: store_in(own),
+        settings: settings_of(b),
+        store: store,
     }
 }
 
@@ -83,13 +111,16 @@ fn put_settings(b: &mut [u8; LENGTH], s: Settings)
     wire::copy(&serial, b, 28);
 }
 
-fn put_store(b: &mut [u8; LENGTH], t: Store)
+// Stores all of a box but its held bytes, which are left as they lie.
+pub(crate) fn put_parts(b: &mut [u8], s: Settings, taken: usize)
     requires { ⌜ length (now b) ≡ 108 ⌝ }
-    ensures { λ _. ⌜ now (b .exit) ≡ sets (now (b .entry)) 36 (storeBytes t) ⌝ }
+    ensures { λ _. ⌜ now (b .exit) ≡ sets (sets (now (b .entry)) 0 (settingsBytes s)) 100 (bytes 8 taken) ⌝ }
 {
-    let held = t.held;
-    wire::copy(&held, b, 36);
-    wire::put(b, 100, 8, t.taken as u64);
+    let mut own = [0u8; LENGTH];
+    put_settings(&mut own, s);
+    wire::put(&mut own, 100, 8, taken as u64);
+    wire::copy(&own[0..36], b, 0);
+    wire::copy(&own[100..LENGTH], b, 100);
 }
 
 // Stores a box in 108 bytes.
@@ -99,8 +130,7 @@ pub(crate) fn put_station(b: &mut [u8], s: Station)
 {
     let settings = s.settings;
     let store = s.store;
-    let mut own = [0u8; LENGTH];
-    put_settings(&mut own, settings);
-    put_store(&mut own, store);
-    wire::copy(&own, b, 0);
+    let held = store.held;
+    wire::copy(&held, b, 36);
+    put_parts(b, settings, store.taken);
 }

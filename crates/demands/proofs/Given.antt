@@ -23,7 +23,7 @@ use Rattle.station.specs.declared.Station.{Station}
 use Rattle.station.specs.Station.{valid, freshBox}
 use Rattle.station.proofs.Valid.{feeding-broken, feeding-waiting}
 use Rattle.station.specs.Feeding.{Feeding, messageIn, refused, answered, waiting, comesTo, feedChecks, feedingOf}
-use Rattle.demands.proofs.Refused.{code-below}
+use Rattle.station.proofs.Kept.{code-below}
 use Rattle.cutting.specs.Cutting.{cutCode}
 use Rattle.reader.specs.Reading.{readCode, unpackCode}
 use Rattle.heads.specs.Head.{mark, version, headLength, allowed, headIn}

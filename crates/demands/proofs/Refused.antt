@@ -1,6 +1,6 @@
 -- Demand 1: what a refused call leaves.
 -- Assumes nothing.
-use Prim.Native.Nat.{ℕ, _≤_, _<_}
+use Prim.Native.Nat.{ℕ, _≤_}
 use mathlib.Core.Path.{_≡_, refl, sym, _∙_}
 use mathlib.Core.List.{List, _∷_}
 use native.Mathlib.Omega.{arith}
@@ -11,31 +11,25 @@ use lib.ListN.{length, replicate}
 use lib.Dec.{eqb, lit≤}
 use lib.IntN.{ℤ}
 use Rattle.wire.specs.Header.{nak}
-use Rattle.wire.proofs.Checks.{given-below}
 use Rattle.wire.proofs.Laws.{pick-keeps}
 use Rattle.framing.specs.Framing.{taking, taken, finished, announced, couldBeLeft}
 use Rattle.items.specs.Settings.{inRange}
 use Rattle.station.specs.Station.{valid, freshStation}
 use Rattle.framing.proofs.Cutting.{told, count-all}
 use Rattle.items.specs.declared.Settings.{Settings}
-use Rattle.items.specs.Answer.{Message, checks, codeOf, settingsAfter, replyOf}
+use Rattle.items.specs.Answer.{Message, codeOf, settingsAfter, replyOf}
 use Rattle.items.proofs.Judging.{reply-by-code}
 use Rattle.reader.specs.declared.Reader.{Reader}
 use Rattle.packets.specs.Numbers.{numberIn}
 use Rattle.reader.specs.Reading.{positionAfter, readCode, readingOf, heardAt, unheard}
 use Rattle.station.specs.declared.Station.{Station}
 use Rattle.station.specs.Feeding.{messageIn, feedingOf}
-use Rattle.station.proofs.Kept.{refused-leaves}
+use Rattle.station.proofs.Kept.{code-below, refused-leaves}
 use Rattle.station.proofs.Valid.{each-way, feeding-waiting}
 use Rattle.cutting.specs.Cutting.{cuttingOf}
 use Rattle.cutting.proofs.Ways.{each-cut}
 use Rattle.packets.specs.Forms.{wholeOf}
 use Rattle.demands.specs.Refused.{NakOnly, FeedsNothing, CutsNothing, HearsNothing, WaitsForTheEnd, naksAt64}
-
--- a message's own code is under 20
-pub code-below : (s : Settings) (m : Message) → codeOf s m < 20
-unfolding codeOf
-code-below s m = given-below 20 (checks s m) 1 refl (omega arith)
 
 -- a message that is refused is answered with NAK and leaves every setting
 refused-reply : (s : Settings) (m : Message) → 10 ≤ codeOf s m → replyOf s m ≡ nak

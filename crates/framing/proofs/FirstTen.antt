@@ -10,8 +10,8 @@ use native.Mathlib.Omega.{arith}
 use borrow.Author.Tests.{eqb-true}
 use lib.Dec.{eqb}
 use lib.ListN.{length, getD, set, take, drop, length-set, replicate, length-append, length-take, length-replicate, getD-replicate}
-use lib.ListN.{List·getD-eq-default as getD-past}
-use lib.Seq.{sets, getD-take, getD-drop, getD-set-same, take-all, take-append-le, ext-getD}
+use lib.ListN.{List·getD-eq-default as getD-past, List·getD-append as getD-append}
+use lib.Seq.{sets, getD-take, getD-drop, getD-set-same, getD-append-add, take-append-le, length-take-le, ext-getD}
 use Rattle.wire.proofs.Laws.{and-left, and-right}
 use Rattle.wire.proofs.Stores.{take-sets}
 use Rattle.framing.specs.Framing.{zeros}
@@ -78,7 +78,7 @@ unfolding firstTen
 held-opening n l long h =
     reads-alike (take n l) l (λ i ten. unused-reads n l i h) ∙ take-append-le 10 l (replicate 10 0) long
 
--- a message that comes whole reads as it would from the store
+-- a byte of a run that was stored
 stored-reads : (vs l : List ℕ) (at i : ℕ) → at + i < length l → i < length vs → getD (sets l at vs) (at + i) 0 ≡ getD vs i 0
 stored-reads [] l at i inside more = absurd (omega arith)
 stored-reads (v ∷ vs) l at zero inside more =
@@ -90,23 +90,66 @@ stored-reads (v ∷ vs) l at zero inside more =
 stored-reads (v ∷ vs) l at (suc i) inside more =
     rw (add-suc at i, ← suc-add at i) (stored-reads vs (set l at v) (suc at) i (simp length-set (omega arith)) (omega arith))
 
-pub whole-opening : (l vs : List ℕ) (n : ℕ) → 10 ≤ length l → length vs ≡ n → firstTen vs ≡ firstTen (take n (sets l 0 vs))
-whole-opening l vs n long all =
-    reads-alike vs (take n (sets l 0 vs)) (λ i ten.
-    elim (decLt i n) [
-      | yes w ↦ sym (getD-take n (sets l 0 vs) i 0 w ∙ rw (zero-add i) at (stored-reads vs l 0 i (omega arith) (omega arith)))
-      | no w ↦
-          let past : length (take n (sets l 0 vs)) ≤ i = simp length-take (omega arith) in
-          let over : length vs ≤ i = omega arith in
-          getD-past vs 0 over ∙ sym (getD-past (take n (sets l 0 vs)) 0 past)
-    ])
+-- ---- a message of which `had` bytes are held, in more than its first ten places, and the host's come next
 
--- more than all of a list is all of it
-pub take-most : (l : List ℕ) (n : ℕ) → take (min n (length l)) l ≡ take n l
-take-most l n =
-    elim (decLt n (length l)) [
-      | yes w ↦ let fewer : min n (length l) ≡ n = omega arith in rw fewer refl
-      | no w ↦
-          let all : min n (length l) ≡ length l = omega arith in
-          rw all (take-all (length l) l (le-refl _) ∙ sym (take-all n l (omega arith)))
-    ]
+module _ (held host : List ℕ) (had : ℕ) where
+  abbrev joined : List ℕ
+  joined = take had held ++ host
+
+  joined-held : (i : ℕ) → i < had → i < length held → getD joined i 0 ≡ getD held i 0
+  joined-held i less inside =
+      let there : i < length (take had held) = simp length-take (omega arith) in
+      getD-append (take had held) host 0 i there ∙ getD-take had held i 0 less
+
+  joined-sent : (i : ℕ) → had ≤ i → i < length held → getD joined i 0 ≡ getD host (i - had) 0
+  joined-sent i more inside =
+      let front : length (take had held) ≡ had = length-take-le had held (omega arith) in
+      let place : had + (i - had) ≡ i = omega arith in
+      rw place at (rw front at (getD-append-add (take had held) host (i - had) 0))
+
+  -- a byte of its first n, as it is read
+  pub past-end : (n i : ℕ) → n ≤ i → getD (take n joined) i 0 ≡ 0
+  past-end n i more =
+      let past : length (take n joined) ≤ i = simp length-take (omega arith) in
+      getD-past (take n joined) 0 past
+
+  pub from-held : (n i : ℕ) → i < n → i < had → i < length held → getD (take n joined) i 0 ≡ getD held i 0
+  from-held n i within less inside = getD-take n joined i 0 within ∙ joined-held i less inside
+
+  pub from-host : (n i : ℕ) → i < n → had ≤ i → i < length held → getD (take n joined) i 0 ≡ getD host (i - had) 0
+  from-host n i within more inside = getD-take n joined i 0 within ∙ joined-sent i more inside
+
+  -- it reads as it would with these bytes stored
+  module _ (count : ℕ) (long : 10 ≤ length held) (sent : count ≤ length host) where
+    abbrev stored : List ℕ
+    stored = sets held had (take count host)
+
+    stored-held : (i : ℕ) → i < had → getD stored i 0 ≡ getD held i 0
+    stored-held i less =
+        sym (getD-take had stored i 0 less)
+        ∙ ap (λ (r : List ℕ). getD r i 0) (take-sets had held had (take count host) (le-refl had))
+        ∙ getD-take had held i 0 less
+
+    stored-sent : (i : ℕ) → had ≤ i → i < had + count → i < length held → getD stored i 0 ≡ getD host (i - had) 0
+    stored-sent i more less inside =
+        let place : had + (i - had) ≡ i = omega arith in
+        let part : length (take count host) ≡ count = length-take-le count host sent in
+        (rw place at (stored-reads (take count host) held had (i - had) (omega arith) (omega arith)))
+        ∙ getD-take count host (i - had) 0 (omega arith)
+
+    alike : (i : ℕ) → i < 10 → i < had + count → getD joined i 0 ≡ getD stored i 0
+    alike i ten less =
+        elim (decLt i had) [
+          | yes w ↦ joined-held i w (omega arith) ∙ sym (stored-held i w)
+          | no w ↦ joined-sent i (omega arith) (omega arith) ∙ sym (stored-sent i (omega arith) less (omega arith))
+        ]
+
+    pub joined-opening : firstTen (take (had + count) joined) ≡ firstTen (take (had + count) stored)
+    joined-opening =
+        reads-alike (take (had + count) joined) (take (had + count) stored) (λ i ten.
+        elim (decLt i (had + count)) [
+          | yes w ↦ getD-take (had + count) joined i 0 w ∙ alike i ten w ∙ sym (getD-take (had + count) stored i 0 w)
+          | no w ↦
+              let over : length (take (had + count) stored) ≤ i = simp length-take (omega arith) in
+              past-end (had + count) i (omega arith) ∙ sym (getD-past (take (had + count) stored) 0 over)
+        ])

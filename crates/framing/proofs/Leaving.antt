@@ -8,7 +8,7 @@ use native.Mathlib.Decide.{decLt}
 use native.Mathlib.Nat.{le-refl, zero-add}
 use native.Mathlib.Numerals.{add-one}
 use native.Mathlib.Omega.{arith}
-use borrow.Author.Tests.{eqb-true, eq-eqb, not-true}
+use borrow.Author.Tests.{eqb-true, eq-eqb, ne-eqb, not-true}
 use lib.Dec.{eqb}
 use lib.ListN.{length, take, drop, replicate, length-set, length-append, length-take, length-replicate}
 use lib.Seq.{sets, sets-eq, drop-set-lt, length-take-le}
@@ -21,7 +21,11 @@ use Rattle.framing.specs.Framing.{announcedBy, announced, between, pushe
 use Rattle.framing.proofs.Headers.{headless, short-of, open-total, header-settled}
 use Rattle.framing.proofs.Runs.{after, pushed-all}
 
--- ---- the test, by whether the message is finished
+-- ---- the test, by whether there are 64 places, and by whether the message is finished
+
+pub left-short : (s : Store) → (length (s .held) ≡ 64 → ⊥) → couldBeLeft s ≡ false
+unfolding couldBeLeft
+left-short s other = rw (ne-eqb (length (s .held)) 64 other) refl
 
 pub left-finished : (s : Store) → finished s ≡ true → couldBeLeft s ≡ false
 unfolding couldBeLeft
@@ -81,6 +85,11 @@ zeros-replicate : (l : List ℕ) → zeros l ≡ true → replicate (length l) 0
 zeros-replicate [] h = refl
 zeros-replicate (b ∷ l) h =
     rw (eqb-true b 0 (and-left (eqb b 0) (zeros l) h)) (ap (λ (r : List ℕ). 0 ∷ r) (zeros-replicate l (and-right (eqb b 0) (zeros l) h)))
+
+-- "all is zero between messages"
+pub left-empty : (s : Store) → couldBeLeft s ≡ true → s .taken ≡ 0 → s .held ≡ between .held
+left-empty s h none =
+    sym (zeros-replicate (s .held) (rw none at (left-zeros s h))) ∙ rw (left-long s h) refl
 
 -- what is taken, and then the unused places
 refilled : (n : ℕ) (l : List ℕ) → zeros (drop n l) ≡ true → take n l ++ drop (length (take n l)) (replicate (length l) 0) ≡ l

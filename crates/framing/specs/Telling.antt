@@ -1,10 +1,10 @@
 -- What a call tells of the bytes that it took: in the store's place, the first ten bytes of a message that they finished. Nothing of
 -- document 01 rests on it; that ten bytes decide what the whole message does is `ten-decide` (items/proofs/TenBytes).
 use Prim.Native.Nat.{ℕ}
-use mathlib.Core.Bool.{_&&_}
+use mathlib.Core.Bool.{false, not, _&&_}
 use mathlib.Core.List.{List, _++_}
 use lib.Dec.{eqb}
-use lib.ListN.{take, replicate}
+use lib.ListN.{length, take, replicate}
 use Rattle.wire.specs.Choice.{pick}
 use Rattle.framing.specs.declared.Store.{Store}
 use Rattle.framing.specs.declared.Took.{Took}
@@ -24,6 +24,13 @@ tookOf t =
       finished = t .finished;
     }
 
--- What is held after a call: nothing more of a message that came whole.
+-- Bytes held in another number of places are no store, and nothing is taken.
+abbrev pub tookIn : Store → List ℕ → Took
+tookIn s host =
+    pick (eqb (length (s .held)) 64) (tookOf (taken s host))
+    (record { opening = replicate 10 0; count = 0; taken = s .taken; finished = false })
+
+-- What is held after a call: more only of a message that it did not finish.
 abbrev pub heldAfter : Store → List ℕ → List ℕ
-heldAfter s host = pick (eqb (s .taken) 0 && taken s host .finished) (s .held) (taken s host .store .held)
+heldAfter s host =
+    pick (eqb (length (s .held)) 64 && not (taken s host .finished)) (taken s host .store .held) (s .held)

@@ -1,10 +1,13 @@
 // Feeding, the part of it that no item has a say in: which bytes make a message, and what the box keeps of one that is
 // not finished.
 ghost use mathlib.Core.Path.{_≡_};
-ghost use Prim.Native.Nat.{_+_, _*_, _≤_};
-ghost use lib.ListN.{length, take, drop, getD};
-ghost use Rattle.framing.specs.Framing.{between, totalOf, announcedBy, finished, zeros, couldBeLeft, taken};
-ghost use Rattle.framing.specs.Telling.{firstTen, tookOf, heldAfter};
+ghost use mathlib.Core.Bool.{true, false};
+ghost use mathlib.Core.List.{_++_};
+ghost use Prim.Native.Nat.{_+_, _*_, _-_, _≤_, _<_};
+ghost use lib.Dec.{eqb};
+ghost use lib.ListN.{length, take, drop, getD, replicate};
+ghost use Rattle.framing.specs.Framing.{between, totalOf, announcedBy, finished, zeros, couldBeLeft};
+ghost use Rattle.framing.specs.Telling.{firstTen, tookIn, heldAfter};
 ghost use Rattle.framing.specs.Inside.{totalAhead};
 
 // What the box keeps of an unfinished message: its first 64 bytes and how many were taken. Unused places are zero, and
@@ -47,81 +50,98 @@ pub fn total_of(kind: u8, length: u16) -> u16
     }
 }
 
-// Whether some bytes of a host could have left this store: what was not taken is zero, and the message is not finished.
-pub fn could_be_left(s: Store) -> bool
-    ensures { λ r. ⌜ r ≡ couldBeLeft s ⌝ }
+// Whether some bytes of a host could have left these bytes held and this count of them taken: there are 64 places, those
+// not taken are zero, and the message is not finished.
+pub fn could_be_left(held: &[u8], taken: usize) -> bool
+    ensures { λ r. ⌜ r ≡ couldBeLeft (record { held = now (held .entry); taken = taken }) ⌝ }
 {
-    let held = s.held;
-    let taken = s.taken;
-    if is_finished(&held, taken) {
+    if held.len() != 64 {
         return false;
     }
-    unused(&held, taken)
+    if is_finished(held, taken) {
+        return false;
+    }
+    unused(held, taken)
 }
 
 // Takes the host's bytes up to the end of the message, and not past it, where `held` has what was kept of it and `had` were
-// taken before. Of a message that is finished already nothing is taken. One that comes whole is read where it lies: nothing
-// of it is kept. Of any other those bytes are kept that belong to its first 64.
-pub fn take_in(held: &mut [u8; 64], had: usize, host: &[u8]) -> Took
+// taken before. Of a message that is finished already nothing is taken. One that these bytes finish is read where it lies:
+// nothing more of it is kept. Of any other those bytes are kept that belong to its first 64. Where there are not 64 places
+// nothing is taken.
+pub fn take_in(held: &mut [u8], had: usize, host: &[u8]) -> Took
     ensures { λ r.
-        ⌜ (r ≡ tookOf (taken (record { held = now (held .entry); taken = had }) (now (host .entry))))
+        ⌜ (r ≡ tookIn (record { held = now (held .entry); taken = had }) (now (host .entry)))
         × (now (held .exit) ≡ heldAfter (record { held = now (held .entry); taken = had }) (now (host .entry))) ⌝ }
 {
+    if held.len() != 64 {
+        return open(0, had);
+    }
     let total = total_ahead(held, had, host);
+    let missing = wire::left(total, had);
+    if host.len() < missing {
+        wire::copy(host, held, had);
+        return open(host.len(), had + host.len());
+    }
+    // a message that comes whole is the usual one, and none of its bytes is looked for among those held
     if had == 0 {
-        if total <= host.len() {
-            return Took {
-                opening: opening(host, total),
-                count: total,
-                taken: total,
-                finished: true,
-            };
-        }
+        return ended(opening(held, 0, host, total), total, total);
     }
-    let count = wire::lesser(wire::left(total, had), host.len());
-    wire::copy(&host[..count], held, had);
-    let now = had + count;
-    if now < total {
-        return Took {
-            opening: [0; 10],
-            count: count,
-            taken: now,
-            finished: false,
-        };
-    }
+    let now = had + missing;
+    ended(opening(held, had, host, now), missing, now)
+}
+
+// What was taken of a message that is not finished.
+fn open(count: usize, taken: usize) -> Took
+    ensures { λ r. ⌜ r ≡ record { opening = replicate 10 0; count = count; taken = taken; finished = false } ⌝ }
+{
     Took {
-        opening: opening(held, wire::lesser(now, 64)),
-        count: count,
-        taken: now,
+        opening: [0; 10],
+        count,
+        taken,
+        finished: false,
+    }
+}
+
+// What was taken of one that is.
+fn ended(opening: [u8; 10], count: usize, taken: usize) -> Took
+    ensures { λ r. ⌜ r ≡ record { opening = opening; count = count; taken = taken; finished = true } ⌝ }
+{
+    Took {
+        opening,
+        count,
+        taken,
         finished: true,
     }
 }
 
-// The first ten of so many bytes, zero past their end.
-fn opening(bytes: &[u8], n: usize) -> [u8; 10]
-    requires { ⌜ n ≤ length (now bytes) ⌝ }
-    ensures { λ r. ⌜ r ≡ firstTen (take n (now (bytes .entry))) ⌝ }
+// The first ten of a message's n bytes, zero past their end: `had` of them were taken before, and the host's come next.
+fn opening(held: &[u8], had: usize, host: &[u8], n: usize) -> [u8; 10]
+    requires { ⌜ (length (now held) ≡ 64) × (n ≤ had + length (now host)) ⌝ }
+    ensures { λ r. ⌜ r ≡ firstTen (take n (take had (now (held .entry)) ++ now (host .entry))) ⌝ }
 {
     [
-        byte_of(bytes, n, 0),
-        byte_of(bytes, n, 1),
-        byte_of(bytes, n, 2),
-        byte_of(bytes, n, 3),
-        byte_of(bytes, n, 4),
-        byte_of(bytes, n, 5),
-        byte_of(bytes, n, 6),
-        byte_of(bytes, n, 7),
-        byte_of(bytes, n, 8),
-        byte_of(bytes, n, 9),
+        byte_of(held, had, host, n, 0),
+        byte_of(held, had, host, n, 1),
+        byte_of(held, had, host, n, 2),
+        byte_of(held, had, host, n, 3),
+        byte_of(held, had, host, n, 4),
+        byte_of(held, had, host, n, 5),
+        byte_of(held, had, host, n, 6),
+        byte_of(held, had, host, n, 7),
+        byte_of(held, had, host, n, 8),
+        byte_of(held, had, host, n, 9),
     ]
 }
 
-// One of so many bytes, zero past their end.
-fn byte_of(bytes: &[u8], n: usize, i: usize) -> u8
-    requires { ⌜ n ≤ length (now bytes) ⌝ }
-    ensures { λ r. ⌜ r ≡ getD (take n (now (bytes .entry))) i 0 ⌝ }
+// One of the first of a message's n bytes, zero past their end.
+fn byte_of(held: &[u8], had: usize, host: &[u8], n: usize, i: usize) -> u8
+    requires { ⌜ (length (now held) ≡ 64) × (n ≤ had + length (now host)) × (i < 64) ⌝ }
+    ensures { λ r. ⌜ r ≡ getD (take n (take had (now (held .entry)) ++ now (host .entry))) i 0 ⌝ }
 {
-    if i < n { bytes[i] } else { 0 }
+    if n <= i {
+        return 0;
+    }
+    if i < had { held[i] } else { host[i - had] }
 }
 
 // The header that two bytes make.
@@ -139,7 +159,7 @@ fn announced_by(header: u16) -> usize
 }
 
 // Whether the message is finished of which these bytes are held and `taken` were taken.
-fn is_finished(held: &[u8; 64], taken: usize) -> bool
+fn is_finished(held: &[u8], taken: usize) -> bool
     requires { ⌜ length (now held) ≡ 64 ⌝ }
     ensures { λ r. ⌜ r ≡ finished (record { held = now (held .entry); taken = taken }) ⌝ }
 {
@@ -164,16 +184,38 @@ fn total_ahead(held: &[u8], had: usize, host: &[u8]) -> usize
     }
 }
 
-// Whether every place from `from` on is zero.
-fn unused(held: &[u8; 64], from: usize) -> bool
+// Whether every place from `from` on is zero. Sixteen places are one step of the processor's: so the windows are full ones,
+// of which the later may overlap, and only past the 48th place is looked at byte by byte.
+fn unused(held: &[u8], from: usize) -> bool
     requires { ⌜ length (now held) ≡ 64 ⌝ }
     ensures { λ r. ⌜ r ≡ zeros (drop from (now (held .entry))) ⌝ }
 {
+    if 48 < from {
+        return any_in(held, from, 64) == 0;
+    }
+    let second = wire::lesser(from + 16, 48);
+    let third = wire::lesser(from + 32, 48);
+    (window(held, from) | window(held, second) | window(held, third) | window(held, 48)) == 0
+}
+
+// The 16 bytes at a place, joined by `or`.
+fn window(held: &[u8], at: usize) -> u8
+    requires { ⌜ at + 16 ≤ length (now held) ⌝ }
+    ensures { λ r. ⌜ eqb r 0 ≡ zeros (take 16 (drop at (now (held .entry)))) ⌝ }
+{
+    any_in(held, at, at + 16)
+}
+
+// The bytes from one place up to another, joined by `or`: zero where all of them are.
+fn any_in(held: &[u8], from: usize, to: usize) -> u8
+    requires { ⌜ to ≤ length (now held) ⌝ }
+    ensures { λ r. ⌜ eqb r 0 ≡ zeros (take (to - from) (drop from (now (held .entry)))) ⌝ }
+{
     let mut any: u8 = 0;
     let mut i = from;
-    while i < 64 {
+    while i < to {
         any = any | held[i];
         i += 1;
     }
-    any == 0
+    any
 }

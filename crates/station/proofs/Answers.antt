@@ -19,13 +19,13 @@ use Rattle.answers.specs.Replies.{refused as refusedAnswer}
 use Rattle.station.specs.declared.Station.{Station}
 use Rattle.station.specs.declared.Fed.{Fed}
 use Rattle.station.specs.Feeding.{messageIn, refused, answered}
-use Rattle.station.specs.Inside.{answering}
+use Rattle.station.specs.Inside.{openedMessage, answering}
 use Rattle.wire.proofs.Checks.{not-given}
 
 -- the header split into type and length is the message's
-pub message-is : (t : Taking) (header type size : ℕ) → header ≡ field 0 2 (t .store .held) → type ≡ typeIn header → size ≡ lengthIn header
-    → _≡_ {A = Message} (record { type = type; size = size; held = t .store .held }) (messageIn (t .store))
-message-is t header type size h a b = rw (a, b, h)
+pub message-is : (ten : List ℕ) (header type size : ℕ) → header ≡ field 0 2 ten → type ≡ typeIn header → size ≡ lengthIn header
+    → _≡_ {A = Message} (record { type = type; size = size; held = ten }) (openedMessage ten)
+message-is ten header type size h a b = rw (a, b, h)
 
 -- a message's own code is never 20
 not-20 : (s : Settings) (m : Message) → codeOf s m ≡ 20 → ⊥

@@ -16,7 +16,7 @@ use Rattle.items.specs.Answer.{settingsAfter}
 use Rattle.station.specs.declared.Station.{Station}
 use Rattle.station.specs.Station.{valid}
 use Rattle.station.specs.Feeding.{Feeding, messageIn, feedingOf, refused}
-use Rattle.station.proofs.Kept.{message-keeps}
+use Rattle.station.proofs.Kept.{code-below, message-keeps}
 use Rattle.station.proofs.Short.{reply-short}
 use Rattle.station.proofs.Valid.{valid-settings, valid-store, valid-both, feeding-answered, feeding-waiting, each-way}
 
@@ -37,6 +37,12 @@ feeding-within s host room =
 
     most : taken (s .store) host .count ≤ length host
     most = omega (arith, count-most 0 (s .store) host)
+
+-- "Codes from 20 .. return the state given."
+pub refused-returns : (s : Station) (host : List ℕ) (room : ℕ) → 20 ≤ feedingOf s host room .fed .code → feedingOf s host room .fed .station ≡ s
+refused-returns s host room =
+    each-way (λ f. 20 ≤ f .fed .code → f .fed .station ≡ s) s host room (λ v r. refl) (λ v r. refl) (λ v f r. absurd (omega arith))
+    (λ v f enough r. absurd (omega (arith, code-below (s .settings) (messageIn (taken (s .store) host .store)))))
 
 -- a valid box stays valid, whatever it is fed
 pub feeding-keeps : (s : Station) (host : List ℕ) (room : ℕ) → valid s ≡ true → valid (feedingOf s host room .fed .station) ≡ true

@@ -1,13 +1,15 @@
 -- No message takes a setting out of its range, and a message that is not an accepted set leaves every setting.
 -- Assumes nothing.
-use Prim.Native.Nat.{ℕ}
+use Prim.Native.Nat.{ℕ, _<_}
 use mathlib.Core.Path.{_≡_, refl}
 use mathlib.Core.Bool.{Bool, true, false, _&&_}
 use mathlib.Core.List.{List}
+use native.Mathlib.Omega.{arith}
 use lib.Dec.{eqb, leb}
 use lib.ListN.{length, getD}
 use borrow.Author.Tests.{ne-eqb, eqb-true}
 use Rattle.wire.specs.Number.{field}
+use Rattle.wire.proofs.Checks.{given-below}
 use Rattle.wire.proofs.Laws.{and-left, and-right, and-not-left}
 use Rattle.rates.specs.Rate.{isD}
 use Rattle.rates.proofs.Rates.{nearest-d}
@@ -18,7 +20,7 @@ use Rattle.items.specs.declared.Settings.{Settings}
 use Rattle.items.specs.Settings.{inRange, isMode, isGain, isSize, allSerial, isSerial}
 use Rattle.items.specs.Items.{Item, items, frequency, gain, clock, rate, packetSize, mayState, runByte, modeByte, idle, run, state}
 use Rattle.wire.specs.Header.{typeSet}
-use Rattle.items.specs.Answer.{Message, itemIn, codeOf, settingsAfter, row, parameters}
+use Rattle.items.specs.Answer.{Message, itemIn, checks, codeOf, settingsAfter, row, parameters}
 use Rattle.items.proofs.Rows.{allHave, _then_, found}
 use Rattle.items.proofs.Judging.{has-value, after-ways}
 use Rattle.items.proofs.States.{state-ways}
@@ -121,6 +123,11 @@ items-keep =
     then tt
 
 -- ---- what a message does to the settings
+
+-- a message's own code is under 20
+pub code-below : (s : Settings) (m : Message) → codeOf s m < 20
+unfolding codeOf
+code-below s m = given-below 20 (checks s m) 1 refl (omega arith)
 
 -- a message that is no accepted set leaves every setting
 pub left-alone : (s : Settings) (m : Message) → (eqb (codeOf s m) 1 && eqb (m .type) typeSet) ≡ false → settingsAfter s m ≡ s

@@ -5,16 +5,17 @@ use mathlib.Core.Path.{_≡_, refl, sym, ap, _∙_}
 use mathlib.Core.Bool.{true, false, and-false}
 use mathlib.Core.List.{List, [], _∷_}
 use native.Mathlib.Omega.{arith}
+use borrow.Author.Tests.{eq-eqb}
 use lib.Dec.{ltb}
 use lib.ListN.{length, take}
 use Rattle.wire.specs.Choice.{pick}
 use Rattle.wire.specs.Header.{lengthIn, typeIn}
 use Rattle.framing.specs.declared.Took.{Took}
-use Rattle.framing.specs.Framing.{Taking, headerIn, between, taken}
-use Rattle.framing.specs.Telling.{tookOf, heldAfter}
+use Rattle.framing.specs.Framing.{Taking, headerIn, between, taken, couldBeLeft}
+use Rattle.framing.specs.Telling.{tookOf, tookIn, heldAfter}
 use Rattle.framing.proofs.Cutting.{taken-unused, taken-long}
 use Rattle.framing.proofs.FirstTen.{held-opening}
-use Rattle.framing.proofs.Leaving.{left-zeros}
+use Rattle.framing.proofs.Leaving.{left-long, left-zeros}
 use Rattle.items.specs.declared.Settings.{Settings}
 use Rattle.items.specs.Answer.{Message, codeOf, settingsAfter, replyOf}
 use Rattle.items.proofs.TenBytes.{heldMessage, Same, ten-decide}
@@ -65,27 +66,39 @@ same-answer s t room long =
     same : Same (s .settings) (heldMessage (typeIn (headerIn (t .store .held))) (lengthIn (headerIn (t .store .held))) (take 10 (t .store .held))) (heldMessage (typeIn (headerIn (t .store .held))) (lengthIn (headerIn (t .store .held))) (t .store .held))
     same = ten-decide (s .settings) (typeIn (headerIn (t .store .held))) (lengthIn (headerIn (t .store .held))) (t .store .held) long
 
-module _ (s : Station) (host : List ℕ) (room : ℕ) (r : Took) (after : List ℕ) (v : valid s ≡ true) (long : length (s .store .held) ≡ 64)
-    (told : r ≡ tookOf (taken (s .store) host)) (left : after ≡ heldAfter (s .store) host) where
+module _ (s : Station) (host : List ℕ) (room : ℕ) (r : Took) (after : List ℕ) (v : valid s ≡ true)
+    (told : r ≡ tookIn (s .store) host) (left : after ≡ heldAfter (s .store) host) where
   abbrev all : Taking
   all = taken (s .store) host
 
+  could : couldBeLeft (s .store) ≡ true
+  could = valid-store (s .settings) (s .store) v
+
+  long : length (s .store .held) ≡ 64
+  long = left-long (s .store) could
+
+  took : r ≡ tookOf all
+  took = told ∙ rw (eq-eqb (length (s .store .held)) 64 long) refl
+
   ends : r .finished ≡ all .finished
-  ends = ap (λ (k : Took). k .finished) told
+  ends = ap (λ (k : Took). k .finished) took
 
   -- what is held of a message that is not finished
   pub waits : r .finished ≡ false
       → waiting (s .settings) (record { store = record { held = after; taken = r .taken }; count = r .count; finished = r .finished }) ≡ feedingOf s host room
   waits f =
       let open′ : all .finished ≡ false = sym ends ∙ f in
-      let kept : after ≡ all .store .held = left ∙ rw (open′, and-false) refl in
-      feeding-open s host room (record { store = record { held = after; taken = r .taken }; count = r .count; finished = r .finished }) v (rw (kept, told) refl) f
+      let kept : after ≡ all .store .held = left ∙ rw (eq-eqb (length (s .store .held)) 64 long, open′) refl in
+      feeding-open s host room (record { store = record { held = after; taken = r .taken }; count = r .count; finished = r .finished }) v (rw (kept, took) refl) f
 
-  -- a finished one
+  -- a finished one: it is answered, and nothing more of it is held
   pub answers : r .finished ≡ true → answering s (opened r) room ≡ feedingOf s host room
   answers f =
-      rw (told, ten)
-      (same-answer s all room (omega (arith, taken-long 0 (s .store) host)) ∙ feeding-done s host room all v refl (sym ends ∙ f))
+      rw (took, ten)
+      (same-answer s all room (omega (arith, long, taken-long 0 (s .store) host)) ∙ feeding-done s host room all v refl (sym ends ∙ f))
     where
       ten : tookOf all .opening ≡ take 10 (all .store .held)
-      ten = rw (sym ends ∙ f) (held-opening (all .store .taken) (all .store .held) (omega (arith, taken-long 0 (s .store) host)) (taken-unused 0 (s .store) host (left-zeros (s .store) (valid-store (s .settings) (s .store) v))))
+      ten = rw (sym ends ∙ f) (held-opening (all .store .taken) (all .store .held) (omega (arith, long, taken-long 0 (s .store) host)) (taken-unused 0 (s .store) host (left-zeros (s .store) could)))
+
+  pub same-held : r .finished ≡ true → after ≡ s .store .held
+  same-held f = left ∙ rw (sym ends ∙ f, and-false) refl

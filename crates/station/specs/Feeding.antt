@@ -13,6 +13,7 @@ use Rattle.items.specs.declared.Settings.{Settings}
 use Rattle.items.specs.Answer.{Message, codeOf, replyOf, settingsAfter}
 use Rattle.station.specs.declared.Station.{Station}
 use Rattle.station.specs.declared.Fed.{Fed}
+use Rattle.station.specs.declared.FedHeld.{FedHeld}
 use Rattle.station.specs.Station.{valid}
 
 -- the finished message in a store
@@ -66,3 +67,14 @@ unfoldable pub feedingOf : Station → List ℕ → ℕ → Feeding
 feedingOf s host room =
     firstRow (λ c. c .holds) (λ c. refused (c .code) s) (comesTo (s .settings) (taken (s .store) host))
     (feedChecks s (taken (s .store) host) room)
+
+-- the same where the bytes held are lent: of the box there is left how many were taken, and the settings
+abbrev pub partsOf : Fed → FedHeld
+partsOf f =
+    record {
+      code = f .code;
+      consumed = f .consumed;
+      wrote = f .wrote;
+      taken = f .station .store .taken;
+      settings = f .station .settings;
+    }

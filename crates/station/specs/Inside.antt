@@ -1,16 +1,20 @@
 -- What the functions inside promise each other. Opened in proofs/ ties it to Feeding.
 use Prim.Native.Nat.{ℕ}
 use lib.Dec.{ltb}
+use mathlib.Core.List.{List}
 use lib.ListN.{length}
 use Rattle.wire.specs.Choice.{pick}
 use Rattle.wire.specs.Codes as Code
 use Rattle.framing.specs.declared.Took.{Took}
 use Rattle.framing.specs.Framing.{Taking}
-use Rattle.items.specs.Answer.{replyOf}
+use Rattle.items.specs.Answer.{Message, replyOf}
 use Rattle.station.specs.declared.Station.{Station}
 use Rattle.station.specs.Feeding.{Feeding, messageIn, refused, answered}
 
 -- a message of which only the first ten bytes are at hand
+abbrev pub openedMessage : List ℕ → Message
+openedMessage ten = messageIn (record { held = ten; taken = 0 })
+
 abbrev pub opened : Took → Taking
 opened t = record { store = record { held = t .opening; taken = t .taken }; count = t .count; finished = t .finished }
 

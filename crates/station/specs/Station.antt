@@ -7,11 +7,16 @@ use Rattle.wire.specs.Codes as Code
 use Rattle.wire.specs.Told.{Told, tells}
 use Rattle.tuning.specs.Word.{wordOf}
 use Rattle.framing.specs.Framing.{between, couldBeLeft}
+use Rattle.items.specs.declared.Settings.{Settings}
 use Rattle.items.specs.Settings.{inRange, freshOf, freshAnswer}
 use Rattle.station.specs.declared.Station.{Station}
 use Rattle.station.specs.declared.Began.{Began}
 use Rattle.station.specs.declared.Tuning.{Tuning}
 use Rattle.station.specs.declared.Tuning.the-variants.{Word, Broken}
+
+-- a box in parts: its settings, the bytes held, and how many were taken
+abbrev pub boxOf : Settings → List ℕ → ℕ → Station
+boxOf settings held taken = record { settings = settings; store = record { held = held; taken = taken } }
 
 -- "A box with a field outside these rules is broken (21). Its unfinished message must also be one that some bytes could have left."
 unfoldable pub valid : Station → Bool

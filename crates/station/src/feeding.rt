@@ -1,14 +1,18 @@
 // One call of feeding: the host's bytes up to the end of one message, and its reply.
 ghost use mathlib.Core.Path.{_≡_};
+ghost use mathlib.Core.Bool.{true};
+ghost use lib.ListN.{length};
 ghost use lib.Seq.{sets};
-ghost use Rattle.framing.specs.Framing.{between};
-ghost use Rattle.station.specs.Feeding.{feedingOf};
-ghost use Rattle.station.specs.Inside.{opened, answering};
-ghost use Rattle.station.specs.Feeding.{refused as refusedBy, waiting as waitingWith};
+ghost use Rattle.framing.specs.Framing.{between, couldBeLeft};
+ghost use Rattle.answers.specs.Replies.{answerOf};
+ghost use Rattle.station.specs.Station.{boxOf};
+ghost use Rattle.station.specs.Feeding.{feedingOf, partsOf};
+ghost use Rattle.station.specs.Inside.{openedMessage};
 use crate::Fed;
+use crate::FedHeld;
 use crate::Station;
+use answers::Answered;
 use framing::Store;
-use framing::Took;
 use items::Settings;
 use wire::codes;
 
@@ -21,91 +25,109 @@ pub fn feed(s: Station, host: &[u8], reply: &mut [u8]) -> Fed
       ⌜ (r ≡ feedingOf s (now (host .entry)) room .fed)
           × (now (reply .exit) ≡ sets (now (reply .entry)) 0 (feedingOf s (now (host .entry)) room .bytes)) ⌝ }
 {
-    if !crate::is_valid(s) {
-        return refused(codes::BROKEN, s);
-    }
+    let settings = s.settings;
     let store = s.store;
     let mut held = store.held;
-    let took = framing::take_in(&mut held, store.taken, host);
-    if !took.finished {
-        return waiting(s, held, took);
+    let fed = feed_held(settings, &mut held, store.taken, host, reply);
+    let after = fed.settings;
+    let left = Store {
+        held: held,
+        taken: fed.taken,
+    };
+    let station = Station {
+        settings: after,
+        store: left,
+    };
+    Fed {
+        code: fed.code,
+        consumed: fed.consumed,
+        wrote: fed.wrote,
+        station: station,
     }
-    answer(s, took, reply)
+}
+
+// The same of a box whose held bytes are lent, with its other parts by value: they are changed where they lie, so that a
+// call copies no box. Bytes held in another number of places than 64 are a broken box.
+pub fn feed_held(
+    settings: Settings,
+    held: &mut [u8],
+    taken: usize,
+    host: &[u8],
+    reply: &mut [u8],
+) -> FedHeld
+    ensures { λ r. do
+      room ← ⟦reply.len()⟧ .entry
+      ⌜ (r ≡ partsOf (feedingOf (boxOf settings (now (held .entry)) taken) (now (host .entry)) room .fed))
+          × (now (held .exit) ≡ feedingOf (boxOf settings (now (held .entry)) taken) (now (host .entry)) room .fed .station .store .held)
+          × (now (reply .exit) ≡ sets (now (reply .entry)) 0 (feedingOf (boxOf settings (now (held .entry)) taken) (now (host .entry)) room .bytes)) ⌝ }
+{
+    if !crate::is_sound(settings, held, taken) {
+        return refused(codes::BROKEN, settings, taken);
+    }
+    let took = framing::take_in(held, taken, host);
+    if !took.finished {
+        return FedHeld {
+            code: codes::WAITING,
+            consumed: took.count,
+            wrote: 0,
+            taken: took.taken,
+            settings: settings,
+        };
+    }
+    let opening = took.opening;
+    let answered = answer(settings, opening, reply);
+    if answered.code == codes::NO_ROOM {
+        return refused(codes::NO_ROOM, settings, taken);
+    }
+    clear(held, taken);
+    let after = answered.settings;
+    FedHeld {
+        code: answered.code,
+        consumed: took.count,
+        wrote: answered.wrote,
+        taken: 0,
+        settings: after,
+    }
 }
 
 // "Codes from 20 consume nothing and return the state given."
-fn refused(code: u8, s: Station) -> Fed
-    ensures { λ r. ⌜ r ≡ refusedBy code s .fed ⌝ }
+fn refused(code: u8, settings: Settings, taken: usize) -> FedHeld
+    ensures { λ r. ⌜ r ≡ record { code = code; consumed = 0; wrote = 0; taken = taken; settings = settings } ⌝ }
 {
-    Fed {
+    FedHeld {
         code: code,
         consumed: 0,
         wrote: 0,
-        station: s,
-    }
-}
-
-// 0: "waiting, all bytes consumed".
-fn waiting(s: Station, held: [u8; 64], t: Took) -> Fed
-    ensures { λ r.
-        ⌜ r
-        ≡ waitingWith (s .settings) (record { store = record { held = held; taken = t .taken }; count = t .count; finished = t .finished }) .fed ⌝ }
-{
-    let settings = s.settings;
-    let store = Store {
-        held: held,
-        taken: t.taken,
-    };
-    let station = Station {
+        taken: taken,
         settings: settings,
-        store: store,
-    };
-    Fed {
-        code: codes::WAITING,
-        consumed: t.count,
-        wrote: 0,
-        station: station,
     }
 }
 
 // The answer to a finished message, which its first ten bytes decide: a reply, nothing, or NAK; 20 where there is no room
 // for it.
-fn answer(s: Station, t: Took, reply: &mut [u8]) -> Fed
-    ensures { λ r. do
-      room ← ⟦reply.len()⟧ .entry
-      ⌜ (r ≡ answering s (opened t) room .fed) × (now (reply .exit) ≡ sets (now (reply .entry)) 0 (answering s (opened t) room .bytes)) ⌝ }
+fn answer(settings: Settings, opening: [u8; 10], reply: &mut [u8]) -> Answered
+    ensures { λ r.
+        ⌜ (r ≡ answerOf settings (openedMessage opening) (length (now (reply .entry))) .answered)
+        × (now (reply .exit)
+        ≡ sets (now (reply .entry)) 0 (answerOf settings (openedMessage opening) (length (now (reply .entry))) .bytes)) ⌝ }
 {
-    let settings = s.settings;
-    let opening = t.opening;
     let header = wire::number_at(&opening, 0, 2) as u16;
-    let answered = answers::answer(
+    answers::answer(
         settings,
         wire::type_in(header),
         wire::length_in(header),
         &opening,
         reply,
-    );
-    let code = answered.code;
-    if code == codes::NO_ROOM {
-        return refused(codes::NO_ROOM, s);
-    }
-    let after = answered.settings;
-    done(code, t.count, answered.wrote, after)
+    )
 }
 
-// A message that is done with: its code, and a box between messages.
-fn done(code: u8, consumed: usize, wrote: usize, after: Settings) -> Fed
-    ensures { λ r.
-        ⌜ r ≡ record { code = code; consumed = consumed; wrote = wrote; station = record { settings = after; store = between } } ⌝ }
+// "All is zero between messages", as it is already where nothing was kept.
+fn clear(held: &mut [u8], taken: usize)
+    requires { ⌜ couldBeLeft (record { held = now held; taken = taken }) ≡ true ⌝ }
+    ensures { λ _. ⌜ now (held .exit) ≡ between .held ⌝ }
 {
-    let station = Station {
-        settings: after,
-        store: framing::between(),
-    };
-    Fed {
-        code: code,
-        consumed: consumed,
-        wrote: wrote,
-        station: station,
+    if 0 < taken {
+        let none = framing::between();
+        wire::copy(&none.held, held, 0);
     }
 }

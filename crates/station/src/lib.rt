@@ -2,8 +2,9 @@
 mod feeding; // feeding.rt: one call of feeding
 
 pub use feeding::feed;
+pub use feeding::feed_held;
 ghost use mathlib.Core.Path.{_≡_};
-ghost use Rattle.station.specs.Station.{valid, freshBox, told, tuningTold};
+ghost use Rattle.station.specs.Station.{valid, boxOf, freshBox, told, tuningTold};
 use framing::Store;
 use items::Settings;
 
@@ -20,6 +21,16 @@ pub struct Fed {
     pub consumed: usize,
     pub wrote: usize,
     pub station: Station,
+}
+
+// What one call of feeding did with a box whose held bytes were lent: the same, and of the box how many bytes of its
+// message are taken, and its settings.
+pub struct FedHeld {
+    pub code: u8,
+    pub consumed: usize,
+    pub wrote: usize,
+    pub taken: usize,
+    pub settings: Settings,
 }
 
 // A fresh box, and the code for its serial.
@@ -55,11 +66,19 @@ pub fn is_valid(s: Station) -> bool
     ensures { λ r. ⌜ r ≡ valid s ⌝ }
 {
     let settings = s.settings;
+    let store = s.store;
+    let held = store.held;
+    is_sound(settings, &held, store.taken)
+}
+
+// The same of a box in parts.
+pub(crate) fn is_sound(settings: Settings, held: &[u8], taken: usize) -> bool
+    ensures { λ r. ⌜ r ≡ valid (boxOf settings (now (held .entry)) taken) ⌝ }
+{
     if !items::in_range(settings) {
         return false;
     }
-    let store = s.store;
-    framing::could_be_left(store)
+    framing::could_be_left(held, taken)
 }
 
 // The tuning word, worked out when asked.

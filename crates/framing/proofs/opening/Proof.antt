@@ -1,5 +1,6 @@
 -- `framing::opening` meets its contract: byte after byte.
 use denote.Ref.{now}
+use mathlib.Core.List.{_++_}
 use lib.ListN.{take}
 use Rattle.framing.proofs.FirstTen.{ten-bytes}
 use borrow.Author.Needs.{needs}
@@ -38,9 +39,9 @@ byte-of-requires-10 c κs = search needs
 
 returns : tie.Need-returns
 returns c =
-    let a = c .before .before .before .before .before .before .before .before .before .before .before .args in
+    let a = c .before .before .before .before .before .before .before .before .before .before .before .before .args in
     rw (c .before .before .before .before .before .before .before .before .before .byte-of .ensures, c .before .before .before .before .before .before .before .before .byte-of2 .ensures, c .before .before .before .before .before .before .before .byte-of3 .ensures, c .before .before .before .before .before .before .byte-of4 .ensures, c .before .before .before .before .before .byte-of5 .ensures, c .before .before .before .before .byte-of6 .ensures, c .before .before .before .byte-of7 .ensures, c .before .before .byte-of8 .ensures, c .before .byte-of9 .ensures, c .byte-of10 .ensures)
-    (ten-bytes (take (a .n) (now (a .bytes))))
+    (ten-bytes (take (a .n) (take (a .had) (now (a .held)) ++ now (a .host))))
 
 pub opening-spec : {M : Type 1} → statement M
 opening-spec =

@@ -1,45 +1,66 @@
--- `framing::unused` meets its contract: what was joined so far and what is still to come are zero together with the whole.
-use Prim.Native.Nat.{_-_}
-use mathlib.Core.Path.{_≡_, refl}
-use mathlib.Core.Bool.{_&&_}
+-- `framing::unused` meets its contract: four windows reach from the place to the end; past the 48th the bytes do by themselves.
+use mathlib.Core.Path.{_∙_}
 use native.Mathlib.Omega.{arith}
+use denote.Ref.{now}
 use borrow.Author.Needs.{needs}
-use lib.Dec.{eqb}
-use lib.ListN.{drop}
-use Rattle.framing.specs.Framing.{zeros}
-use Rattle.framing.proofs.Zeros.{zeros-turn, zeros-end}
+use Rattle.framing.proofs.Zeros.{last-places, four-windows}
 use Rattle.framing.proofs.unused.Statement.{statement}
 use Rattle.framing.proofs.unused.Tie as tie
 
-abbrev Inv-loop : tie.InvT-loop
-Inv-loop held from any₀ i₀ any i = (eqb any 0 && zeros (drop i held)) ≡ zeros (drop from held)
+any-in-requires : tie.Need-any-in-requires
+any-in-requires c κs = search needs
 
-abbrev μ-loop : tie.MeasureT-loop
-μ-loop held from any₀ i₀ any i = 64 - i
-
-loop-holds : tie.Need-loop-holds Inv-loop μ-loop
-loop-holds c = refl
-
-element-copy-out-any : tie.Need-element-copy-out-any Inv-loop μ-loop
-element-copy-out-any c = search needs
-
-add-i : tie.Need-add-i Inv-loop μ-loop
-add-i c = omega arith
-
-loop-less : tie.Need-loop-less Inv-loop μ-loop
-loop-less c = omega arith
-
-loop-again : tie.Need-loop-again Inv-loop μ-loop
-loop-again c =
-    let l = c .before .before .loop in
-    zeros-turn (c .before .before .before .args .held .now) (l .i) (l .any) _ (omega arith) (l .inv)
-
-returns : tie.Need-returns Inv-loop μ-loop
+returns : tie.Need-returns
 returns c =
-    let l = c .before .loop in
-    zeros-end (c .before .before .args .held .now) (l .i) (l .any) _ (omega arith) (l .inv)
+    let a = c .before .before .before .args in
+    c .any-in .ensures ∙ last-places (now (a .held)) (omega arith) (a .from)
+
+add-lesser : tie.Need-add-lesser
+add-lesser c = search needs
+
+lesser-requires : tie.Need-lesser-requires
+lesser-requires c κs = search needs
+
+add-lesser-2 : tie.Need-add-lesser-2
+add-lesser-2 c = search needs
+
+lesser-requires-2 : tie.Need-lesser-requires-2
+lesser-requires-2 c κs = search needs
+
+window-requires : tie.Need-window-requires
+window-requires c κs = search needs
+
+window-requires-2 : tie.Need-window-requires-2
+window-requires-2 c κs = search needs
+
+window-requires-3 : tie.Need-window-requires-3
+window-requires-3 c κs = search needs
+
+window-requires-4 : tie.Need-window-requires-4
+window-requires-4 c κs = search needs
+
+returns-2 : tie.Need-returns-2
+returns-2 c =
+    let third = c .before .before .before .before in
+    let second = third .before in
+    let a = second .before .before .before .args in
+    four-windows (now (a .held)) (omega arith) (a .from) (second .lesser .result) (third .lesser2 .result)
+    (c .before .before .before .window .result) (c .before .before .window2 .result) (c .before .window3 .result) (c .window4 .result) (omega arith)
+    (second .lesser .ensures) (third .lesser2 .ensures)
+    (c .before .before .before .window .ensures) (c .before .before .window2 .ensures) (c .before .window3 .ensures) (c .window4 .ensures)
 
 pub unused-spec : {M : Type 1} → statement M
 unused-spec =
     tie.close
-    (tie.spec Inv-loop μ-loop loop-holds element-copy-out-any add-i loop-less loop-again returns)
+    (tie.spec
+    any-in-requires
+    returns
+    add-lesser
+    lesser-requires
+    add-lesser-2
+    lesser-requires-2
+    window-requires
+    window-requires-2
+    window-requires-3
+    window-requires-4
+    returns-2)

@@ -1,10 +1,15 @@
--- The settings, and the store behind them, in an array of their own; then its bytes, copied whole.
-use mathlib.Core.Path.{_≡_, refl, sym, _∙_}
-use lib.ListN.{length, replicate}
-use Rattle.wire.proofs.Stores.{sets-whole}
-use Rattle.boxdoor.specs.States.{settingsBytes, storeBytes, stationBytes}
-use Rattle.boxdoor.proofs.Fields.{station-stored}
-use Rattle.boxdoor.proofs.Parts.{still-long}
+-- `boxdoor::states::put_station` meets its contract: the held bytes in their places, and then all but them.
+use Prim.Native.Nat.{ℕ}
+use mathlib.Core.Path.{_≡_, ap, _∙_}
+use mathlib.Core.List.{List}
+use native.Mathlib.Omega.{arith}
+use denote.Ref.{now}
+use lib.ListN.{length}
+use Rattle.wire.specs.Number.{bytes}
+use Rattle.boxdoor.specs.States.{settingsBytes}
+use lib.Seq.{sets, length-sets}
+use Rattle.wire.proofs.Stores.{sets-taken}
+use Rattle.boxdoor.proofs.Fields.{parts-stored}
 use borrow.Author.Needs.{needs}
 use Rattle.boxdoor.proofs.states.put_station.Statement.{statement}
 use Rattle.boxdoor.proofs.states.put_station.Tie as tie
@@ -15,51 +20,30 @@ serial-long c = search needs
 held-long : (c : tie.Start) → length (c .args .s .store .held) ≡ 64
 held-long c = search needs
 
-put-settings-requires : tie.Need-put-settings-requires
-put-settings-requires c κs = search needs
-
--- the array after each store: it keeps its length, and in the end it is the box
-settled : (c : tie.After-put-settings) → length (c .put-settings .last .0) ≡ 108
-settled c =
-    still-long 108 0 (replicate 108 0) (settingsBytes (c .before .before .before .before .before .args .s .settings)) refl (c .put-settings .ensures)
-
-whole : (c : tie.After-put-store) → c .put-store .last .0 ≡ stationBytes (c .before .before .before .before .before .before .before .args .s)
-whole c =
-    let settings = c .before .before in
-    let start = settings .before .before .before .before .before in
-    station-stored (start .args .s) (replicate 108 0) _ _ refl (serial-long start) (held-long start) (settings .put-settings .ensures) (c .put-store .ensures)
-
-long : (c : tie.After-put-store) → length (c .put-store .last .0) ≡ 108
-long c =
-    let settings = c .before .before in
-    still-long 108 36 (settings .put-settings .last .0) (storeBytes (settings .before .before .before .before .before .args .s .store)) (settled settings) (c .put-store .ensures)
-
-put-store-requires : tie.Need-put-store-requires
-put-store-requires c κs = settled (c .before)
-
 slice-aggregate-copy : tie.Need-slice-aggregate-copy
-slice-aggregate-copy c = sym (long (c .before))
+slice-aggregate-copy c = search needs
 
 copy-requires : tie.Need-copy-requires
 copy-requires c κs = search needs
+
+put-parts-requires : tie.Need-put-parts-requires
+put-parts-requires c κs = search needs
 
 same-length : tie.Need-same-length
 same-length c = search needs
 
 returns : tie.Need-returns
 returns c =
-    let copied = c .before .before in
-    let store = copied .before .before .before in
-    let start = store .before .before .before .before .before .before .before in
-    copied .copy .ensures ∙ sets-whole (start .args .b .now) (store .put-store .last .0) (long store ∙ sym (start .pre)) ∙ whole store
+    let parts = c .before .before in
+    let copied = parts .before .before .before .before in
+    let start = copied .before .before .before .before .before .before .before in
+    let s = start .args .s in
+    let l = now (start .args .b) in
+    let placed = rw (held-long start) at (sets-taken l 36 (s .store .held) (omega (arith, held-long start, start .pre))) in
+    parts .put-parts .ensures
+    ∙ ap (λ (r : List ℕ). sets (sets r 0 (settingsBytes (s .settings))) 100 (bytes 8 (s .store .taken))) (copied .copy .ensures)
+    ∙ parts-stored (s .settings) (s .store .held) (sets l 36 (s .store .held)) (s .store .taken) (length-sets l 36 (s .store .held) ∙ start .pre) (serial-long start) placed
 
 pub put-station-spec : {M : Type 1} → statement M
 put-station-spec =
-    tie.close
-    (tie.spec
-    put-settings-requires
-    put-store-requires
-    slice-aggregate-copy
-    copy-requires
-    same-length
-    returns)
+    tie.close (tie.spec slice-aggregate-copy copy-requires put-parts-requires same-length returns)

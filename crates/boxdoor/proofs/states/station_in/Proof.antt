@@ -1,9 +1,8 @@
--- The bytes, copied whole; then settings and store, each from its own of them.
-use Prim.Native.Nat.{ℕ}
-use mathlib.Core.Path.{_≡_, refl, _∙_}
-use mathlib.Core.List.{List}
+-- `boxdoor::states::station_in` meets its contract: the settings, the held bytes and how many were taken, each from its own bytes.
+use mathlib.Core.Path.{refl}
 use native.Mathlib.Omega.{arith}
-use lib.Seq.{take-all}
+use denote.Ref.{now}
+use Rattle.boxdoor.specs.States.{storeIn}
 use Rattle.boxdoor.proofs.Parts.{filled}
 use borrow.Author.Needs.{needs}
 use Rattle.boxdoor.proofs.states.station_in.Statement.{statement}
@@ -24,18 +23,19 @@ slice-aggregate-copy c = search needs
 copy-requires : tie.Need-copy-requires
 copy-requires c κs = search needs
 
-settings-in-requires : tie.Need-settings-in-requires
-settings-in-requires c κs = search needs
+taken-of-requires : tie.Need-taken-of-requires
+taken-of-requires c κs = search needs
 
-store-in-requires : tie.Need-store-in-requires
-store-in-requires c κs = search needs
+settings-of-requires : tie.Need-settings-of-requires
+settings-of-requires c κs = search needs
 
 returns : tie.Need-returns
+unfolding storeIn
 returns c =
     let copied = c .before .before .before in
     let start = copied .before .before .before .before in
-    let b = start .args .b .now in
-    rw (c .before .settings-in .ensures, c .store-in .ensures, filled 0 108 b _ refl (omega (arith, start .pre)) (copied .copy .ensures) ∙ take-all 108 b (omega (arith, start .pre))) refl
+    let b = now (start .args .b) in
+    rw (c .settings-of .ensures, c .before .taken-of .ensures, filled 36 64 b _ refl (omega (arith, start .pre)) (copied .copy .ensures)) refl
 
 pub station-in-spec : {M : Type 1} → statement M
 station-in-spec =
@@ -46,6 +46,6 @@ station-in-spec =
     part-copy-end
     slice-aggregate-copy
     copy-requires
-    settings-in-requires
-    store-in-requires
+    taken-of-requires
+    settings-of-requires
     returns)

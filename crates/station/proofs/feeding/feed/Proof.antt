@@ -1,70 +1,37 @@
--- `station::feeding::feed` meets its contract: the box is broken, waits for more bytes, or answers a finished message.
+-- `station::feeding::feed` meets its contract: the box is lent in parts, and put together again.
 -- Assumes nothing.
-use Rattle.station.proofs.Valid.{feeding-broken}
-use Rattle.station.proofs.Opened.{waits, answers}
-use denote.Ref.{now}
-use lib.ListN.{length}
-use borrow.Author.Tests.{not-true, not-false}
-use mathlib.Core.Path.{_≡_, refl, sym, _∙_}
+use mathlib.Core.Path.{_≡_, refl, ap, _∙_}
+use mathlib.Core.List.{List}
+use Prim.Native.Nat.{ℕ}
 use borrow.Author.Needs.{needs}
+use Rattle.station.specs.declared.Fed.{Fed}
+use Rattle.station.specs.declared.FedHeld.{FedHeld}
+use Rattle.station.specs.Station.{boxOf}
+use Rattle.station.specs.Feeding.{partsOf}
 use Rattle.station.proofs.feeding.feed.Statement.{statement}
 use Rattle.station.proofs.feeding.feed.Tie as tie
 
--- what the type says of what is held
-long : (c : tie.Start) → length (c .args .s .store .held) ≡ 64
-long c = search needs
+-- what a call returns, from its parts
+abbrev whole : FedHeld → List ℕ → Fed
+whole f held =
+    record { code = f .code; consumed = f .consumed; wrote = f .wrote; station = boxOf (f .settings) held (f .taken) }
 
-is-valid-requires : tie.Need-is-valid-requires
-is-valid-requires c κs = search needs
+together : (fed : Fed) (f : FedHeld) (held : List ℕ) → f ≡ partsOf fed → held ≡ fed .station .store .held → whole f held ≡ fed
+together fed f held parts kept = rw (parts, kept) refl
 
-refused-requires : tie.Need-refused-requires
-refused-requires c κs = search needs
+slice-aggregate-feed-held : tie.Need-slice-aggregate-feed-held
+slice-aggregate-feed-held c = search needs
 
-returns : tie.Need-returns
-returns c = let a = c .before .before .before .before .before .args in
-    rw (c .refused .ensures, feeding-broken (a .s) (now (a .host)) (length (now (a .reply))) (sym (c .before .before .is-valid .ensures) ∙ not-true _ (c .before .if1 .taken))) (refl, refl)
-
-take-in-requires : tie.Need-take-in-requires
-take-in-requires c κs = search needs
-
-waiting-requires : tie.Need-waiting-requires
-waiting-requires c κs = search needs
-
-returns-2 : tie.Need-returns-2
-returns-2 c =
-    let t = c .before .before .before in
-    let e = t .before .before .before .before in
-    let b = e .before .before .before .before in
-    let a = b .args in
-    rw (c .waiting .ensures, ← waits (a .s) (now (a .host)) (length (now (a .reply))) (t .take-in .result) (t .take-in .last .0) (sym (e .before .is-valid .ensures) ∙ not-false _ (e .if1 .left)) (long b) (t .take-in .ensures .0) (t .take-in .ensures .1) (not-true _ (c .before .if2 .taken)))
-    (refl, refl)
-
-answer-requires : tie.Need-answer-requires
-answer-requires c κs = search needs
+feed-held-requires : tie.Need-feed-held-requires
+feed-held-requires c κs = search needs
 
 same-length : tie.Need-same-length
 same-length c = search needs
 
-returns-3 : tie.Need-returns-3
-returns-3 c =
-    let d = c .before .before in
-    let t = d .before .before .before .before in
-    let e = t .before .before .before .before in
-    let b = e .before .before .before .before in
-    let a = b .args in
-    rw (← answers (a .s) (now (a .host)) (length (now (a .reply))) (t .take-in .result) (t .take-in .last .0) (sym (e .before .is-valid .ensures) ∙ not-false _ (e .if1 .left)) (long b) (t .take-in .ensures .0) (t .take-in .ensures .1) (not-false _ (d .before .before .if2 .left)))
-    (d .answer .ensures)
+returns : tie.Need-returns
+returns c =
+    let f = c .before .before .before .before in
+    (together _ (f .feed-held .result) (f .feed-held .last .1 .0) (f .feed-held .ensures .0) (f .feed-held .ensures .1), f .feed-held .ensures .2)
 
 pub feed-spec : {M : Type 1} → statement M
-feed-spec =
-    tie.close
-    (tie.spec
-    is-valid-requires
-    refused-requires
-    returns
-    take-in-requires
-    waiting-requires
-    returns-2
-    answer-requires
-    same-length
-    returns-3)
+feed-spec = tie.close (tie.spec slice-aggregate-feed-held feed-held-requires same-length returns)

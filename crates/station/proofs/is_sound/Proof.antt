@@ -1,10 +1,10 @@
--- `station::is_valid` meets its contract.
+-- `station::is_sound` meets its contract: the settings and the store decide.
 -- Assumes nothing.
 use borrow.Author.Tests.{not-true, not-false}
 use Rattle.station.specs.Station.{valid}
 use borrow.Author.Needs.{needs}
-use Rattle.station.proofs.is_valid.Statement.{statement}
-use Rattle.station.proofs.is_valid.Tie as tie
+use Rattle.station.proofs.is_sound.Statement.{statement}
+use Rattle.station.proofs.is_sound.Tie as tie
 
 in-range-requires : tie.Need-in-range-requires
 in-range-requires c κs = search needs
@@ -18,7 +18,7 @@ could-be-left-requires c κs = search needs
 
 returns-2 : tie.Need-returns-2
 unfolding valid
-returns-2 c = rw (c .could-be-left .ensures, ← c .before .before .before .in-range .ensures, not-false (c .before .before .before .in-range .result) (c .before .before .if1 .left))
+returns-2 c = rw (c .could-be-left .ensures, ← c .before .before .in-range .ensures, not-false (c .before .before .in-range .result) (c .before .if1 .left))
 
-pub is-valid-spec : {M : Type 1} → statement M
-is-valid-spec = tie.close (tie.spec in-range-requires returns could-be-left-requires returns-2)
+pub is-sound-spec : {M : Type 1} → statement M
+is-sound-spec = tie.close (tie.spec in-range-requires returns could-be-left-requires returns-2)
