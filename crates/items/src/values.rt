@@ -31,17 +31,17 @@ pub fn state_number(run: u8, mode: u8) -> u64
     (mode as u64) << 16 | (run as u64) << 8 | COMPLEX as u64
 }
 
-// 0004: "id, then two bytes: 0: 64 00, 1: 6B 00, 2: 66 00, 3: 01 07 (house)". Another id has none.
+// 0004: "id, then two bytes: 0: 64 00, 1: 6B 00, 2: 66 00, 3: 01 07 (house)".
+const VERSIONS: [u64; 4] = [0x0064, 0x006B, 0x0066, 0x0701];
+
+// The two bytes of an id as a number. Another id has none.
 pub fn version_of(id: u8) -> u64
     ensures { λ r. ⌜ r ≡ number (getD versionTable id []) ⌝ }
 {
-    match id {
-        0 => 0x0064,
-        1 => 0x006B,
-        2 => 0x0066,
-        3 => 0x0701,
-        _ => 0,
+    if is_version(id) {
+        return VERSIONS[id as usize];
     }
+    0
 }
 
 // There is a version of this id.

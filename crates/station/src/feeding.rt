@@ -80,13 +80,13 @@ pub fn feed_held(
         return refused(codes::NO_ROOM, settings, taken);
     }
     clear(held, taken);
-    let after = answered.settings;
+    let stored = answered.settings;
     FedHeld {
         code: answered.code,
         consumed: took.count,
         wrote: answered.wrote,
         taken: 0,
-        settings: after,
+        settings: stored,
     }
 }
 
