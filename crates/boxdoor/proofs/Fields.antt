@@ -1,35 +1,75 @@
 -- Fields stored one behind the other are the store of the whole state.
-use Prim.Native.Nat.{ℕ, _+_, _*_}
+use Prim.Native.Nat.{ℕ, suc, _+_, _*_, _/_, _%_, _≤_, _<_}
 use mathlib.Core.Path.{_≡_, refl, ap, _∙_}
 use mathlib.Core.Bool.{Bool, true, false}
 use mathlib.Core.List.{List, [], _++_, append-assoc, append-nil}
 use native.Mathlib.Omega.{arith}
 use mir.Val.{boolByte}
-use lib.ListN.{length, take, drop, drop-of-length-le}
+use lib.ListN.{length, take, drop, set, drop-of-length-le}
 use lib.Seq.{sets, sets-eq, length-sets, length-take-le, take-append-add, take-at, drop-at}
 use borrow.Rule.Slice.PartMut.{putMid}
 use Rattle.wire.specs.Choice.{pick}
 use Rattle.wire.specs.Number.{bytes, field}
 use Rattle.wire.proofs.Numbers.{field-step, length-bytes}
-use Rattle.wire.proofs.Stores.{sets-then, sets-taken, take-sets}
+use Rattle.wire.proofs.Stores.{sets-then}
 use Rattle.items.specs.declared.Settings.{Settings}
 use Rattle.station.specs.Station.{boxOf}
 use Rattle.boxdoor.specs.States.{wideOf, narrowOf, settingsBytes, stationBytes}
 
--- a flag as the code casts it
-flag-byte : (b : Bool) → boolByte b ≡ pick b 1 0
-flag-byte true = refl
-flag-byte false = refl
+-- ---- words
+
+-- four bytes stored one behind the other
+pub word-put : (l : List ℕ) (at v : ℕ)
+    → set (set (set (set l at (v % 256)) (at + 1) (v / 256 % 256)) (at + 2) (v / 65536 % 256)) (at + 3) (v / 16777216 % 256) ≡ sets l at (bytes 4 v)
+word-put l at v =
+    let one : at + 1 ≡ suc at = omega arith in
+    let two : at + 2 ≡ suc (suc at) = omega arith in
+    let three : at + 3 ≡ suc (suc (suc at)) = omega arith in
+    let third : v / 65536 ≡ v / 256 / 256 = omega arith in
+    let fourth : v / 16777216 ≡ v / 256 / 256 / 256 = omega arith in
+    rw (one, two, three, third, fourth) refl
+
+-- eight bytes are those of two words
+pub eight-bytes : (v : ℕ) → bytes 4 v ++ bytes 4 (v / 4294967296) ≡ bytes 8 v
+eight-bytes v =
+    let high : v / 4294967296 ≡ v / 256 / 256 / 256 / 256 = omega arith in
+    rw high refl
+
+pub words-read : (l : List ℕ) (at : ℕ) → at + 8 ≤ length l → field at 4 l + 4294967296 * field (at + 4) 4 l ≡ field at 8 l
+words-read l at fits =
+    let four : at + 4 ≡ suc (suc (suc (suc at))) = omega arith in
+    rw four (omega (
+      arith,
+      field-step l at 7 (omega arith),
+      field-step l (suc at) 6 (omega arith),
+      field-step l (suc (suc at)) 5 (omega arith),
+      field-step l (suc (suc (suc at))) 4 (omega arith),
+      field-step l at 3 (omega arith),
+      field-step l (suc at) 2 (omega arith),
+      field-step l (suc (suc at)) 1 (omega arith),
+      field-step l (suc (suc (suc at))) 0 (omega arith),
+    ))
+
+-- ---- the settings, one behind the other
 
 pub wide-stored : (s : Settings) (l a b c d : List ℕ) → a ≡ sets l 0 (bytes 8 (s .frequency)) → b ≡ sets a 8 (bytes 8 (s .count))
     → c ≡ sets b 16 (bytes 4 (s .clock)) → d ≡ sets c 20 (bytes 4 (s .divisor)) → d ≡ sets l 0 (wideOf s)
 unfolding wideOf
 wide-stored s l a b c d p q r t = rw (t, r, q, p)
 
-pub narrow-stored : (s : Settings) (l a b c d : List ℕ) → a ≡ sets l 24 (bytes 1 (boolByte (s .running))) → b ≡ sets a 25 (bytes 1 (s .mode))
-    → c ≡ sets b 26 (bytes 1 (s .gain)) → d ≡ sets c 27 (bytes 1 (s .size)) → d ≡ sets l 24 (narrowOf s)
+-- a flag as the code casts it
+flag-byte : (b : Bool) → boolByte b ≡ pick b 1 0 % 256
+flag-byte true = refl
+flag-byte false = refl
+
+pub narrow-stored : (s : Settings) (l : List ℕ) → s .mode < 256 → s .gain < 256 → s .size < 256
+    → set (set (set (set l 24 (boolByte (s .running))) 25 (s .mode)) 26 (s .gain)) 27 (s .size) ≡ sets l 24 (narrowOf s)
 unfolding narrowOf
-narrow-stored s l a b c d p q r t = rw (t, r, q, p, flag-byte (s .running))
+narrow-stored s l m g z =
+    let mode : s .mode % 256 ≡ s .mode = omega arith in
+    let gain : s .gain % 256 ≡ s .gain = omega arith in
+    let size : s .size % 256 ≡ s .size = omega arith in
+    rw (flag-byte (s .running), mode, gain, size) refl
 
 pub settings-stored : (s : Settings) (l a b c : List ℕ) → a ≡ sets l 0 (wideOf s) → b ≡ sets a 24 (narrowOf s) → c ≡ sets b 28 (s .serial)
     → c ≡ sets l 0 (settingsBytes s)
@@ -51,14 +91,6 @@ module _ (front back l : List ℕ) (first : length front ≡ 36) (last : length 
       ∙ ap (λ (r : List ℕ). take 100 r ++ back) begun
       ∙ rw kept (append-assoc front held back)
 
-  -- read again from an array that they were stored in
-  pub front-again : (a b : List ℕ) → a ≡ sets l 0 front → b ≡ sets a 100 back → take 36 b ≡ front
-  front-again a b p q =
-      rw (q, take-sets 36 a 100 back (omega arith), p) (rw first at (sets-taken l 0 front (omega arith)))
-
-  pub back-again : (b : List ℕ) → b ≡ sets l 100 back → take 8 (drop 100 b) ≡ back
-  back-again b q = rw q (rw last at (sets-taken l 100 back (omega arith)))
-
 pub settings-long : (s : Settings) → length (s .serial) ≡ 8 → length (settingsBytes s) ≡ 36
 unfolding wideOf narrowOf
 settings-long s serial = rw serial
@@ -74,18 +106,3 @@ parts-stored s held l taken long serial there =
 pub held-put : (l held : List ℕ) → length l ≡ 108 → length held ≡ 64 → take 64 (drop 36 (putMid 36 64 l held)) ≡ held
 held-put l held long many =
     rw (drop-at (take 36 l) (held ++ drop 64 (drop 36 l)) 36 (length-take-le 36 l (omega arith))) (take-at held (drop 64 (drop 36 l)) 64 many)
-
--- how many were taken, in two words
-pub taken-words : (l : List ℕ) → length l ≡ 108 → field 100 4 l + 4294967296 * field 104 4 l ≡ field 100 8 l
-taken-words l long =
-    omega (
-      arith,
-      field-step l 100 7 (omega arith),
-      field-step l 101 6 (omega arith),
-      field-step l 102 5 (omega arith),
-      field-step l 103 4 (omega arith),
-      field-step l 100 3 (omega arith),
-      field-step l 101 2 (omega arith),
-      field-step l 102 1 (omega arith),
-      field-step l 103 0 (omega arith),
-    )

@@ -21,12 +21,15 @@ pub extern "C" fn skvornela_cut(
         ≡ sets (now (packet .entry)) 0 (packetOver (now (state .entry)) (now (samples .entry)) (length (now (packet .entry))))) ⌝ }
 {
     if state.len() == crate::states::LENGTH {
-        let cut = cutting::cut_packet(crate::states::station_in(state), samples, packet);
+        let settings = crate::states::settings_of(state);
+        let taken = crate::states::taken_of(state);
+        // the held bytes are looked at where they lie
+        let cut = cutting::cut_held(settings, &state[36..100], taken, samples, packet);
         *wrote = cut.wrote;
         // "Codes from 20 consume nothing and return the state given."
         if cut.code < codes::NO_ROOM {
-            let after = cut.station;
-            crate::states::put_station(state, after);
+            let after = cut.settings;
+            crate::states::put_parts(state, after, taken);
         }
         return cut.code;
     }

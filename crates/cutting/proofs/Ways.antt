@@ -85,3 +85,7 @@ cutting-keeps s samples room v =
     valid-both (withCount (s .settings .count + 1) (s .settings)) (s .store)
     (counted (s .settings) (valid-settings (s .settings) (s .store) v) (made s samples room e .below)) (valid-store (s .settings) (s .store) v))
     (λ n. v)
+
+-- what a box holds of a message cutting leaves alone
+pub cutting-holds : (s : Station) (samples : List ℤ) (room : ℕ) → cuttingOf s samples room .cut .station .store ≡ s .store
+cutting-holds s samples room = each-cut (λ (c : Cutting). c .cut .station .store ≡ s .store) s samples room (λ e. refl) (λ n. refl)

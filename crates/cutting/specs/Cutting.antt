@@ -18,6 +18,7 @@ use Rattle.items.specs.Settings.{withCount}
 use Rattle.station.specs.declared.Station.{Station}
 use Rattle.station.specs.Station.{valid}
 use Rattle.cutting.specs.declared.Cut.{Cut}
+use Rattle.cutting.specs.declared.CutHeld.{CutHeld}
 
 -- "Header, 16-bit packet number, then I and Q in turn": the packet of a form at a position
 abbrev pub packetOf : Form → ℕ → List ℤ → List ℕ
@@ -66,3 +67,7 @@ cutFrom s samples =
 unfoldable pub cuttingOf : Station → List ℤ → ℕ → Cutting
 cuttingOf s samples room =
     pick (eqb (cutCode s samples room) Code.done) (cutFrom s samples) (refused (cutCode s samples room) s)
+
+-- the same where the bytes held are lent: of the box there are left the settings
+abbrev pub partsOf : Cut → CutHeld
+partsOf c = record { code = c .code; wrote = c .wrote; settings = c .station .settings }

@@ -7,7 +7,9 @@ ghost use Rattle.packets.specs.Samples.{allSamples};
 ghost use Rattle.items.specs.Settings.{withCount};
 ghost use lib.Seq.{sets};
 ghost use Rattle.wire.specs.Codes as Code;
-ghost use Rattle.cutting.specs.Cutting.{cuttingOf, refused as refusedBy};
+ghost use Rattle.station.specs.Station.{boxOf};
+ghost use Rattle.cutting.specs.Cutting.{cuttingOf, partsOf};
+use items::Settings;
 use station::Station;
 use wire::codes;
 use wire::types;
@@ -19,6 +21,14 @@ pub struct Cut {
     pub station: Station,
 }
 
+// What one call of cutting did with a box whose held bytes were lent: the same, and of the box its settings. Of an
+// unfinished message cutting changes nothing.
+pub struct CutHeld {
+    pub code: u8,
+    pub wrote: usize,
+    pub settings: Settings,
+}
+
 // Cuts the next packet of a running capture from I and Q in turn: the packet of the box's mode and size, with the number of
 // its position. Where it refuses, the lent packet is as it was.
 pub fn cut_packet(s: Station, samples: &[i32], packet: &mut [u8]) -> Cut
@@ -27,27 +37,55 @@ pub fn cut_packet(s: Station, samples: &[i32], packet: &mut [u8]) -> Cut
       ⌜ (r ≡ cuttingOf s (now (samples .entry)) room .cut)
           × (now (packet .exit) ≡ sets (now (packet .entry)) 0 (cuttingOf s (now (samples .entry)) room .bytes)) ⌝ }
 {
-    if !station::is_valid(s) {
-        return refused(codes::BROKEN, s);
-    }
     let settings = s.settings;
+    let store = s.store;
+    let held = store.held;
+    let cut = cut_held(settings, &held, store.taken, samples, packet);
+    let after = cut.settings;
+    let station = Station {
+        settings: after,
+        store: store,
+    };
+    Cut {
+        code: cut.code,
+        wrote: cut.wrote,
+        station: station,
+    }
+}
+
+// The same of a box whose held bytes are lent, with its other parts by value, so that a call copies no box.
+pub fn cut_held(
+    settings: Settings,
+    held: &[u8],
+    taken: usize,
+    samples: &[i32],
+    packet: &mut [u8],
+) -> CutHeld
+    ensures { λ r. do
+      room ← ⟦packet.len()⟧ .entry
+      ⌜ (r ≡ partsOf (cuttingOf (boxOf settings (now (held .entry)) taken) (now (samples .entry)) room .cut))
+          × (now (packet .exit) ≡ sets (now (packet .entry)) 0 (cuttingOf (boxOf settings (now (held .entry)) taken) (now (samples .entry)) room .bytes)) ⌝ }
+{
+    if !station::is_sound(settings, held, taken) {
+        return refused(codes::BROKEN, settings);
+    }
     if !settings.running {
-        return refused(codes::WHILE_IDLE, s);
+        return refused(codes::WHILE_IDLE, settings);
     }
     let count = settings.count;
     if packets::MOST <= count {
-        return refused(codes::CAPTURE_FULL, s);
+        return refused(codes::CAPTURE_FULL, settings);
     }
     let form = packets::form_for(settings.mode, settings.size);
     if samples.len() as u64 != 2 * form.pairs {
-        return refused(codes::WRONG_COUNT, s);
+        return refused(codes::WRONG_COUNT, settings);
     }
     let total = packets::total_of(form);
     if (packet.len() as u64) < total {
-        return too_short(s, samples);
+        return too_short(settings, samples);
     }
     if !samples::pack(form, samples, packet) {
-        return refused(codes::NOT_A_SAMPLE, s);
+        return refused(codes::NOT_A_SAMPLE, settings);
     }
     wire::put(
         packet,
@@ -56,47 +94,40 @@ pub fn cut_packet(s: Station, samples: &[i32], packet: &mut [u8]) -> Cut
         wire::header_of(types::DATA, total as u16) as u64,
     );
     wire::put(packet, 2, 2, packets::number_at_position(count) as u64);
-    counted(s, total as usize)
+    counted(settings, total as usize)
 }
 
 // "Codes from 20 consume nothing and return the state given."
-fn refused(code: u8, s: Station) -> Cut
-    ensures { λ r. ⌜ r ≡ refusedBy code s .cut ⌝ }
+fn refused(code: u8, settings: Settings) -> CutHeld
+    ensures { λ r. ⌜ r ≡ record { code = code; wrote = 0; settings = settings } ⌝ }
 {
-    Cut {
+    CutHeld {
         code: code,
         wrote: 0,
-        station: s,
+        settings: settings,
     }
 }
 
 // No room for the packet: a sample outside 24 bits (24) is looked for before that (20).
-fn too_short(s: Station, samples: &[i32]) -> Cut
-    ensures { λ r. ⌜ r ≡ refusedBy (pick (allSamples (now (samples .entry))) Code.noRoom Code.notASample) s .cut ⌝ }
+fn too_short(settings: Settings, samples: &[i32]) -> CutHeld
+    ensures { λ r. ⌜ r ≡ record { code = pick (allSamples (now (samples .entry))) Code.noRoom Code.notASample; wrote = 0; settings = settings } ⌝ }
 {
     if samples::all_fit(samples) {
-        return refused(codes::NO_ROOM, s);
+        return refused(codes::NO_ROOM, settings);
     }
-    refused(codes::NOT_A_SAMPLE, s)
+    refused(codes::NOT_A_SAMPLE, settings)
 }
 
-// The box with one packet more.
-fn counted(s: Station, wrote: usize) -> Cut
-    requires { ⌜ s .settings .count < most ⌝ }
-    ensures { λ r.
-        ⌜ r
-        ≡ record { code = Code.done; wrote = wrote; station = record { settings = withCount (s .settings .count + 1) (s .settings); store = s .store } } ⌝ }
+// The settings with one packet more.
+fn counted(settings: Settings, wrote: usize) -> CutHeld
+    requires { ⌜ settings .count < most ⌝ }
+    ensures { λ r. ⌜ r ≡ record { code = Code.done; wrote = wrote; settings = withCount (settings .count + 1) settings } ⌝ }
 {
-    let mut settings = s.settings;
-    settings.count = settings.count + 1;
-    let store = s.store;
-    let station = Station {
-        settings: settings,
-        store: store,
-    };
-    Cut {
+    let mut after = settings;
+    after.count = after.count + 1;
+    CutHeld {
         code: codes::DONE,
         wrote: wrote,
-        station: station,
+        settings: after,
     }
 }

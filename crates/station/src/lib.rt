@@ -72,7 +72,7 @@ pub fn is_valid(s: Station) -> bool
 }
 
 // The same of a box in parts.
-pub(crate) fn is_sound(settings: Settings, held: &[u8], taken: usize) -> bool
+pub fn is_sound(settings: Settings, held: &[u8], taken: usize) -> bool
     ensures { λ r. ⌜ r ≡ valid (boxOf settings (now (held .entry)) taken) ⌝ }
 {
     if !items::in_range(settings) {

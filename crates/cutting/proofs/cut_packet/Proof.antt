@@ -1,283 +1,40 @@
--- `cutting::cut_packet` meets its contract: each refusal by its code, and else the packet at the count's position, stored samples first.
+-- `cutting::cut_packet` meets its contract: the box is lent in parts, and put together again.
 -- Assumes nothing.
-use Rattle.cutting.specs.Cutting.{packetOf}
-use lib.Seq.{sets}
-use Rattle.packets.specs.Samples.{allSamples}
-use Prim.Native.Nat.{ℕ, _*_, _≤_}
-use native.Mathlib.Omega.{arith}
-use mathlib.Core.Path.{_≡_, refl, sym, ap, _∙_}
-use mathlib.Core.Bool.{true, false}
-use mathlib.Core.List.{List}
-use lib.IntN.{ℤ}
-use borrow.Author.Tests.{not-true, not-false}
-use lib.ListN.{length}
+use mathlib.Core.Path.{_≡_, refl}
 use denote.Ref.{now}
-use Rattle.packets.specs.declared.Form.{Form}
-use Rattle.packets.specs.Forms.{listed, totalOf}
-use Rattle.packets.proofs.Forms.{is-listed-form}
-use Rattle.station.specs.Station.{valid}
-use Rattle.station.specs.declared.Station.{Station}
-use Rattle.cutting.specs.Cutting.{formNow}
-use Rattle.cutting.proofs.Codes.{refuses-short, code-21, code-22, code-25, code-23, code-24, code-1, refuses, cuts}
-use Rattle.cutting.proofs.Formed.{valid-form}
-use Rattle.cutting.proofs.Packing.{may-pack, packed-none, packet-stored}
+use lib.ListN.{length}
+use Rattle.framing.specs.declared.Store.{Store}
+use Rattle.cutting.specs.declared.Cut.{Cut}
+use Rattle.cutting.specs.declared.CutHeld.{CutHeld}
+use Rattle.cutting.specs.Cutting.{cuttingOf, partsOf}
+use Rattle.cutting.proofs.Ways.{cutting-holds}
 use borrow.Author.Needs.{needs}
 use Rattle.cutting.proofs.cut_packet.Statement.{statement}
 use Rattle.cutting.proofs.cut_packet.Tie as tie
 
--- ---- what is known after each test, and the call's box, samples and room as they are called there
+-- what a call returns, from its parts
+together : (made : Cut) (r : CutHeld) (store : Store) → r ≡ partsOf made → made .station .store ≡ store
+    → record { code = r .code; wrote = r .wrote; station = record { settings = r .settings; store = store } } ≡ made
+together made r store told kept = rw (told, ← kept) refl
 
-valid-at : (c : tie.Else1) → valid (c .before .before .before .args .s) ≡ true
-valid-at c = sym (c .before .is-valid .ensures) ∙ not-false _ (c .if1 .left)
+slice-aggregate-cut-held : tie.Need-slice-aggregate-cut-held
+slice-aggregate-cut-held c = search needs
 
--- the box runs
-abbrev sound : tie.Else2 → tie.Else1
-sound c = c .before .before .before
-
-running-at : (c : tie.Else2) → sound c .before .before .before .args .s .settings .running ≡ true
-running-at c = not-false _ (c .if2 .left)
-
--- its capture is not full, and its form is known
-abbrev unfull : tie.After-form-for → tie.Else3
-unfull c = c .before
-
-abbrev running : tie.After-form-for → tie.Else2
-running c = unfull c .before
-
-abbrev start : tie.After-form-for → tie.Start
-start c = sound (running c) .before .before .before
-
-abbrev box : tie.After-form-for → Station
-box c = start c .args .s
-
-abbrev given : tie.After-form-for → List ℤ
-given c = now (start c .args .samples)
-
-abbrev room : tie.After-form-for → ℕ
-room c = length (now (start c .args .packet))
-
-abbrev form : tie.After-form-for → Form
-form c = c .form-for .result
-
-form-at : (c : tie.After-form-for) → form c ≡ formNow (box c .settings)
-form-at c = c .form-for .ensures
-
-listed-at : (c : tie.After-form-for) → listed (form c) ≡ true
-listed-at c = rw (form-at c) (valid-form (box c) (valid-at (sound (running c))))
-
--- there are as many samples as it has
-abbrev formed : tie.Else4 → tie.After-form-for
-formed c = c .before .before
-
-many-at : (c : tie.Else4) → length (given (formed c)) ≡ 2 * form (formed c) .pairs
-many-at c = c .if4 .left
-
-count-at : (c : tie.Else4) → length (given (formed c)) ≡ 2 * formNow (box (formed c) .settings) .pairs
-count-at c = many-at c ∙ ap (λ (f : Form). 2 * f .pairs) (form-at (formed c))
-
--- its packet's length is known, and there is room for it
-abbrev counted : tie.After-total-of → tie.Else4
-counted c = c .before
-
-total-at : (c : tie.After-total-of) → c .total-of .result ≡ totalOf (form (formed (counted c)))
-total-at c = c .total-of .ensures ∙ rw (listed-at (formed (counted c)))
-
-abbrev totalled : tie.After-pack → tie.After-total-of
-totalled c = c .before .before .before
-
-fits-at : (c : tie.After-pack) → totalOf (form (formed (counted (totalled c)))) ≤ room (formed (counted (totalled c)))
-fits-at c = rw (total-at (totalled c)) at (c .before .before .if5 .left)
-
--- packing tells whether each sample has 24 bits
-packs-at : (c : tie.After-pack) → c .pack .result ≡ allSamples (given (formed (counted (totalled c))))
-packs-at c =
-    let f = formed (counted (totalled c)) in
-    c .pack .ensures .0 ∙ may-pack (form f) (given f) (room f) (listed-at f) (many-at (counted (totalled c))) (fits-at c)
-
-is-valid-requires : tie.Need-is-valid-requires
-is-valid-requires c κs = search needs
-
-refused-requires : tie.Need-refused-requires
-refused-requires c κs = search needs
-
-returns : tie.Need-returns
-returns c =
-    let a = c .before .before .before .before .args in
-    let n = length (now (a .packet)) in
-    rw (c .refused .ensures, ← refuses (a .s) (now (a .samples)) n 21 (code-21 (a .s) (now (a .samples)) n (sym (c .before .before .is-valid .ensures) ∙ not-true _ (c .before .if1 .taken))) (λ e. omega arith)) (refl, refl)
-
-refused-requires-2 : tie.Need-refused-requires-2
-refused-requires-2 c κs = search needs
-
-returns-2 : tie.Need-returns-2
-returns-2 c =
-    let s = c .before .before .before .before in
-    let a = s .before .before .before .args in
-    let n = length (now (a .packet)) in
-    rw (c .refused2 .ensures, ← refuses (a .s) (now (a .samples)) n 22 (code-22 (a .s) (now (a .samples)) n (valid-at s) (not-true _ (c .before .if2 .taken))) (λ e. omega arith)) (refl, refl)
-
-refused-requires-3 : tie.Need-refused-requires-3
-refused-requires-3 c κs = search needs
-
-returns-3 : tie.Need-returns-3
-returns-3 c =
-    let r = c .before .before in
-    let s = sound r in
-    let a = s .before .before .before .args in
-    let n = length (now (a .packet)) in
-    rw (c .refused3 .ensures, ← refuses (a .s) (now (a .samples)) n 25 (code-25 (a .s) (now (a .samples)) n (valid-at s) (running-at r) (c .before .if3 .taken)) (λ e. omega arith)) (refl, refl)
-
-form-for-requires : tie.Need-form-for-requires
-form-for-requires c κs = search needs
-
-mul-if4 : tie.Need-mul-if4
-mul-if4 c = record { fits = omega (arith, is-listed-form (form (c .before)) (listed-at (c .before)) .few) }
-
-refused-requires-4 : tie.Need-refused-requires-4
-refused-requires-4 c κs = search needs
-
-returns-4 : tie.Need-returns-4
-returns-4 c =
-    let f = c .before .before .before in
-    let other : length (given f) ≡ 2 * formNow (box f .settings) .pairs → ⊥ =
-    λ e. c .before .if4 .taken (e ∙ ap (λ (g : Form). 2 * g .pairs) (sym (form-at f))) in
-    rw (
-      c .refused4 .ensures,
-      ← refuses (box f) (given f) (room f) 23
-          (code-23 (box f) (given f) (room f) (valid-at (sound (running f))) (running-at (running f)) (unfull f .if3 .left) other) (λ e. omega arith),
-    ) (refl, refl)
-
-total-of-requires : tie.Need-total-of-requires
-total-of-requires c κs = search needs
-
-too-short-requires : tie.Need-too-short-requires
-too-short-requires c κs = search needs
-
-returns-5 : tie.Need-returns-5
-returns-5 c =
-    let t = c .before .before in
-    let f = formed (counted t) in
-    let total : t .total-of .result ≡ totalOf (formNow (box f .settings)) = total-at t ∙ ap totalOf (form-at f) in
-    rw (
-      c .too-short .ensures,
-      ← refuses-short (box f) (given f) (room f)
-          (valid-at (sound (running f))) (running-at (running f)) (unfull f .if3 .left) (count-at (counted t)) (rw total at (c .before .if5 .taken)),
-    ) (refl, refl)
-
-pack-requires : tie.Need-pack-requires
-pack-requires c κs = search needs
-
-refused-requires-5 : tie.Need-refused-requires-5
-refused-requires-5 c κs = search needs
+cut-held-requires : tie.Need-cut-held-requires
+cut-held-requires c κs = search needs
 
 same-length : tie.Need-same-length
 same-length c = search needs
 
-returns-6 : tie.Need-returns-6
-returns-6 c =
-    let p = c .before .before .before .before in
-    let n = counted (totalled p) in
-    let f = formed n in
-    let bad : allSamples (given f) ≡ false = sym (packs-at p) ∙ not-true _ (c .before .if6 .taken) in
-    rw (
-      c .refused5 .ensures,
-      ← refuses (box f) (given f) (room f) 24
-          (code-24 (box f) (given f) (room f) (valid-at (sound (running f))) (running-at (running f)) (unfull f .if3 .left) (count-at n) bad) (λ e. omega arith),
-    )
-    (refl, p .pack .ensures .1 ∙ ap (sets (now (start f .args .packet)) 4) (packed-none (form f) (given f) (room f) (listed-at f) (many-at n) (fits-at p) bad))
-
-cast-header-of : tie.Need-cast-header-of
-cast-header-of c =
-    let t = totalled (c .before .before .before .before) in
-    let f = formed (counted t) in
-    record { fits = omega (arith, total-at t, is-listed-form (form f) (listed-at f) .short) }
-
-header-of-requires : tie.Need-header-of-requires
-header-of-requires c κs = search needs
-
-cast-put : tie.Need-cast-put
-cast-put c = search needs
-
-put-requires : tie.Need-put-requires
-put-requires c κs = search needs
-
-number-at-position-requires : tie.Need-number-at-position-requires
-number-at-position-requires c κs = search needs
-
-cast-put-2 : tie.Need-cast-put-2
-cast-put-2 c = search needs
-
-put-requires-2 : tie.Need-put-requires-2
-put-requires-2 c κs = search needs
-
-counted-requires : tie.Need-counted-requires
-counted-requires c κs = search needs
-
-same-length-2 : tie.Need-same-length-2
-same-length-2 c = search needs
-
-returns-7 : tie.Need-returns-7
-returns-7 c =
-    -- the places on the way here, from the last call back to the start
-    let put2 = c .before .before .before in
-    let numbered = put2 .before in
-    let put = numbered .before .before .before .before in
-    let headed = put .before in
-    let good6 = headed .before .before in
-    let packed = good6 .before .before .before in
-    let totalled = packed .before .before .before in
-    let counted = totalled .before in
-    let formed = counted .before .before in
-    let unfull = formed .before in
-    let running = unfull .before in
-    let sound = running .before .before .before in
-    let a = sound .before .before .before .args in
-    let f = formed .form-for .result in
-    let n = length (now (a .packet)) in
-    let form : f ≡ formNow (a .s .settings) = form-at formed in
-    let fits : totalOf f ≤ n = fits-at packed in
-    let good : allSamples (now (a .samples)) ≡ true = sym (packs-at packed) ∙ not-false _ (good6 .if6 .left) in
-    rw (
-      c .counted .ensures,
-      ← cuts (a .s) (now (a .samples)) n
-          (code-1 (a .s) (now (a .samples)) n (valid-at sound) (running-at running) (unfull .if3 .left) (count-at counted) good (rw form at fits)),
-    ) (
-      rw (total-at totalled, form),
-      packet-stored f (now (a .samples)) n (listed-at formed) (many-at counted) fits (now (a .packet)) _ _ _ (a .s .settings .count) (totalled .total-of .result)
-          (headed .header-of .result) (numbered .number-at-position .result) good (total-at totalled) (headed .header-of .ensures) (numbered .number-at-position .ensures) (packed .pack .ensures .1)
-          (put .put .ensures) (put2 .put2 .ensures)
-          ∙ ap (λ (g : Form). sets (now (a .packet)) 0 (packetOf g (a .s .settings .count) (now (a .samples)))) form,
+returns : tie.Need-returns
+returns c =
+    let r = c .before .before .before in
+    let a = r .before .before .before .before .before .before .before .args in
+    let n = length (now (a .packet)) in (
+      together (cuttingOf (a .s) (now (a .samples)) n .cut) (r .cut-held .result) (a .s .store) (r .cut-held .ensures .0) (cutting-holds (a .s) (now (a .samples)) n),
+      r .cut-held .ensures .1,
     )
 
 pub cut-packet-spec : {M : Type 1} → statement M
 cut-packet-spec =
-    tie.close
-    (tie.spec
-    is-valid-requires
-    refused-requires
-    returns
-    refused-requires-2
-    returns-2
-    refused-requires-3
-    returns-3
-    form-for-requires
-    mul-if4
-    refused-requires-4
-    returns-4
-    total-of-requires
-    too-short-requires
-    returns-5
-    pack-requires
-    refused-requires-5
-    same-length
-    returns-6
-    cast-header-of
-    header-of-requires
-    cast-put
-    put-requires
-    number-at-position-requires
-    cast-put-2
-    put-requires-2
-    counted-requires
-    same-length-2
-    returns-7)
+    tie.close (tie.spec slice-aggregate-cut-held cut-held-requires same-length returns)

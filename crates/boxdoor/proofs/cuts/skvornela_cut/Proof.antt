@@ -1,18 +1,57 @@
--- The box's bytes are read, the packet is cut, and the box written back where the call was not refused.
-use borrow.Author.Tests.{lt-ltb, le-ltb}
-use Rattle.boxdoor.proofs.CutOver.{cut-whole, packet-whole, cut-broken, packet-broken}
+-- The box's held bytes are lent where they lie, the packet is cut, and the rest written back where the call was not refused.
+use denote.Ref.{now}
+use lib.ListN.{length}
+use Rattle.boxdoor.proofs.CutOver.{Lent, cut-done, cut-refused, packet-whole, cut-broken, packet-broken}
 use borrow.Author.Needs.{needs}
 use Rattle.boxdoor.proofs.cuts.skvornela_cut.Statement.{statement}
 use Rattle.boxdoor.proofs.cuts.skvornela_cut.Tie as tie
 
-station-in-requires : tie.Need-station-in-requires
-station-in-requires c κs = search needs
+-- the calls on the way, and the start
+abbrev count : tie.After-cut-held → tie.After-taken-of
+count k = k .before .before .before .before
 
-cut-packet-requires : tie.Need-cut-packet-requires
-cut-packet-requires c κs = search needs
+abbrev settings : tie.After-cut-held → tie.After-settings-of
+settings k = count k .before .before
 
-put-station-requires : tie.Need-put-station-requires
-put-station-requires c κs = search needs
+abbrev whole : tie.After-cut-held → tie.Then1
+whole k = settings k .before .before
+
+abbrev start : tie.After-cut-held → tie.Start
+start k = whole k .before .before .before
+
+-- what was read, and what came back
+lent : (k : tie.After-cut-held) → Lent (now (start k .args .state)) (now (start k .args .samples)) (length (now (start k .args .packet)))
+lent k =
+    record {
+      settings = settings k .settings-of .result;
+      taken = count k .taken-of .result;
+      back = k .cut-held .result;
+      long = whole k .if1 .taken;
+      read = settings k .settings-of .ensures;
+      had = count k .taken-of .ensures;
+      told = k .cut-held .ensures .0;
+    }
+
+settings-of-requires : tie.Need-settings-of-requires
+settings-of-requires c κs = search needs
+
+taken-of-requires : tie.Need-taken-of-requires
+taken-of-requires c κs = search needs
+
+sub-cut-held : tie.Need-sub-cut-held
+sub-cut-held c = search needs
+
+part-cut-held-start : tie.Need-part-cut-held-start
+part-cut-held-start c = search needs
+
+part-cut-held-end : tie.Need-part-cut-held-end
+part-cut-held-end c = search needs
+
+cut-held-requires : tie.Need-cut-held-requires
+cut-held-requires c κs = search needs
+
+put-parts-requires : tie.Need-put-parts-requires
+put-parts-requires c κs = search needs
 
 same-length : tie.Need-same-length
 same-length c = search needs
@@ -21,14 +60,15 @@ same-length-2 : tie.Need-same-length-2
 same-length-2 c = search needs
 
 returns : tie.Need-returns
+unfolding lent
 returns c =
     let written = c .before .before in
     let good = written .before .before .before in
-    let cut = good .before .before .before .before in
-    let station = cut .before .before in
-    let whole = station .before .before in
-    let a = whole .before .before .before .args in
-    (cut-whole (a .state .now) _ _ _ _ _ (whole .if1 .taken) (station .station-in .ensures) (cut .cut-packet .ensures .0) (rw (lt-ltb _ 20 (good .if2 .taken)) (written .put-station .ensures)), packet-whole (a .state .now) (a .packet .now) _ _ _ _ (whole .if1 .taken) (station .station-in .ensures) (cut .cut-packet .ensures .1))
+    let k = good .before .before .before .before in
+    let a = start k .args in (
+      cut-done (now (a .state)) (now (a .samples)) (length (now (a .packet))) (lent k) _ (good .if2 .taken) (written .put-parts .ensures),
+      packet-whole (now (a .state)) (now (a .samples)) (length (now (a .packet))) (lent k) (now (a .packet)) _ (k .cut-held .ensures .1),
+    )
 
 same-length-3 : tie.Need-same-length-3
 same-length-3 c = search needs
@@ -37,12 +77,13 @@ same-length-4 : tie.Need-same-length-4
 same-length-4 c = search needs
 
 returns-2 : tie.Need-returns-2
+unfolding lent
 returns-2 c =
-    let cut = c .before .before .before .before in
-    let station = cut .before .before in
-    let whole = station .before .before in
-    let a = whole .before .before .before .args in
-    (cut-whole (a .state .now) _ _ _ _ _ (whole .if1 .taken) (station .station-in .ensures) (cut .cut-packet .ensures .0) (rw (le-ltb _ 20 (c .if2 .left))), packet-whole (a .state .now) (a .packet .now) _ _ _ _ (whole .if1 .taken) (station .station-in .ensures) (cut .cut-packet .ensures .1))
+    let k = c .before .before .before .before in
+    let a = start k .args in (
+      cut-refused (now (a .state)) (now (a .samples)) (length (now (a .packet))) (lent k) (c .if2 .left),
+      packet-whole (now (a .state)) (now (a .samples)) (length (now (a .packet))) (lent k) (now (a .packet)) _ (k .cut-held .ensures .1),
+    )
 
 returns-3 : tie.Need-returns-3
 returns-3 c = (cut-broken _ _ _ (c .if1 .left), packet-broken _ _ _ _ (c .if1 .left))
@@ -51,9 +92,13 @@ pub skvornela-cut-spec : {M : Type 1} → statement M
 skvornela-cut-spec =
     tie.close
     (tie.spec
-    station-in-requires
-    cut-packet-requires
-    put-station-requires
+    settings-of-requires
+    taken-of-requires
+    sub-cut-held
+    part-cut-held-start
+    part-cut-held-end
+    cut-held-requires
+    put-parts-requires
     same-length
     same-length-2
     returns

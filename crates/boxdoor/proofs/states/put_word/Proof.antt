@@ -1,0 +1,65 @@
+-- `boxdoor::states::put_word` meets its contract: four bytes, one behind the other.
+use native.Mathlib.Omega.{arith}
+use denote.Ref.{now}
+use lib.ListN.{length-set}
+use Rattle.boxdoor.proofs.Fields.{word-put}
+use borrow.Author.Needs.{needs}
+use Rattle.boxdoor.proofs.states.put_word.Statement.{statement}
+use Rattle.boxdoor.proofs.states.put_word.Tie as tie
+
+cast-b : tie.Need-cast-b
+cast-b c = search needs
+
+slice-write-b : tie.Need-slice-write-b
+slice-write-b c = search needs
+
+cast-b-2 : tie.Need-cast-b-2
+cast-b-2 c = search needs
+
+add-b : tie.Need-add-b
+add-b c = search needs
+
+slice-write-b-2 : tie.Need-slice-write-b-2
+slice-write-b-2 c = simp length-set (omega (arith, c .pre))
+
+cast-b-3 : tie.Need-cast-b-3
+cast-b-3 c = search needs
+
+add-b-2 : tie.Need-add-b-2
+add-b-2 c = search needs
+
+slice-write-b-3 : tie.Need-slice-write-b-3
+slice-write-b-3 c = simp length-set (omega (arith, c .pre))
+
+cast-b-4 : tie.Need-cast-b-4
+cast-b-4 c = search needs
+
+add-b-3 : tie.Need-add-b-3
+add-b-3 c = search needs
+
+slice-write-b-4 : tie.Need-slice-write-b-4
+slice-write-b-4 c = simp length-set (omega (arith, c .pre))
+
+same-length : tie.Need-same-length
+same-length c = search needs
+
+returns : tie.Need-returns
+returns c = word-put (now (c .args .b)) (c .args .at) (c .args .v)
+
+pub put-word-spec : {M : Type 1} → statement M
+put-word-spec =
+    tie.close
+    (tie.spec
+    cast-b
+    slice-write-b
+    cast-b-2
+    add-b
+    slice-write-b-2
+    cast-b-3
+    add-b-2
+    slice-write-b-3
+    cast-b-4
+    add-b-3
+    slice-write-b-4
+    same-length
+    returns)
