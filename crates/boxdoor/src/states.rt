@@ -20,10 +20,10 @@ pub(crate) fn settings_of(b: &[u8]) -> Settings
     let mut serial = [0u8; 8];
     wire::copy(&b[28..36], &mut serial, 0);
     Settings {
-        frequency: two_words(b, 0),
-        count: two_words(b, 8),
-        clock: word(b, 16) as u32,
-        divisor: word(b, 20) as u32,
+        frequency: wire::number_at(b, 0, 8),
+        count: wire::number_at(b, 8, 8),
+        clock: wire::number_at(b, 16, 4) as u32,
+        divisor: wire::number_at(b, 20, 4) as u32,
         running: b[24] != 0,
         mode: b[25],
         gain: b[26],
@@ -37,30 +37,7 @@ pub(crate) fn taken_of(b: &[u8]) -> usize
     requires { ⌜ length (now b) ≡ 108 ⌝ }
     ensures { λ r. ⌜ r ≡ field 100 8 (now (b .entry)) ⌝ }
 {
-    two_words(b, 100) as usize
-}
-
-// The number in eight bytes at a place: two words, each read at once.
-fn two_words(b: &[u8], at: usize) -> u64
-    requires { ⌜ at + 8 ≤ length (now b) ⌝ }
-    ensures { λ r. ⌜ r ≡ field at 8 (now (b .entry)) ⌝ }
-{
-    word(b, at) + 4_294_967_296 * word(b, at + 4)
-}
-
-// The number in four bytes at a place: bytes side by side in one sum are one read of the processor's.
-fn word(b: &[u8], at: usize) -> u64
-    requires { ⌜ at + 4 ≤ length (now b) ⌝ }
-    ensures { λ r. ⌜ (r ≡ field at 4 (now (b .entry))) × (r < 4294967296) ⌝ }
-{
-    wide(b[at]) + 256 * wide(b[at + 1]) + 65536 * wide(b[at + 2]) + 16777216 * wide(b[at + 3])
-}
-
-// A byte as a part of a word.
-fn wide(b: u8) -> u64
-    ensures { λ r. ⌜ (r ≡ b) × (r ≤ 255) ⌝ }
-{
-    b as u64
+    wire::number_at(b, 100, 8) as usize
 }
 
 // The box in 108 bytes.
@@ -80,35 +57,15 @@ pub(crate) fn station_in(b: &[u8]) -> Station
     }
 }
 
-// Stores a number in eight bytes at a place.
-fn put_two_words(b: &mut [u8], at: usize, v: u64)
-    requires { ⌜ at + 8 ≤ length (now b) ⌝ }
-    ensures { λ _. ⌜ now (b .exit) ≡ sets (now (b .entry)) at (bytes 8 v) ⌝ }
-{
-    put_word(b, at, v);
-    put_word(b, at + 4, v / 4_294_967_296);
-}
-
-// Stores a number in four bytes at a place: stores side by side are one store of the processor's.
-fn put_word(b: &mut [u8], at: usize, v: u64)
-    requires { ⌜ at + 4 ≤ length (now b) ⌝ }
-    ensures { λ _. ⌜ now (b .exit) ≡ sets (now (b .entry)) at (bytes 4 v) ⌝ }
-{
-    b[at] = (v % 256) as u8;
-    b[at + 1] = (v / 256 % 256) as u8;
-    b[at + 2] = (v / 65536 % 256) as u8;
-    b[at + 3] = (v / 16777216 % 256) as u8;
-}
-
 // Stores the wide numbers among the settings in the first 24 bytes.
 fn put_wide(b: &mut [u8], s: Settings)
     requires { ⌜ length (now b) ≡ 108 ⌝ }
     ensures { λ _. ⌜ now (b .exit) ≡ sets (now (b .entry)) 0 (wideOf s) ⌝ }
 {
-    put_two_words(b, 0, s.frequency);
-    put_two_words(b, 8, s.count);
-    put_word(b, 16, s.clock as u64);
-    put_word(b, 20, s.divisor as u64);
+    wire::put(b, 0, 8, s.frequency);
+    wire::put(b, 8, 8, s.count);
+    wire::put(b, 16, 4, s.clock as u64);
+    wire::put(b, 20, 4, s.divisor as u64);
 }
 
 // Stores the numbers of one byte in the four bytes after them.
@@ -116,10 +73,10 @@ fn put_narrow(b: &mut [u8], s: Settings)
     requires { ⌜ length (now b) ≡ 108 ⌝ }
     ensures { λ _. ⌜ now (b .exit) ≡ sets (now (b .entry)) 24 (narrowOf s) ⌝ }
 {
-    b[24] = s.running as u8;
-    b[25] = s.mode;
-    b[26] = s.gain;
-    b[27] = s.size;
+    wire::put(b, 24, 1, s.running as u64);
+    wire::put(b, 25, 1, s.mode as u64);
+    wire::put(b, 26, 1, s.gain as u64);
+    wire::put(b, 27, 1, s.size as u64);
 }
 
 // Stores the settings in the first 36 bytes.
@@ -139,7 +96,7 @@ pub(crate) fn put_parts(b: &mut [u8], s: Settings, taken: usize)
     ensures { λ _. ⌜ now (b .exit) ≡ sets (sets (now (b .entry)) 0 (settingsBytes s)) 100 (bytes 8 taken) ⌝ }
 {
     put_settings(b, s);
-    put_two_words(b, 100, taken as u64);
+    wire::put(b, 100, 8, taken as u64);
 }
 
 // Stores a box in 108 bytes.

@@ -1,6 +1,7 @@
 pub mod Laws
 pub mod Stores
 pub mod Numbers
+pub mod Words
 pub mod Headers
 pub mod Signed
 pub mod Checks

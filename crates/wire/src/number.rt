@@ -2,13 +2,61 @@
 use crate::counts::left;
 use crate::counts::lesser;
 ghost use mathlib.Core.Path.{_≡_};
-ghost use Prim.Native.Nat.{min};
+ghost use Prim.Native.Nat.{_+_, _≤_, _<_, min};
+ghost use lib.ListN.{length};
 ghost use lib.Seq.{sets};
 ghost use Rattle.wire.specs.Number.{bytes, field};
 
 // The number in the n bytes at a place of a slice, of which at most eight are read. Bytes past the end of the slice are
 // not there, and count nothing.
 pub fn number_at(s: &[u8], at: usize, n: usize) -> u64
+    ensures { λ r. ⌜ r ≡ field at (min n 8) (now (s .entry)) ⌝ }
+{
+    if n == 8 {
+        return eight_at(s, at);
+    }
+    if n == 4 {
+        return four_at(s, at);
+    }
+    by_bytes(s, at, n)
+}
+
+// Eight bytes are two words, where they are all there.
+fn eight_at(s: &[u8], at: usize) -> u64
+    ensures { λ r. ⌜ r ≡ field at 8 (now (s .entry)) ⌝ }
+{
+    if left(s.len(), at) < 8 {
+        return by_bytes(s, at, 8);
+    }
+    word(s, at) + 4_294_967_296 * word(s, at + 4)
+}
+
+fn four_at(s: &[u8], at: usize) -> u64
+    ensures { λ r. ⌜ r ≡ field at 4 (now (s .entry)) ⌝ }
+{
+    if left(s.len(), at) < 4 {
+        return by_bytes(s, at, 4);
+    }
+    word(s, at)
+}
+
+// The number in four bytes at a place that the slice has: bytes side by side in one sum are one read of the processor's.
+fn word(s: &[u8], at: usize) -> u64
+    requires { ⌜ at + 4 ≤ length (now s) ⌝ }
+    ensures { λ r. ⌜ (r ≡ field at 4 (now (s .entry))) × (r < 4294967296) ⌝ }
+{
+    wide(s[at]) + 256 * wide(s[at + 1]) + 65536 * wide(s[at + 2]) + 16777216 * wide(s[at + 3])
+}
+
+// A byte as a part of a word.
+fn wide(b: u8) -> u64
+    ensures { λ r. ⌜ (r ≡ b) × (r ≤ 255) ⌝ }
+{
+    b as u64
+}
+
+// Any number of bytes, from the last one down.
+fn by_bytes(s: &[u8], at: usize, n: usize) -> u64
     ensures { λ r. ⌜ r ≡ field at (min n 8) (now (s .entry)) ⌝ }
 {
     let mut i = lesser(lesser(n, 8), left(s.len(), at));
@@ -22,7 +70,53 @@ pub fn number_at(s: &[u8], at: usize, n: usize) -> u64
 
 // Writes a number in n bytes at a place of a slice. What would lie past the end of the slice is not written.
 pub fn put(dst: &mut [u8], at: usize, n: usize, v: u64)
-    ensures { λ r. ⌜ now (dst .exit) ≡ sets (now (dst .entry)) at (bytes n v) ⌝ }
+    ensures { λ _. ⌜ now (dst .exit) ≡ sets (now (dst .entry)) at (bytes n v) ⌝ }
+{
+    if n == 8 {
+        put_eight(dst, at, v);
+    } else if n == 4 {
+        put_four(dst, at, v);
+    } else {
+        put_bytes(dst, at, n, v);
+    }
+}
+
+// Eight bytes are two words, where there is room for them all.
+fn put_eight(dst: &mut [u8], at: usize, v: u64)
+    ensures { λ _. ⌜ now (dst .exit) ≡ sets (now (dst .entry)) at (bytes 8 v) ⌝ }
+{
+    if left(dst.len(), at) < 8 {
+        put_bytes(dst, at, 8, v);
+    } else {
+        put_word(dst, at, v);
+        put_word(dst, at + 4, v / 4_294_967_296);
+    }
+}
+
+fn put_four(dst: &mut [u8], at: usize, v: u64)
+    ensures { λ _. ⌜ now (dst .exit) ≡ sets (now (dst .entry)) at (bytes 4 v) ⌝ }
+{
+    if left(dst.len(), at) < 4 {
+        put_bytes(dst, at, 4, v);
+    } else {
+        put_word(dst, at, v);
+    }
+}
+
+// Writes a number in four bytes at a place that the slice has: stores side by side are one of the processor's.
+fn put_word(dst: &mut [u8], at: usize, v: u64)
+    requires { ⌜ at + 4 ≤ length (now dst) ⌝ }
+    ensures { λ _. ⌜ now (dst .exit) ≡ sets (now (dst .entry)) at (bytes 4 v) ⌝ }
+{
+    dst[at] = (v % 256) as u8;
+    dst[at + 1] = (v / 256 % 256) as u8;
+    dst[at + 2] = (v / 65536 % 256) as u8;
+    dst[at + 3] = (v / 16777216 % 256) as u8;
+}
+
+// Any number of bytes, from the first one up.
+fn put_bytes(dst: &mut [u8], at: usize, n: usize, v: u64)
+    ensures { λ _. ⌜ now (dst .exit) ≡ sets (now (dst .entry)) at (bytes n v) ⌝ }
 {
     let fits = lesser(n, left(dst.len(), at));
     let mut rest = v;

@@ -1,49 +1,47 @@
--- `boxdoor::states::put_wide` meets its contract: four fields, one behind the other.
-use denote.Ref.{now}
+-- Four fields, one behind the other.
 use Rattle.boxdoor.proofs.Fields.{wide-stored}
 use borrow.Author.Needs.{needs}
 use Rattle.boxdoor.proofs.states.put_wide.Statement.{statement}
 use Rattle.boxdoor.proofs.states.put_wide.Tie as tie
 
-put-two-words-requires : tie.Need-put-two-words-requires
-put-two-words-requires c κs = search needs
+put-requires : tie.Need-put-requires
+put-requires c κs = search needs
 
-put-two-words-requires-2 : tie.Need-put-two-words-requires-2
-put-two-words-requires-2 c κs = search needs
+put-requires-2 : tie.Need-put-requires-2
+put-requires-2 c κs = search needs
 
-cast-put-word : tie.Need-cast-put-word
-cast-put-word c = search needs
+cast-put : tie.Need-cast-put
+cast-put c = search needs
 
-put-word-requires : tie.Need-put-word-requires
-put-word-requires c κs = search needs
+put-requires-3 : tie.Need-put-requires-3
+put-requires-3 c κs = search needs
 
-cast-put-word-2 : tie.Need-cast-put-word-2
-cast-put-word-2 c = search needs
+cast-put-2 : tie.Need-cast-put-2
+cast-put-2 c = search needs
 
-put-word-requires-2 : tie.Need-put-word-requires-2
-put-word-requires-2 c κs = search needs
+put-requires-4 : tie.Need-put-requires-4
+put-requires-4 c κs = search needs
 
 same-length : tie.Need-same-length
 same-length c = search needs
 
 returns : tie.Need-returns
 returns c =
-    let divisor = c .before .before in
-    let clock = divisor .before .before .before .before .before in
-    let count = clock .before .before .before .before .before in
-    let frequency = count .before .before .before .before in
-    let a = frequency .before .before .before .args in
-    wide-stored (a .s) (now (a .b)) _ _ _ _ (frequency .put-two-words .ensures) (count .put-two-words2 .ensures) (clock .put-word .ensures) (divisor .put-word2 .ensures)
+    let fourth = c .before .before in
+    let third = fourth .before .before .before .before .before in
+    let second = third .before .before .before .before .before in
+    let first = second .before .before .before .before in
+    wide-stored _ _ _ _ _ _ (first .put .ensures) (second .put2 .ensures) (third .put3 .ensures) (fourth .put4 .ensures)
 
 pub put-wide-spec : {M : Type 1} → statement M
 put-wide-spec =
     tie.close
     (tie.spec
-    put-two-words-requires
-    put-two-words-requires-2
-    cast-put-word
-    put-word-requires
-    cast-put-word-2
-    put-word-requires-2
+    put-requires
+    put-requires-2
+    cast-put
+    put-requires-3
+    cast-put-2
+    put-requires-4
     same-length
     returns)

@@ -1,6 +1,6 @@
 -- `samples::unpacking::word` meets its contract: a field of four bytes is their sum by powers of 256.
 use denote.Ref.{now}
-use Rattle.samples.proofs.Fields.{field-four}
+use Rattle.wire.proofs.Words.{field-four}
 use borrow.Author.Needs.{needs}
 use Rattle.samples.proofs.unpacking.word.Statement.{statement}
 use Rattle.samples.proofs.unpacking.word.Tie as tie

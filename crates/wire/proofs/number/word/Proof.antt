@@ -1,10 +1,10 @@
--- `boxdoor::states::word` meets its contract: a field of four bytes is their sum by powers of 256.
+-- `wire::number::word` meets its contract: a field of four bytes is their sum by powers of 256.
 use native.Mathlib.Omega.{arith}
 use denote.Ref.{now}
-use Rattle.samples.proofs.Fields.{field-four}
+use Rattle.wire.proofs.Words.{field-four}
 use borrow.Author.Needs.{needs}
-use Rattle.boxdoor.proofs.states.word.Statement.{statement}
-use Rattle.boxdoor.proofs.states.word.Tie as tie
+use Rattle.wire.proofs.number.word.Statement.{statement}
+use Rattle.wire.proofs.number.word.Tie as tie
 
 shared-slice-read-wide : tie.Need-shared-slice-read-wide
 shared-slice-read-wide c = search needs
@@ -62,7 +62,7 @@ returns c =
     let w = c .before .before .before .before .before .before in
     let a = w .before .before .before in (
       rw (w .wide .ensures .0, c .before .before .before .before .wide2 .ensures .0, c .before .before .wide3 .ensures .0, c .wide4 .ensures .0)
-          (field-four (now (a .args .b)) (a .args .at) (a .pre)),
+          (field-four (now (a .args .s)) (a .args .at) (a .pre)),
       omega arith,
     )
 
