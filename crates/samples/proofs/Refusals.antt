@@ -33,6 +33,10 @@ whole-blocks f l w =
     let none-left : eqb (f .pairs % 64) 0 ≡ true = rw w at (of-listed (λ g. eqb (g .bits) 24 || eqb (g .pairs % 64) 0) refl f l) in
     omega (arith, eqb-true (f .pairs % 64) 0 none-left)
 
+-- at 16 bits the pairs are 128 or twice as many
+pub whole-halves : (f : Form) → listed f ≡ true → f .bits ≡ 16 → f .pairs % 128 ≡ 0
+whole-halves f l w = eqb-true (f .pairs % 128) 0 (rw w at (of-listed (λ g. eqb (g .bits) 24 || eqb (g .pairs % 128) 0) refl f l))
+
 -- ---- packing
 
 module _ (f : Form) (zs : List ℤ) (l : List ℕ) where
