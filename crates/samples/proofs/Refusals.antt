@@ -27,11 +27,15 @@ pub room-for : (f : Form) (w n size : ℕ) → f .bits / 8 ≡ w → n ≡ 2 * f
 room-for f w n size is count room =
     rw (← is, count, mul-comm (f .bits / 8) (2 * f .pairs), mul-comm 2 (f .pairs)) room
 
--- at 16 bits the pairs are blocks of 64
-pub whole-blocks : (f : Form) → listed f ≡ true → f .bits ≡ 16 → 128 * (f .pairs / 64) ≡ 2 * f .pairs
+-- at 16 bits the pairs are blocks of 32
+pub whole-blocks : (f : Form) → listed f ≡ true → f .bits ≡ 16 → 64 * (f .pairs / 32) ≡ 2 * f .pairs
 whole-blocks f l w =
-    let none-left : eqb (f .pairs % 64) 0 ≡ true = rw w at (of-listed (λ g. eqb (g .bits) 24 || eqb (g .pairs % 64) 0) refl f l) in
-    omega (arith, eqb-true (f .pairs % 64) 0 none-left)
+    let none-left : eqb (f .pairs % 32) 0 ≡ true = rw w at (of-listed (λ g. eqb (g .bits) 24 || eqb (g .pairs % 32) 0) refl f l) in
+    omega (arith, eqb-true (f .pairs % 32) 0 none-left)
+
+-- at 16 bits the pairs are 128 or twice as many
+pub whole-halves : (f : Form) → listed f ≡ true → f .bits ≡ 16 → f .pairs % 128 ≡ 0
+whole-halves f l w = eqb-true (f .pairs % 128) 0 (rw w at (of-listed (λ g. eqb (g .bits) 24 || eqb (g .pairs % 128) 0) refl f l))
 
 -- ---- packing
 

@@ -6,7 +6,7 @@ use packets::Form;
 ghost use mathlib.Core.Path.{_≡_};
 ghost use mathlib.Core.Bool.{true};
 ghost use mathlib.Core.List.{[], _++_, map};
-ghost use Prim.Native.Nat.{_+_, _*_, _%_, _≤_};
+ghost use Prim.Native.Nat.{_+_, _*_, _%_, _≤_, _<_};
 ghost use lib.ListN.{length};
 ghost use lib.Seq.{sets};
 ghost use Rattle.wire.specs.Choice.{pick};
@@ -67,10 +67,10 @@ fn joined(code: u32, upper: u16) -> u32
     code % 256 + 256 * (upper as u32)
 }
 
-// Keeps of each number the 16 bits that would be sent, and tells whether all are samples. One loop does both, since it is
-// the reading of the samples that takes the time.
-fn narrow(samples: &[i32], held: &mut [u16]) -> bool
-    requires { ⌜ length (now samples) ≤ length (now held) ⌝ }
+// Keeps of each of n numbers the 16 bits that would be sent, and tells whether all are samples. One loop does both, since it
+// is the reading of the samples that takes the time.
+fn narrow(samples: &[i32], held: &mut [u16], n: usize) -> bool
+    requires { ⌜ (length (now samples) ≡ n) × (n ≤ length (now held)) ⌝ }
     ensures { λ r.
         ⌜ (r ≡ allSamples (now (samples .entry)))
         × (now (held .exit) ≡ sets (now (held .entry)) 0 (map (λ z. coded 32 (narrowed 16 z) % 65536) (now (samples .entry)))) ⌝ }
@@ -78,7 +78,7 @@ fn narrow(samples: &[i32], held: &mut [u16]) -> bool
     let mut least = 0;
     let mut greatest = 0;
     let mut i = 0;
-    while i < samples.len() {
+    while i < n {
         let x = samples[i];
         least = lesser(least, x);
         greatest = greater(greatest, x);
@@ -97,7 +97,7 @@ fn pack24_by(held: &mut [u16], samples: &[i32], packet: &mut [u8]) -> bool
         × (now (packet .exit)
         ≡ sets (now (packet .entry)) 4 (pick (allSamples (now (samples .entry))) (samplesBytes 24 (now (samples .entry))) [])) ⌝ }
 {
-    if !narrow(samples, held) {
+    if !narrow(samples, held, samples.len()) {
         return false;
     }
     let mut i = 0;
@@ -125,15 +125,14 @@ fn pack24(samples: &[i32], packet: &mut [u8]) -> bool
 }
 
 // Writes all samples in two bytes each, I and Q of a pair at once, unless one is outside 24 bits.
-fn pack16(samples: &[i32], packet: &mut [u8], pairs: usize) -> bool
-    requires { ⌜ (pairs ≤ 256) × (length (now samples) ≡ 2 * pairs) × (4 + 4 * pairs ≤ length (now packet)) ⌝ }
+fn pack16_by(held: &mut [u16], samples: &[i32], packet: &mut [u8], pairs: usize) -> bool
+    requires { ⌜ (length (now samples) ≡ 2 * pairs) × (2 * pairs ≤ length (now held)) × (4 + 4 * pairs ≤ length (now packet)) ⌝ }
     ensures { λ r.
         ⌜ (r ≡ allSamples (now (samples .entry)))
         × (now (packet .exit)
         ≡ sets (now (packet .entry)) 4 (pick (allSamples (now (samples .entry))) (samplesBytes 16 (now (samples .entry))) [])) ⌝ }
 {
-    let mut held = [0u16; 512];
-    if !narrow(samples, &mut held) {
+    if !narrow(samples, held, 2 * pairs) {
         return false;
     }
     let mut i = 0;
@@ -142,6 +141,23 @@ fn pack16(samples: &[i32], packet: &mut [u8], pairs: usize) -> bool
         i += 1;
     }
     true
+}
+
+// Lends it an array just as long as the samples need, since an array is cleared first, and tells it the pairs as a plain
+// number, so that the compiler knows how often its loops go round.
+fn pack16(samples: &[i32], packet: &mut [u8], pairs: usize) -> bool
+    requires { ⌜ (0 < pairs) × (pairs ≤ 256) × (pairs % 128 ≡ 0) × (length (now samples) ≡ 2 * pairs) × (4 + 4 * pairs ≤ length (now packet)) ⌝ }
+    ensures { λ r.
+        ⌜ (r ≡ allSamples (now (samples .entry)))
+        × (now (packet .exit)
+        ≡ sets (now (packet .entry)) 4 (pick (allSamples (now (samples .entry))) (samplesBytes 16 (now (samples .entry))) [])) ⌝ }
+{
+    if pairs == 256 {
+        let mut many = [0u16; 512];
+        return pack16_by(&mut many, samples, packet, 256);
+    }
+    let mut few = [0u16; 256];
+    pack16_by(&mut few, samples, packet, 128)
 }
 
 // Writes the sample bytes of a packet of a form after its four leading bytes. It refuses, and writes nothing, where the

@@ -52,26 +52,26 @@ fn unpack24(packet: &[u8], out: &mut [i32], n: usize)
     }
 }
 
-// Reads 64 pairs from the first on, eight in a round. The words of a round go by way of an array of 16-bit numbers: the
+// Reads 32 pairs from the first on, four in a round. The words of a round go by way of an array of 16-bit numbers: the
 // compiler makes a plain copy of the first inner loop, and reads the samples at once where they are written; no array is left.
 fn block16(packet: &[u8], out: &mut [i32], first: usize)
-    requires { ⌜ (4 + 4 * (first + 64) ≤ length (now packet)) × (2 * (first + 64) ≤ length (now out)) ⌝ }
+    requires { ⌜ (4 + 4 * (first + 32) ≤ length (now packet)) × (2 * (first + 32) ≤ length (now out)) ⌝ }
     ensures { λ r.
         ⌜ now (out .exit)
-        ≡ sets (now (out .entry)) (2 * first) (samplesFrom 16 (drop 4 (now (packet .entry))) (2 * first) (2 * (first + 64) - 2 * first)) ⌝ }
+        ≡ sets (now (out .entry)) (2 * first) (samplesFrom 16 (drop 4 (now (packet .entry))) (2 * first) (2 * (first + 32) - 2 * first)) ⌝ }
 {
-    let mut held = [0u16; 128];
+    let mut held = [0u16; 64];
     let mut round = 0;
     while round < 8 {
-        let mut i = 8 * round;
-        while i < 8 * round + 8 {
+        let mut i = 4 * round;
+        while i < 4 * round + 4 {
             let pair = word(packet, 4 + 4 * (first + i));
             held[2 * i] = (pair % 65536) as u16;
             held[2 * i + 1] = (pair / 65536) as u16;
             i += 1;
         }
-        let mut k = 16 * round;
-        while k < 16 * round + 16 {
+        let mut k = 8 * round;
+        while k < 8 * round + 8 {
             out[2 * first + k] = sign16(held[k]);
             k += 1;
         }
@@ -79,14 +79,14 @@ fn block16(packet: &[u8], out: &mut [i32], first: usize)
     }
 }
 
-// Reads blocks of 64 pairs.
+// Reads blocks of 32 pairs.
 fn unpack16(packet: &[u8], out: &mut [i32], blocks: usize)
-    requires { ⌜ (4 + 256 * blocks ≤ length (now packet)) × (128 * blocks ≤ length (now out)) ⌝ }
-    ensures { λ r. ⌜ now (out .exit) ≡ sets (now (out .entry)) 0 (samplesFrom 16 (drop 4 (now (packet .entry))) 0 (128 * blocks)) ⌝ }
+    requires { ⌜ (4 + 128 * blocks ≤ length (now packet)) × (64 * blocks ≤ length (now out)) ⌝ }
+    ensures { λ r. ⌜ now (out .exit) ≡ sets (now (out .entry)) 0 (samplesFrom 16 (drop 4 (now (packet .entry))) 0 (64 * blocks)) ⌝ }
 {
     let mut i = 0;
     while i < blocks {
-        block16(packet, out, 64 * i);
+        block16(packet, out, 32 * i);
         i += 1;
     }
 }
@@ -112,6 +112,6 @@ pub fn unpack(f: Form, packet: &[u8], out: &mut [i32]) -> bool
         unpack24(packet, out, 2 * pairs);
         return true;
     }
-    unpack16(packet, out, pairs / 64);
+    unpack16(packet, out, pairs / 32);
     true
 }

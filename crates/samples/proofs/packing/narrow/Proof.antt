@@ -1,6 +1,6 @@
 -- `samples::packing::narrow` meets its contract. The loop's invariant: the least and the greatest of those passed are as in
 -- `all_fit`, and what is still to be kept gives the whole.
-use Prim.Native.Nat.{_-_, _≤_}
+use Prim.Native.Nat.{_-_, _≤_, _<_}
 use mathlib.Core.Path.{_≡_, refl, _∙_}
 use mathlib.Core.Bool.{_&&_}
 use mathlib.Core.List.{map}
@@ -21,14 +21,14 @@ use Rattle.samples.proofs.packing.narrow.Statement.{statement}
 use Rattle.samples.proofs.packing.narrow.Tie as tie
 
 abbrev Inv-loop : tie.InvT-loop
-Inv-loop samples held₀ least₀ greatest₀ i₀ held least greatest i =
+Inv-loop samples held₀ n least₀ greatest₀ i₀ held least greatest i =
     (i ≤ length samples)
     × (length held ≡ length held₀)
     × (insideOf (toZ w32 least) (toZ w32 greatest) && allSamples (drop i samples) ≡ allSamples samples)
     × (sets held i (map lowOf (drop i samples)) ≡ sets held₀ 0 (map lowOf samples))
 
 abbrev μ-loop : tie.MeasureT-loop
-μ-loop samples held₀ least₀ greatest₀ i₀ held least greatest i = length samples - i
+μ-loop samples held₀ n least₀ greatest₀ i₀ held least greatest i = length samples - i
 
 loop-holds : tie.Need-loop-holds Inv-loop μ-loop
 loop-holds c = (search needs, refl, refl, refl)
@@ -69,12 +69,13 @@ loop-again c =
     let g = c .before in
     let x = g .before .before in
     let l = x .before .before in
-    let a = l .before .before .args in (
+    let a = l .before .before .args in
+    let inside : l .loop .i < length (now (a .samples)) = omega arith in (
       omega arith,
       simp length-set (l .loop .inv .1),
       rw (toZ-ofZ {z = g .before .lesser .result} (sfits-of (g .before .lesser .ok)), toZ-ofZ {z = g .greater .result} (sfits-of (g .greater .ok)))
-          (look-turn (now (a .samples)) (l .loop .i) (toZ w32 (l .loop .least)) (toZ w32 (l .loop .greatest)) _ _ _ (x .before .loop-test .taken) (toZ-ofZ (sfits-of (x .x .given))) (g .before .lesser .ensures) (g .greater .ensures) (l .loop .inv .2)),
-      keep-turn lowOf (now (a .samples)) (l .loop .held) _ (l .loop .i) _ (x .before .loop-test .taken) (kept c) (l .loop .inv .3),
+          (look-turn (now (a .samples)) (l .loop .i) (toZ w32 (l .loop .least)) (toZ w32 (l .loop .greatest)) _ _ _ inside (toZ-ofZ (sfits-of (x .x .given))) (g .before .lesser .ensures) (g .greater .ensures) (l .loop .inv .2)),
+      keep-turn lowOf (now (a .samples)) (l .loop .held) _ (l .loop .i) _ inside (kept c) (l .loop .inv .3),
     )
 
 inside-requires : tie.Need-inside-requires Inv-loop μ-loop
@@ -86,9 +87,10 @@ same-length c = c .before .before .loop .inv .1
 returns : tie.Need-returns Inv-loop μ-loop
 returns c =
     let l = c .before .before in
-    let zs = now (l .before .before .args .samples) in (
-      c .inside .ensures ∙ look-end zs (l .loop .i) (toZ w32 (l .loop .least)) (toZ w32 (l .loop .greatest)) (c .before .loop-test .left) (l .loop .inv .2),
-      keep-end lowOf zs (l .loop .held) _ (l .loop .i) (c .before .loop-test .left) (l .loop .inv .3),
+    let zs = now (l .before .before .args .samples) in
+    let all : length zs ≤ l .loop .i = omega arith in (
+      c .inside .ensures ∙ look-end zs (l .loop .i) (toZ w32 (l .loop .least)) (toZ w32 (l .loop .greatest)) all (l .loop .inv .2),
+      keep-end lowOf zs (l .loop .held) _ (l .loop .i) all (l .loop .inv .3),
     )
 
 pub narrow-spec : {M : Type 1} → statement M

@@ -9,7 +9,7 @@ use denote.Ref.{now}
 use lib.ListN.{length}
 use Rattle.packets.specs.Forms.{listed, totalOf}
 use Rattle.packets.proofs.Forms.{is-listed-form}
-use Rattle.samples.proofs.Refusals.{other-width, room-for, pack-unlisted, pack-count, pack-room, pack-done}
+use Rattle.samples.proofs.Refusals.{other-width, room-for, whole-halves, pack-unlisted, pack-count, pack-room, pack-done}
 use Rattle.samples.proofs.packing.pack.Statement.{statement}
 use Rattle.samples.proofs.packing.pack.Tie as tie
 
@@ -80,9 +80,10 @@ pack16-requires c κs =
     let e = u .before .before in
     let f = e .before .before .before .args .f in
     let n = length (now (e .before .before .before .args .samples)) in
+    let width = other-width f (form e) (c .before .if4 .left) in
     let fit : 4 + 2 * n ≤ length (now (e .before .before .before .args .packet))
-    = room-for f 2 n _ (ap (λ (b : ℕ). b / 8) (other-width f (form e) (c .before .if4 .left))) (u .if2 .left) (room r) in
-    (is-listed-form f (form e) .few, u .if2 .left, omega arith)
+    = room-for f 2 n _ (ap (λ (b : ℕ). b / 8) width) (u .if2 .left) (room r) in
+    (is-listed-form f (form e) .some, is-listed-form f (form e) .few, whole-halves f (form e) width, u .if2 .left, omega arith)
 
 same-length-2 : tie.Need-same-length-2
 same-length-2 c = search needs

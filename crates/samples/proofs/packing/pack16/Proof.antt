@@ -1,139 +1,42 @@
--- `samples::packing::pack16` meets its contract. The loop's invariant: what is still to be stored gives the whole.
-use Prim.Native.Nat.{_+_, _*_, _-_, _≤_, _<_}
-use mathlib.Core.Path.{_≡_, refl, sym, _∙_}
-use mathlib.Core.Bool.{true, false}
-use native.Mathlib.Omega.{arith}
-use borrow.Author.Tests.{not-true, not-false}
-use denote.Ref.{now}
-use lib.ListN.{length, drop}
-use lib.Seq.{sets}
-use Rattle.packets.specs.Samples.{allSamples, samplesBytes}
-use Rattle.samples.proofs.Written.{pack-pair, pack-end, kept-code}
+-- `samples::packing::pack16` meets its contract: either array is long enough.
+use mathlib.Core.Path.{refl}
+use borrow.Author.Needs.{needs}
 use Rattle.samples.proofs.packing.pack16.Statement.{statement}
 use Rattle.samples.proofs.packing.pack16.Tie as tie
 
-abbrev Inv-loop : tie.InvT-loop
-Inv-loop samples packet₀ pairs held i₀ packet i =
-    (i ≤ pairs)
-    × (length packet ≡ length packet₀)
-    × (sets packet (4 + 2 * (2 * i)) (samplesBytes 16 (drop (2 * i) samples)) ≡ sets packet₀ 4 (samplesBytes 16 samples))
+slice-aggregate-pack16-by : tie.Need-slice-aggregate-pack16-by
+slice-aggregate-pack16-by c = refl
 
-abbrev μ-loop : tie.MeasureT-loop
-μ-loop samples packet₀ pairs held i₀ packet i = pairs - i
+pack16-by-requires : tie.Need-pack16-by-requires
+pack16-by-requires c κs = search needs
 
-slice-aggregate-narrow : tie.Need-slice-aggregate-narrow Inv-loop μ-loop
-slice-aggregate-narrow c = refl
+same-length : tie.Need-same-length
+same-length c = search needs
 
-narrow-requires : tie.Need-narrow-requires Inv-loop μ-loop
-narrow-requires c κs = omega arith
+returns : tie.Need-returns
+returns c = c .before .before .before .pack16-by .ensures
 
-returns : tie.Need-returns Inv-loop μ-loop
-returns c =
-    let none : allSamples (now (c .before .before .before .before .before .args .samples)) ≡ false
-    = sym (c .before .before .narrow .ensures .0) ∙ not-true _ (c .if1 .taken) in
-    (sym none, rw none)
+slice-aggregate-pack16-by-2 : tie.Need-slice-aggregate-pack16-by-2
+slice-aggregate-pack16-by-2 c = refl
 
-loop-holds : tie.Need-loop-holds Inv-loop μ-loop
-loop-holds c = (omega arith, refl, refl)
+pack16-by-requires-2 : tie.Need-pack16-by-requires-2
+pack16-by-requires-2 c κs = search needs
 
--- past the test all are samples
-all : (c : tie.Else1 Inv-loop μ-loop) → allSamples (now (c .before .before .before .before .before .args .samples)) ≡ true
-all c = sym (c .before .before .narrow .ensures .0) ∙ not-false _ (c .if1 .left)
+same-length-2 : tie.Need-same-length-2
+same-length-2 c = search needs
 
-mul-put4 : tie.Need-mul-put4 Inv-loop μ-loop
-mul-put4 c = omega arith
-
-add-put4 : tie.Need-add-put4 Inv-loop μ-loop
-add-put4 c = omega arith
-
-mul-pair : tie.Need-mul-pair Inv-loop μ-loop
-mul-pair c = omega arith
-
-mul-pair-2 : tie.Need-mul-pair-2 Inv-loop μ-loop
-mul-pair-2 c = omega arith
-
-array-read-pair : tie.Need-array-read-pair Inv-loop μ-loop
-array-read-pair c = omega arith
-
-mul-pair-3 : tie.Need-mul-pair-3 Inv-loop μ-loop
-mul-pair-3 c = omega arith
-
-add-pair : tie.Need-add-pair Inv-loop μ-loop
-add-pair c = omega arith
-
-mul-pair-4 : tie.Need-mul-pair-4 Inv-loop μ-loop
-mul-pair-4 c = omega arith
-
-array-read-pair-2 : tie.Need-array-read-pair-2 Inv-loop μ-loop
-array-read-pair-2 c = omega arith
-
-pair-requires : tie.Need-pair-requires Inv-loop μ-loop
-pair-requires c κs = tt
-
-put4-requires : tie.Need-put4-requires Inv-loop μ-loop
-put4-requires c κs = omega arith
-
-add-i : tie.Need-add-i Inv-loop μ-loop
-add-i c = omega arith
-
-loop-less : tie.Need-loop-less Inv-loop μ-loop
-loop-less c = omega arith
-
-loop-again : tie.Need-loop-again Inv-loop μ-loop
-loop-again c =
-    let p = c .before .before in
-    let t = p .before .before .before in
-    let l = t .before in
-    let s = l .before .before .before .before .before .before in
-    let zs = now (s .args .samples) in
-    let n = l .before .before .before .narrow .ensures .1 in
-    let long : length zs ≤ 512 = omega arith in
-    let i : 2 * l .loop .i < length zs = omega arith in
-    let q : 2 * l .loop .i + 1 < length zs = omega arith in (
-      omega arith,
-      p .put4 .kept .0 ∙ l .loop .inv .1,
-      rw (p .put4 .ensures)
-          (pack-pair (l .loop .packet) _ zs (l .loop .i) _ _ _ q
-          (kept-code _ _ zs (2 * l .loop .i) n i long (all (l .before)))
-          (kept-code _ _ zs (2 * l .loop .i + 1) n q long (all (l .before)))
-          (p .before .pair .ensures)
-          (l .loop .inv .2)),
-    )
-
-same-length : tie.Need-same-length Inv-loop μ-loop
-same-length c = c .before .loop .inv .1
-
-returns-2 : tie.Need-returns-2 Inv-loop μ-loop
-returns-2 c =
-    let l = c .before in
-    let a = l .before .before .before .before .before .before .args in (
-      sym (all (l .before)),
-      rw (all (l .before)) (pack-end 16 (l .loop .packet) _ (now (a .samples)) (2 * l .loop .i) (omega arith) (l .loop .inv .2)),
-    )
+returns-2 : tie.Need-returns-2
+returns-2 c = c .before .before .before .pack16-by2 .ensures
 
 pub pack16-spec : {M : Type 1} → statement M
 pack16-spec =
     tie.close
     (tie.spec
-    Inv-loop
-    μ-loop
-    slice-aggregate-narrow
-    narrow-requires
-    returns
-    loop-holds
-    mul-put4
-    add-put4
-    mul-pair
-    mul-pair-2
-    array-read-pair
-    mul-pair-3
-    add-pair
-    mul-pair-4
-    array-read-pair-2
-    pair-requires
-    put4-requires
-    add-i
-    loop-less
-    loop-again
+    slice-aggregate-pack16-by
+    pack16-by-requires
     same-length
+    returns
+    slice-aggregate-pack16-by-2
+    pack16-by-requires-2
+    same-length-2
     returns-2)

@@ -18,29 +18,29 @@ use Rattle.samples.proofs.unpacking.block16.Tie as tie
 
 -- the samples of the block from the k-th on, stored
 abbrev stored : List ℕ → ℕ → List ℤ → ℕ → List ℤ
-stored packet first out k = sets out (2 * first + k) (samplesFrom 16 (drop 4 packet) (2 * first + k) (2 * (first + 64) - (2 * first + k)))
+stored packet first out k = sets out (2 * first + k) (samplesFrom 16 (drop 4 packet) (2 * first + k) (2 * (first + 32) - (2 * first + k)))
 
 abbrev Inv-loop2 : tie.InvT-loop2
 Inv-loop2 packet out first held₀ round i₀ held i =
-    (i ≤ 8 * round + 8) × (length held ≡ 128) × Holds (drop 4 packet) (2 * first) held (2 * i)
+    (i ≤ 4 * round + 4) × (length held ≡ 64) × Holds (drop 4 packet) (2 * first) held (2 * i)
 
 abbrev μ-loop2 : tie.MeasureT-loop2
-μ-loop2 packet out first held₀ round i₀ held i = 8 * round + 8 - i
+μ-loop2 packet out first held₀ round i₀ held i = 4 * round + 4 - i
 
 abbrev Inv-loop3 : tie.InvT-loop3
 Inv-loop3 packet out₀ first held round i k₀ out k =
-    (k ≤ 16 * round + 16) × (length out ≡ length out₀) × (stored packet first out k ≡ stored packet first out₀ (16 * round))
+    (k ≤ 8 * round + 8) × (length out ≡ length out₀) × (stored packet first out k ≡ stored packet first out₀ (8 * round))
 
 abbrev μ-loop3 : tie.MeasureT-loop3
-μ-loop3 packet out₀ first held round i k₀ out k = 16 * round + 16 - k
+μ-loop3 packet out₀ first held round i k₀ out k = 8 * round + 8 - k
 
 abbrev Inv-loop : tie.InvT-loop
 Inv-loop packet out₀ first held₀ round₀ out held round =
     (round ≤ 8)
-    × (length held ≡ 128)
-    × Holds (drop 4 packet) (2 * first) held (16 * round)
+    × (length held ≡ 64)
+    × Holds (drop 4 packet) (2 * first) held (8 * round)
     × (length out ≡ length out₀)
-    × (stored packet first out (16 * round) ≡ stored packet first out₀ 0)
+    × (stored packet first out (8 * round) ≡ stored packet first out₀ 0)
 
 abbrev μ-loop : tie.MeasureT-loop
 μ-loop packet out₀ first held₀ round₀ out held round = 8 - round
@@ -167,7 +167,7 @@ loop3-again c =
       omega arith,
       simp length-set (l3 .loop3 .inv .1),
       rw next
-          (unpack-turn 16 (drop 4 (now (a .packet))) (l3 .loop3 .out) _ (2 * a .first + l3 .loop3 .k) (2 * (a .first + 64)) _ (omega arith)
+          (unpack-turn 16 (drop 4 (now (a .packet))) (l3 .loop3 .out) _ (2 * a .first + l3 .loop3 .k) (2 * (a .first + 32)) _ (omega arith)
           (toZ-ofZ (sfits-of (c .sign16 .ok)) ∙ c .sign16 .ensures ∙ l2 .loop2 .inv .2 (l3 .loop3 .k) (omega arith))
           (l3 .loop3 .inv .2)),
     )
@@ -184,7 +184,7 @@ loop-again c =
     let l2 = l3 .before .before in
     let l = l2 .before .before in
     let a = l .before .before .args in
-    let next : 16 * (l .loop .round + 1) ≡ l3 .loop3 .k = omega arith in (
+    let next : 8 * (l .loop .round + 1) ≡ l3 .loop3 .k = omega arith in (
       omega arith,
       l2 .loop2 .inv .1,
       λ j h. l2 .loop2 .inv .2 j (omega arith),
@@ -199,7 +199,7 @@ returns : tie.Need-returns Inv-loop2 μ-loop2 Inv-loop3 μ-loop3 Inv-loop μ-loo
 returns c =
     let l = c .before in
     let a = l .before .before .args in
-    unpack-end 16 (drop 4 (now (a .packet))) (l .loop .out) _ (2 * a .first + 16 * l .loop .round) (2 * (a .first + 64)) (omega arith) (rw (add-zero (2 * a .first)) at (l .loop .inv .4))
+    unpack-end 16 (drop 4 (now (a .packet))) (l .loop .out) _ (2 * a .first + 8 * l .loop .round) (2 * (a .first + 32)) (omega arith) (rw (add-zero (2 * a .first)) at (l .loop .inv .4))
 
 pub block16-spec : {M : Type 1} → statement M
 block16-spec =

@@ -15,13 +15,13 @@ abbrev Inv-loop : tie.InvT-loop
 Inv-loop packet out₀ blocks i₀ out i =
     (i ≤ blocks)
     × (length out ≡ length out₀)
-    × (sets out (128 * i) (samplesFrom 16 (drop 4 packet) (128 * i) (128 * blocks - 128 * i)) ≡ sets out₀ 0 (samplesFrom 16 (drop 4 packet) 0 (128 * blocks)))
+    × (sets out (64 * i) (samplesFrom 16 (drop 4 packet) (64 * i) (64 * blocks - 64 * i)) ≡ sets out₀ 0 (samplesFrom 16 (drop 4 packet) 0 (64 * blocks)))
 
 abbrev μ-loop : tie.MeasureT-loop
 μ-loop packet out₀ blocks i₀ out i = blocks - i
 
 loop-holds : tie.Need-loop-holds Inv-loop μ-loop
-loop-holds c = (omega arith, refl, rw (sub-zero (128 * c .before .args .blocks)))
+loop-holds c = (omega arith, refl, rw (sub-zero (64 * c .before .args .blocks)))
 
 mul-block16 : tie.Need-mul-block16 Inv-loop μ-loop
 mul-block16 c = omega arith
@@ -40,12 +40,12 @@ loop-again c =
     let b = c .before in
     let l = b .before .before .before in
     let a = l .before .before .args in
-    let here : 128 * l .loop .i ≡ 2 * (64 * l .loop .i) = omega arith in
-    let next : 128 * (l .loop .i + 1) ≡ 2 * (64 * l .loop .i + 64) = omega arith in (
+    let here : 64 * l .loop .i ≡ 2 * (32 * l .loop .i) = omega arith in
+    let next : 64 * (l .loop .i + 1) ≡ 2 * (32 * l .loop .i + 32) = omega arith in (
       omega arith,
       b .block16 .kept .1 .0 ∙ l .loop .inv .1,
       rw (b .block16 .ensures, next)
-          (unpack-block 16 (drop 4 (now (a .packet))) (l .loop .out) _ (2 * (64 * l .loop .i)) (2 * (64 * l .loop .i + 64)) (128 * a .blocks) (omega arith) (omega arith) (rw here at (l .loop .inv .2))),
+          (unpack-block 16 (drop 4 (now (a .packet))) (l .loop .out) _ (2 * (32 * l .loop .i)) (2 * (32 * l .loop .i + 32)) (64 * a .blocks) (omega arith) (omega arith) (rw here at (l .loop .inv .2))),
     )
 
 same-length : tie.Need-same-length Inv-loop μ-loop
@@ -55,7 +55,7 @@ returns : tie.Need-returns Inv-loop μ-loop
 returns c =
     let l = c .before in
     let a = l .before .before .args in
-    unpack-end 16 (drop 4 (now (a .packet))) (l .loop .out) _ (128 * l .loop .i) (128 * a .blocks) (omega arith) (l .loop .inv .2)
+    unpack-end 16 (drop 4 (now (a .packet))) (l .loop .out) _ (64 * l .loop .i) (64 * a .blocks) (omega arith) (l .loop .inv .2)
 
 pub unpack16-spec : {M : Type 1} → statement M
 unpack16-spec =
