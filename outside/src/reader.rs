@@ -82,6 +82,24 @@ pub fn unpack(packet: &[u8], numbers: &mut [i32]) -> Result<usize, Code> {
     Ok(numbers.len())
 }
 
+/// The same by `chunks_exact`, as it is mostly written; `as_chunks` is newer (Rust 1.88), and at 16 bits more than twice as
+/// fast. Kept for the benchmarks.
+pub fn unpack_by_chunks(packet: &[u8], numbers: &mut [i32]) -> Result<usize, Code> {
+    let form = Form::of_packet(packet).ok_or(Code::NotAPacket)?;
+    let numbers = numbers.get_mut(..form.samples()).ok_or(Code::NoRoom)?;
+    let body = &packet[4..];
+    if form.bits == 24 {
+        for (number, b) in numbers.iter_mut().zip(body.chunks_exact(3)) {
+            *number = i32::from_le_bytes([0, b[0], b[1], b[2]]) >> 8;
+        }
+    } else {
+        for (number, b) in numbers.iter_mut().zip(body.chunks_exact(2)) {
+            *number = i16::from_le_bytes([b[0], b[1]]).into();
+        }
+    }
+    Ok(numbers.len())
+}
+
 /// Reads packets of one length one after another by a new reader, to the first that is refused: the position of the last
 /// packet's first sample.
 #[inline(never)]

@@ -97,18 +97,30 @@ fn read_lossy(what: &str, form: Form, percent: u64, rounds: usize) {
     read(&format!("read, {what}, {percent} % lost"), &packets, form.total(), rounds, None);
 }
 
-fn unpack(what: &str, form: Form, packets: &[u8], rounds: usize, wanted: Option<f64>) {
+/// One call of unpacking: code and count.
+type Unpack = fn(&[u8], &mut [i32]) -> (u8, usize);
+
+fn unpack(what: &str, form: Form, packets: &[u8], rust: Unpack, rounds: usize, wanted: Option<f64>) {
     let total = black_box(form.total());
     let mut rooms = Rooms::new(form.samples());
     let mut runners = runners(
         || each(packets, total, black_box(&mut rooms.proved), |packet, numbers| Proved.unpack(packet, numbers)),
-        || each(packets, total, black_box(&mut rooms.rust), |packet, numbers| Plain.unpack(packet, numbers)),
+        || each(packets, total, black_box(&mut rooms.rust), rust),
         || each(packets, total, black_box(&mut rooms.c), c_unpack),
     );
     let found = best(&mut runners, PACKETS as f64, rounds);
     drop(runners);
     rooms.agree(&found);
     row(&format!("unpack, {what}"), &found, wanted);
+}
+
+fn by_arrays(packet: &[u8], numbers: &mut [i32]) -> (u8, usize) {
+    Plain.unpack(packet, numbers)
+}
+
+#[inline(never)]
+fn by_chunks(packet: &[u8], numbers: &mut [i32]) -> (u8, usize) {
+    reader::unpack_by_chunks(packet, numbers).map_or_else(|code| (code as u8, 0), |count| (1, count))
 }
 
 /// Unpacks packets of one length, each by a call of its own, and looks at both code and count.
@@ -244,7 +256,17 @@ fn main() {
         read_lossy("small, 24 bits", Form::SMALL_24, percent, rounds / 4);
     }
     for ((what, form, ..), wanted) in FORMS.into_iter().zip([Some(0.8), None, Some(1.0), None]) {
-        unpack(what, form, &first_packets(form, PACKETS), rounds, wanted);
+        unpack(what, form, &first_packets(form, PACKETS), by_arrays, rounds, wanted);
+    }
+    for (what, form, ..) in FORMS {
+        unpack(
+            &format!("{what}, Rust by `chunks_exact`"),
+            form,
+            &first_packets(form, PACKETS),
+            by_chunks,
+            rounds,
+            Some(1.0),
+        );
     }
     println!();
     head("message, by kind");
