@@ -82,8 +82,8 @@ pub fn unpack(packet: &[u8], numbers: &mut [i32]) -> Result<usize, Code> {
     Ok(numbers.len())
 }
 
-/// The same by `chunks_exact`, as it is mostly written; `as_chunks` is newer (Rust 1.88), and at 16 bits more than twice as
-/// fast. Kept for the benchmarks.
+/// The same by `chunks_exact`; `as_chunks` is newer (Rust 1.88), and at 16 bits more than twice as fast. Kept for the
+/// benchmarks.
 pub fn unpack_by_chunks(packet: &[u8], numbers: &mut [i32]) -> Result<usize, Code> {
     let form = Form::of_packet(packet).ok_or(Code::NotAPacket)?;
     let numbers = numbers.get_mut(..form.samples()).ok_or(Code::NoRoom)?;

@@ -40,7 +40,7 @@ pub extern "C" fn skvornela_feed(
     if state.len() == crate::states::LENGTH {
         let settings = crate::states::settings_of(state);
         let taken = crate::states::taken_of(state);
-        // the held bytes are fed where they lie
+        // the held bytes are changed where they lie
         let f = station::feed_held(settings, &mut state[36..100], taken, host, reply);
         *consumed = f.consumed;
         *wrote = f.wrote;

@@ -24,7 +24,7 @@ tookOf t =
       finished = t .finished;
     }
 
--- Bytes held in another number of places are no store, and nothing is taken.
+-- Bytes held in another number of places than 64 are no store, and nothing is taken.
 abbrev pub tookIn : Store → List ℕ → Took
 tookIn s host =
     pick (eqb (length (s .held)) 64) (tookOf (taken s host))

@@ -185,7 +185,7 @@ fn total_ahead(held: &[u8], had: usize, host: &[u8]) -> usize
 }
 
 // Whether every place from `from` on is zero. Sixteen places are one step of the processor's: so the windows are full ones,
-// of which the later may overlap, and only past the 48th place is looked at byte by byte.
+// of which the later may overlap, and only what begins past place 48 is looked at byte by byte.
 fn unused(held: &[u8], from: usize) -> bool
     requires { ⌜ length (now held) ≡ 64 ⌝ }
     ensures { λ r. ⌜ r ≡ zeros (drop from (now (held .entry))) ⌝ }

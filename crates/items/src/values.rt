@@ -34,7 +34,7 @@ pub fn state_number(run: u8, mode: u8) -> u64
 // 0004: "id, then two bytes: 0: 64 00, 1: 6B 00, 2: 66 00, 3: 01 07 (house)".
 const VERSIONS: [u64; 4] = [0x0064, 0x006B, 0x0066, 0x0701];
 
-// The two bytes of an id as a number. Another id has none.
+// The two bytes of an id as a number, 0 for another id, which has none.
 pub fn version_of(id: u8) -> u64
     ensures { λ r. ⌜ r ≡ number (getD versionTable id []) ⌝ }
 {

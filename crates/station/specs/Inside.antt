@@ -1,4 +1,4 @@
--- What the functions inside promise each other. Opened in proofs/ ties it to Feeding.
+-- What the functions inside promise each other, and, for the proofs, what ties it to Feeding (Opened in proofs/).
 use Prim.Native.Nat.{ℕ}
 use lib.Dec.{ltb}
 use mathlib.Core.List.{List}
@@ -15,6 +15,7 @@ use Rattle.station.specs.Feeding.{Feeding, messageIn, refused, answered}
 abbrev pub openedMessage : List ℕ → Message
 openedMessage ten = messageIn (record { held = ten; taken = 0 })
 
+-- the same, as what a call took
 abbrev pub opened : Took → Taking
 opened t = record { store = record { held = t .opening; taken = t .taken }; count = t .count; finished = t .finished }
 

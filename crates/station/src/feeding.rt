@@ -46,8 +46,8 @@ pub fn feed(s: Station, host: &[u8], reply: &mut [u8]) -> Fed
     }
 }
 
-// The same of a box whose held bytes are lent, with its other parts by value: they are changed where they lie, so that a
-// call copies no box. Bytes held in another number of places than 64 are a broken box.
+// The same of a box whose held bytes are lent, and changed where they lie, with its other parts by value: so a call copies
+// no box. Bytes held in another number of places than 64 are a broken box.
 pub fn feed_held(
     settings: Settings,
     held: &mut [u8],

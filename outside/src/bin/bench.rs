@@ -97,10 +97,14 @@ fn read_lossy(what: &str, form: Form, percent: u64, rounds: usize) {
     read(&format!("read, {what}, {percent} % lost"), &packets, form.total(), rounds, None);
 }
 
-/// One call of unpacking: code and count.
-type Unpack = fn(&[u8], &mut [i32]) -> (u8, usize);
-
-fn unpack(what: &str, form: Form, packets: &[u8], rust: Unpack, rounds: usize, wanted: Option<f64>) {
+fn unpack(
+    what: &str,
+    form: Form,
+    packets: &[u8],
+    rust: impl Fn(&[u8], &mut [i32]) -> (u8, usize) + Copy,
+    rounds: usize,
+    wanted: Option<f64>,
+) {
     let total = black_box(form.total());
     let mut rooms = Rooms::new(form.samples());
     let mut runners = runners(
@@ -112,10 +116,6 @@ fn unpack(what: &str, form: Form, packets: &[u8], rust: Unpack, rounds: usize, w
     drop(runners);
     rooms.agree(&found);
     row(&format!("unpack, {what}"), &found, wanted);
-}
-
-fn by_arrays(packet: &[u8], numbers: &mut [i32]) -> (u8, usize) {
-    Plain.unpack(packet, numbers)
 }
 
 #[inline(never)]
@@ -255,8 +255,15 @@ fn main() {
     for percent in [0, 1, 30] {
         read_lossy("small, 24 bits", Form::SMALL_24, percent, rounds / 4);
     }
-    for ((what, form, ..), wanted) in FORMS.into_iter().zip([Some(0.8), None, Some(1.0), None]) {
-        unpack(what, form, &first_packets(form, PACKETS), by_arrays, rounds, wanted);
+    for ((what, form, ..), wanted) in FORMS.into_iter().zip([Some(0.8), Some(1.0), Some(1.0), Some(1.0)]) {
+        unpack(
+            what,
+            form,
+            &first_packets(form, PACKETS),
+            |packet, numbers| Plain.unpack(packet, numbers),
+            rounds,
+            wanted,
+        );
     }
     for (what, form, ..) in FORMS {
         unpack(

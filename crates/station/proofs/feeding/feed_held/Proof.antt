@@ -2,13 +2,11 @@
 -- Assumes nothing.
 use Prim.Native.Nat.{ℕ}
 use mathlib.Core.Path.{_≡_, refl, sym, ap, _∙_}
-use mathlib.Core.Bool.{true, false}
+use mathlib.Core.Bool.{true}
 use mathlib.Core.List.{List}
 use denote.Ref.{now}
 use lib.ListN.{length}
 use borrow.Author.Tests.{not-true, not-false}
-use Rattle.framing.specs.declared.Took.{Took}
-use Rattle.items.specs.declared.Settings.{Settings}
 use Rattle.station.specs.declared.Station.{Station}
 use Rattle.station.specs.declared.Fed.{Fed}
 use Rattle.station.specs.Station.{boxOf, valid}
