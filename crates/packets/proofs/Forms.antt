@@ -210,6 +210,10 @@ whole-in (r ∷ rs) e l p =
 pub whole-is : (p : List ℕ) → (wholeOf p ≡ noForm) ⊎ Whole p (wholeOf p)
 whole-is p = whole-in forms refl refl p
 
+-- every packet has its four leading bytes
+pub whole-short : (p : List ℕ) → length p < 4 → noForm ≡ wholeOf p
+whole-short p short = ⊎-elim (λ e. sym e) (λ w. absurd (omega (arith, w .long))) (whole-is p)
+
 pub packet-is : (p : List ℕ) → isPacket p ≡ true → Whole p (wholeOf p)
 packet-is p h = ⊎-elim none (λ w. w) (whole-is p)
   where

@@ -154,6 +154,10 @@ fn two_at(packet: &[u8], at: usize) -> u16
 pub fn whole(packet: &[u8]) -> Form
     ensures { λ r. ⌜ r ≡ wholeOf (now (packet .entry)) ⌝ }
 {
+    // Header and number are four bytes: tested once here, no byte of them needs a test of its own.
+    if packet.len() < 4 {
+        return no_form();
+    }
     let header = two_at(packet, 0);
     if wire::length_in(header) as usize == packet.len() {
         return form_of_header(header);

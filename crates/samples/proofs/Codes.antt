@@ -7,8 +7,8 @@ use native.Mathlib.Nat.{div-one, add-mod-right, mod-eq-of-lt, mod-eq-sub-mod}
 use native.Mathlib.Decide.{decLt}
 use native.Mathlib.Omega.{arith}
 use lib.IntN.{ℤ, pos, negsuc, subℕ, _+ℤ_, _-ℤ_}
-use lib.Signed.{mag, quotZ, shrZ}
-use mir.Syntax.{w32}
+use lib.Signed.{mag, quotZ}
+use mir.Syntax.{Width, w32}
 use mir.Val.{SFits, toZ, ofZ}
 use mir.Facts.{toZ-ofZ, toZ-pos}
 use borrow.Author.Tests.{leb-true, lt-ltb, le-ltb}
@@ -30,13 +30,20 @@ pub lifted-below : (h : ℕ) (z : ℤ) → mag z < h → lifted h z < h + h
 lifted-below h (pos n) l = omega arith
 lifted-below h (negsuc n) l = omega arith
 
--- The machine's sum of a number and the half turn is the lifted number.
-module _ (h : ℕ) (z : ℤ) (fits : SFits w32 z) (l : mag z < h) (small : h ≤ 8_388_608) where
-  pub lift-fits : SFits w32 (toZ w32 (ofZ w32 z) +ℤ pos h)
-  lift-fits = rw (toZ-ofZ fits, lift h z l) (record { sfits = omega (arith, lifted-below h z l) })
+-- The machine's sum of a number and h is the lifted number.
+module _ (w : Width) (h : ℕ) (z : ℤ) (fits : SFits w z) (l : mag z < h) (room : SFits w (pos (lifted h z))) where
+  pub lift-fits : SFits w (toZ w (ofZ w z) +ℤ pos h)
+  lift-fits = rw (toZ-ofZ fits, lift h z l) room
 
-  pub lift-is : toZ w32 (ofZ w32 (toZ w32 (ofZ w32 z) +ℤ pos h)) ≡ pos (lifted h z)
+  pub lift-is : toZ w (ofZ w (toZ w (ofZ w z) +ℤ pos h)) ≡ pos (lifted h z)
   lift-is = toZ-ofZ lift-fits ∙ rw (toZ-ofZ fits) (lift h z l)
+
+-- a number below half a turn of at most 24 bits fits, and so does it lifted
+pub below-fits : (h : ℕ) (z : ℤ) → mag z < h → h ≤ 8_388_608 → SFits w32 z
+below-fits h z l small = record { sfits = omega arith }
+
+pub lifted-fits : (h : ℕ) (z : ℤ) → mag z < h → h ≤ 8_388_608 → SFits w32 (pos (lifted h z))
+lifted-fits h z l small = record { sfits = omega (arith, lifted-below h z l) }
 
 -- half a turn more, and the whole turns off: the k bits that stand for z
 pub turned : (k h : ℕ) → 2 ^ k ≡ h + h → (z : ℤ) → mag z < h → (lifted h z + h) % (h + h) ≡ coded k z
@@ -53,40 +60,21 @@ pub narrowed-24 : (z : ℤ) → narrowed 24 z ≡ z
 narrowed-24 (pos n) = ap pos (div-one n)
 narrowed-24 (negsuc n) = ap negsuc (div-one n)
 
--- 32 bits divided by 256 are 24
-pub shifted-small : (z : ℤ) → mag z < 2_147_483_648 → mag (shrZ z 256) < 8_388_608
-shifted-small (pos n) l = omega arith
-shifted-small (negsuc n) l = omega arith
-
--- the low 16 bits of a number that was lifted by a multiple of 65,536
-pub lowered : (z : ℤ) → mag z < 8_388_608 → lifted 8_388_608 z % 65_536 ≡ coded 32 z % 65_536
-lowered (pos n) l = omega arith
-lowered (negsuc n) l = omega arith
-
 -- a sample is below half a turn of 24 bits, whichever its sign
 pub sample-small : (z : ℤ) → isSample z ≡ true → mag z < 8_388_608
 sample-small (pos n) s = omega (arith, leb-true n 8_388_607 s)
 sample-small (negsuc n) s = omega (arith, leb-true n 8_388_607 (and-left (leb n 8_388_607) true s))
 
--- the low 16 of the 32 bits that stand for what is sent of a number
-abbrev pub lowOf : ℤ → ℕ
-lowOf z = coded 32 (narrowed 16 z) % 65_536
+-- and divided by 256 below half a turn of 16
+pub sixteen-small : (z : ℤ) → isSample z ≡ true → mag (narrowed 16 z) < 32_768
+sixteen-small (pos n) s = omega (arith, sample-small (pos n) s)
+sixteen-small (negsuc n) s = omega (arith, sample-small (negsuc n) s)
 
 -- "Dividing towards zero for 16 bits" gives others: -257 would be sent as FF FF.
-pub towards-zero-fails : ((z : ℤ) → isSample z ≡ true → coded 32 (quotZ z (pos 256)) % 65_536 ≡ lowOf z) → ⊥
+pub towards-zero-fails : ((z : ℤ) → isSample z ≡ true → coded 16 (quotZ z (pos 256)) ≡ coded 16 (narrowed 16 z)) → ⊥
 towards-zero-fails same =
     let wrong : _≡_ {A = ℕ} 0xFFFF 0xFFFE = same (negsuc 256) refl in
     omega arith
-
--- of a sample they are the 16 bits that are sent
-pub low-sample : (z : ℤ) → isSample z ≡ true → lowOf z ≡ coded 16 (narrowed 16 z)
-low-sample (pos n) s = omega (arith, sample-small (pos n) s)
-low-sample (negsuc n) s = omega (arith, sample-small (negsuc n) s)
-
--- and the upper 16 of the 24
-pub upper-sample : (z : ℤ) → isSample z ≡ true → coded 24 (narrowed 24 z) % 256 + 256 * coded 16 (narrowed 16 z) ≡ coded 24 (narrowed 24 z)
-upper-sample (pos n) s = omega arith
-upper-sample (negsuc n) s = omega (arith, sample-small (negsuc n) s)
 
 -- ---- and back: a code lifted by half a turn, the whole turns taken off, and the half turn taken off again
 

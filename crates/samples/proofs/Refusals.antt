@@ -33,9 +33,9 @@ whole-blocks f l w =
     let none-left : eqb (f .pairs % 32) 0 ≡ true = rw w at (of-listed (λ g. eqb (g .bits) 24 || eqb (g .pairs % 32) 0) refl f l) in
     omega (arith, eqb-true (f .pairs % 32) 0 none-left)
 
--- at 16 bits the pairs are 128 or twice as many
-pub whole-halves : (f : Form) → listed f ≡ true → f .bits ≡ 16 → f .pairs % 128 ≡ 0
-whole-halves f l w = eqb-true (f .pairs % 128) 0 (rw w at (of-listed (λ g. eqb (g .bits) 24 || eqb (g .pairs % 128) 0) refl f l))
+-- in every form the pairs are a multiple of eight: its samples are whole fours and whole sixteens
+pub eight-pairs : (f : Form) → listed f ≡ true → f .pairs % 8 ≡ 0
+eight-pairs f l = eqb-true (f .pairs % 8) 0 (of-listed (λ g. eqb (g .pairs % 8) 0) refl f l)
 
 -- ---- packing
 

@@ -2,16 +2,16 @@
 use Prim.Native.Nat.{ℕ, zero, suc, _+_, _*_, _-_, _/_, _%_, _≤_, _<_}
 use mathlib.Core.Path.{_≡_, sym, ap, _∙_}
 use mathlib.Core.List.{List}
-use native.Mathlib.Decide.{ℕ-discrete}
 use native.Mathlib.Nat.{add-zero, zero-add}
 use native.Mathlib.Numerals.{add-one}
 use native.Mathlib.Omega.{arith}
 use lib.IntN.{ℤ}
 use lib.ListN.{length, getD, set, drop, length-set}
-use lib.Seq.{sets, getD-set-same, getD-set-other}
+use lib.Seq.{sets}
 use Rattle.wire.specs.Number.{field}
 use Rattle.wire.specs.Signed.{signed}
 use Rattle.packets.specs.Samples.{sampleAt, samplesFrom}
+use Rattle.samples.proofs.Held.{Held, hold-turn}
 use Rattle.samples.proofs.Fields.{field-drop, field-high, field-halves}
 
 -- the i-th sample of a packet stands after its four leading bytes
@@ -66,25 +66,20 @@ unpack-end bits s out whole i n h done =
 
 -- ---- 16-bit numbers held for a while
 
--- the first n numbers held stand for the samples from one on
-abbrev pub Holds : List ℕ → ℕ → List ℕ → ℕ → Type 0
-Holds s from held n = (j : ℕ) → j < n → signed 16 (getD held j 0) ≡ sampleAt 16 s (from + j)
-
-hold-turn : (s : List ℕ) (from : ℕ) (held : List ℕ) (n v : ℕ) → n < length held → signed 16 v ≡ sampleAt 16 s (from + n) → Holds s from held n → Holds s from (set held n v) (n + 1)
-hold-turn s from held n v room is so j h =
-    elim (ℕ-discrete j n) [
-      | yes here ↦ rw here (ap (signed 16) (getD-set-same held n v 0 room) ∙ is)
-      | no there ↦ ap (signed 16) (getD-set-other held n j v 0 there) ∙ so j (omega arith)
-    ]
+-- the numbers held stand for the samples from one on
+abbrev pub StandFor : List ℕ → ℕ → ℕ → ℕ → Type 0
+StandFor s from j v = signed 16 v ≡ sampleAt 16 s (from + j)
 
 -- the halves of the word that holds a pair are held
 pub hold-pair : (p held : List ℕ) (first i w : ℕ) → ((k : ℕ) → getD p k 0 < 256) → 4 + 4 * (first + i + 1) ≤ length p → 2 * i + 1 < length held → w ≡ field (4 + 4 * (first + i)) 4 p
-    → Holds (drop 4 p) (2 * first) held (2 * i) → Holds (drop 4 p) (2 * first) (set (set held (2 * i) (w % 65_536)) (2 * i + 1) (w / 65_536)) (2 * (i + 1))
+    → Held (StandFor (drop 4 p) (2 * first)) held (2 * i)
+    → Held (StandFor (drop 4 p) (2 * first)) (set (set held (2 * i) (w % 65_536)) (2 * i + 1) (w / 65_536)) (2 * (i + 1))
 hold-pair p held first i w small long room is so =
+    let known = StandFor (drop 4 p) (2 * first) in
     let pair = pair-16 p (first + i) w small long is in
     let one : 2 * (first + i) ≡ 2 * first + 2 * i = omega arith in
     let two : 2 * first + 2 * i + 1 ≡ 2 * first + (2 * i + 1) = omega arith in
     let next : 2 * (i + 1) ≡ 2 * i + 1 + 1 = omega arith in
     rw next
-    (hold-turn (drop 4 p) (2 * first) (set held (2 * i) (w % 65_536)) (2 * i + 1) (w / 65_536) (simp length-set room) (rw (one, two) at (pair .1))
-    (hold-turn (drop 4 p) (2 * first) held (2 * i) (w % 65_536) (omega arith) (rw one at (pair .0)) so))
+    (hold-turn known (set held (2 * i) (w % 65_536)) (2 * i + 1) (w / 65_536) (simp length-set room) (rw (one, two) at (pair .1))
+    (hold-turn known held (2 * i) (w % 65_536) (omega arith) (rw one at (pair .0)) so))

@@ -1,57 +1,27 @@
-// "Samples come in as whole numbers from -8,388,608 to 8,388,607": found by the least and the greatest of them, in a loop
-// that has no early way out, so that many are looked at in one step of the processor.
+// "Samples come in as whole numbers from -8,388,608 to 8,388,607": looked at in a loop that has no early way out, so that many
+// are looked at in one step of the processor.
 ghost use mathlib.Core.Path.{_≡_};
-ghost use mathlib.Core.Bool.{_&&_, not};
-ghost use lib.IntN.{pos, negsuc};
-ghost use lib.Signed.{ltZ};
-ghost use Rattle.wire.specs.Choice.{pick};
-ghost use Rattle.packets.specs.Samples.{allSamples};
+ghost use lib.Dec.{ltb};
+ghost use Rattle.packets.specs.Samples.{isSample, allSamples};
 
-// The lesser of two numbers.
-pub(crate) fn lesser(a: i32, b: i32) -> i32
-    ensures { λ r. ⌜ r ≡ pick (ltZ b a) b a ⌝ }
+// The upper 16 of the 32 bits that tell how far a number lies above the least sample: below 256 for a sample, and for no
+// other number.
+fn upper(x: i32) -> u16
+    ensures { λ r. ⌜ ltb r 256 ≡ isSample x ⌝ }
 {
-    if b < a {
-        return b;
-    }
-    a
+    let above = (x as i64 + 4303355904) as u64 % 4294967296;
+    (above / 65536) as u16
 }
 
-// The greater of two numbers.
-pub(crate) fn greater(a: i32, b: i32) -> i32
-    ensures { λ r. ⌜ r ≡ pick (ltZ a b) b a ⌝ }
-{
-    if a < b {
-        return b;
-    }
-    a
-}
-
-// Whether all numbers from the least to the greatest are samples.
-pub(crate) fn inside(least: i32, greatest: i32) -> bool
-    ensures { λ r. ⌜ r ≡ not (ltZ least (negsuc 8388607)) && not (ltZ (pos 8388607) greatest) ⌝ }
-{
-    if least < -8388608 {
-        return false;
-    }
-    if 8388607 < greatest {
-        return false;
-    }
-    true
-}
-
-// Whether all are samples.
+// Whether all are samples. Numbers joined by `or` are below a power of two exactly if each of them is.
 pub fn all_fit(samples: &[i32]) -> bool
     ensures { λ r. ⌜ r ≡ allSamples (now (samples .entry)) ⌝ }
 {
-    let mut least = 0;
-    let mut greatest = 0;
+    let mut joined = 0u16;
     let mut i = 0;
     while i < samples.len() {
-        let x = samples[i];
-        least = lesser(least, x);
-        greatest = greater(greatest, x);
+        joined = joined | upper(samples[i]);
         i += 1;
     }
-    inside(least, greatest)
+    joined < 256
 }

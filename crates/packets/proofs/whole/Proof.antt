@@ -1,10 +1,19 @@
--- `packets::whole` meets its contract: the header holds the total, so the header and the slice's length decide.
+-- `packets::whole` meets its contract: a packet has four leading bytes, and the header holds the total, so the header and
+-- the slice's length decide.
 use mathlib.Core.Path.{_∙_}
 use denote.Ref.{now}
-use Rattle.packets.proofs.Forms.{whole-there, whole-not}
+use Rattle.packets.proofs.Forms.{whole-short, whole-there, whole-not}
 use borrow.Author.Needs.{needs}
 use Rattle.packets.proofs.whole.Statement.{statement}
 use Rattle.packets.proofs.whole.Tie as tie
+
+no-form-requires : tie.Need-no-form-requires
+no-form-requires c κs = search needs
+
+returns : tie.Need-returns
+returns c =
+    let t = c .before in
+    c .no-form .ensures ∙ whole-short (now (t .before .before .args .packet)) (t .if1 .taken)
 
 two-at-requires : tie.Need-two-at-requires
 two-at-requires c κs = search needs
@@ -12,33 +21,35 @@ two-at-requires c κs = search needs
 length-in-requires : tie.Need-length-in-requires
 length-in-requires c κs = search needs
 
-cast-if1 : tie.Need-cast-if1
-cast-if1 c = search needs
+cast-if2 : tie.Need-cast-if2
+cast-if2 c = search needs
 
 form-of-header-requires : tie.Need-form-of-header-requires
 form-of-header-requires c κs = search needs
 
-returns : tie.Need-returns
-returns c =
-    let l = c .before .before in
-    whole-there (now (l .before .before .before .args .packet)) _ _ _ (l .before .two-at .ensures) (l .length-in .ensures) (c .before .if1 .taken) (c .form-of-header .ensures)
-
-no-form-requires : tie.Need-no-form-requires
-no-form-requires c κs = search needs
-
 returns-2 : tie.Need-returns-2
 returns-2 c =
     let l = c .before .before in
-    c .no-form .ensures ∙ whole-not (now (l .before .before .before .args .packet)) _ _ (l .before .two-at .ensures) (l .length-in .ensures) (c .before .if1 .left)
+    whole-there (now (l .before .before .before .before .args .packet)) _ _ _ (l .before .two-at .ensures) (l .length-in .ensures) (c .before .if2 .taken) (c .form-of-header .ensures)
+
+no-form-requires-2 : tie.Need-no-form-requires-2
+no-form-requires-2 c κs = search needs
+
+returns-3 : tie.Need-returns-3
+returns-3 c =
+    let l = c .before .before in
+    c .no-form2 .ensures ∙ whole-not (now (l .before .before .before .before .args .packet)) _ _ (l .before .two-at .ensures) (l .length-in .ensures) (c .before .if2 .left)
 
 pub whole-spec : {M : Type 1} → statement M
 whole-spec =
     tie.close
     (tie.spec
+    no-form-requires
+    returns
     two-at-requires
     length-in-requires
-    cast-if1
+    cast-if2
     form-of-header-requires
-    returns
-    no-form-requires
-    returns-2)
+    returns-2
+    no-form-requires-2
+    returns-3)

@@ -1,41 +1,36 @@
--- `samples::fitting::all_fit` meets its contract. The loop's invariant: the least and the greatest of those passed lie
--- inside, and the rest are samples, exactly if all are samples.
+-- `samples::fitting::all_fit` meets its contract. The loop's invariant: what was joined is below 256 and the rest are samples,
+-- exactly if all are samples.
 use Prim.Native.Nat.{_≤_, _-_}
 use mathlib.Core.Path.{_≡_, refl, _∙_}
 use mathlib.Core.Bool.{_&&_}
 use native.Mathlib.Omega.{arith}
 use borrow.Author.Needs.{needs, sfits-of}
-use lib.ListN.{length, drop}
 use denote.Ref.{now}
-use mir.Syntax.{w32}
-use mir.Val.{toZ}
+use lib.Dec.{ltb}
+use lib.ListN.{length, drop}
 use mir.Facts.{toZ-ofZ}
 use Rattle.packets.specs.Samples.{allSamples}
-use Rattle.samples.proofs.Extent.{insideOf, look-turn, look-end}
+use Rattle.samples.proofs.Extent.{look-turn, look-end}
 use Rattle.samples.proofs.fitting.all_fit.Statement.{statement}
 use Rattle.samples.proofs.fitting.all_fit.Tie as tie
 
 abbrev Inv-loop : tie.InvT-loop
-Inv-loop samples least₀ greatest₀ i₀ least greatest i =
-    (i ≤ length samples) × (insideOf (toZ w32 least) (toZ w32 greatest) && allSamples (drop i samples) ≡ allSamples samples)
+Inv-loop samples joined₀ i₀ joined i = (i ≤ length samples) × (ltb joined 256 && allSamples (drop i samples) ≡ allSamples samples)
 
 abbrev μ-loop : tie.MeasureT-loop
-μ-loop samples least₀ greatest₀ i₀ least greatest i = length samples - i
+μ-loop samples joined₀ i₀ joined i = length samples - i
 
 loop-holds : tie.Need-loop-holds Inv-loop μ-loop
 loop-holds c = (search needs, refl)
 
-mul-x : tie.Need-mul-x Inv-loop μ-loop
-mul-x c = search needs
+mul-upper : tie.Need-mul-upper Inv-loop μ-loop
+mul-upper c = search needs
 
-shared-slice-copy-out-x : tie.Need-shared-slice-copy-out-x Inv-loop μ-loop
-shared-slice-copy-out-x c = search needs
+shared-slice-copy-out-upper : tie.Need-shared-slice-copy-out-upper Inv-loop μ-loop
+shared-slice-copy-out-upper c = search needs
 
-lesser-requires : tie.Need-lesser-requires Inv-loop μ-loop
-lesser-requires c κs = tt
-
-greater-requires : tie.Need-greater-requires Inv-loop μ-loop
-greater-requires c κs = tt
+upper-requires : tie.Need-upper-requires Inv-loop μ-loop
+upper-requires c κs = tt
 
 add-i : tie.Need-add-i Inv-loop μ-loop
 add-i c = omega arith
@@ -45,34 +40,16 @@ loop-less c = omega arith
 
 loop-again : tie.Need-loop-again Inv-loop μ-loop
 loop-again c =
-    let l = c .before .before .before .before in
-    let x = c .before .before in (
+    let x = c .before in
+    let l = x .before .before in (
       omega arith,
-      rw (toZ-ofZ {z = c .before .lesser .result} (sfits-of (c .before .lesser .ok)), toZ-ofZ {z = c .greater .result} (sfits-of (c .greater .ok)))
-          (look-turn (now (l .before .args .samples)) (l .loop .i) (toZ w32 (l .loop .least)) (toZ w32 (l .loop .greatest)) _ _ _ (x .before .loop-test .taken) (toZ-ofZ (sfits-of (x .x .given))) (c .before .lesser .ensures) (c .greater .ensures) (l .loop .inv .1)),
+      look-turn (now (l .before .args .samples)) (l .loop .i) (l .loop .joined) (c .upper .result) _ (x .before .loop-test .taken) (c .upper .ensures ∙ rw (toZ-ofZ (sfits-of (x .upper-arg .given)))) (l .loop .inv .1),
     )
-
-inside-requires : tie.Need-inside-requires Inv-loop μ-loop
-inside-requires c κs = tt
 
 returns : tie.Need-returns Inv-loop μ-loop
 returns c =
-    let l = c .before .before in
-    c .inside .ensures ∙ look-end (now (l .before .args .samples)) (l .loop .i) (toZ w32 (l .loop .least)) (toZ w32 (l .loop .greatest)) (c .before .loop-test .left) (l .loop .inv .1)
+    let l = c .before in
+    look-end (now (l .before .args .samples)) (l .loop .i) (l .loop .joined) _ (c .loop-test .left) (l .loop .inv .1)
 
 pub all-fit-spec : {M : Type 1} → statement M
-all-fit-spec =
-    tie.close
-    (tie.spec
-    Inv-loop
-    μ-loop
-    loop-holds
-    mul-x
-    shared-slice-copy-out-x
-    lesser-requires
-    greater-requires
-    add-i
-    loop-less
-    loop-again
-    inside-requires
-    returns)
+all-fit-spec = tie.close (tie.spec Inv-loop μ-loop loop-holds mul-upper shared-slice-copy-out-upper upper-requires add-i loop-less loop-again returns)

@@ -1,38 +1,61 @@
--- `samples::packing::code16` meets its contract: the shift rounds towards minus infinity, and lifting by a multiple of
--- 2 ^ 16 leaves the low 16 bits as they are.
-use Prim.Native.Nat.{_<_}
-use mathlib.Core.Path.{_≡_}
+-- `samples::packing::code16` meets its contract: the shift rounds towards minus infinity, and what it leaves of a sample is
+-- lifted as in `code24`, by half a turn of 2 ^ 16.
+use Prim.Native.Nat.{_+_, _%_, _<_}
+use mathlib.Core.Path.{_≡_, refl}
 use native.Mathlib.Omega.{arith}
-use lib.IntN.{pos, _+ℤ_}
+use borrow.Author.Needs.{needs, sfits-of}
+use denote.Ref.{now}
+use lib.IntN.{ℤ, pos, _+ℤ_}
+use lib.ListN.{getD}
 use lib.Signed.{mag, shrZ}
 use mir.Syntax.{w32}
 use mir.Val.{SFits, toZ, ofZ}
 use mir.Facts.{toZ-ofZ}
-use borrow.Author.Needs.{needs}
-use Rattle.samples.proofs.Codes.{lifted, lifted-below, lift-fits, lift-is, lowered, shifted-small}
+use Rattle.packets.specs.Samples.{narrowed}
+use Rattle.samples.proofs.Codes.{lifted, lifted-below, lifted-fits, below-fits, lift-fits, lift-is, turned, sixteen-small}
+use Rattle.samples.proofs.Written.{sample-at}
 use Rattle.samples.proofs.packing.code16.Statement.{statement}
 use Rattle.samples.proofs.packing.code16.Tie as tie
 
-small : (c : tie.Start) → mag (shrZ (c .args .x) 256) < 8_388_608
-small c = shifted-small (c .args .x) (c .fits .x .sfits)
+-- the sample, and what is sent of it
+abbrev sample : tie.After-above → ℤ
+sample c = getD (now (c .before .args .samples)) (c .before .args .at) (pos 0)
 
-fits : (c : tie.Start) → SFits w32 (shrZ (c .args .x) 256)
-fits c = record { sfits = omega (arith, small c) }
+abbrev sent : tie.After-above → ℤ
+sent c = narrowed 16 (sample c)
 
-above : (c : tie.Start) → toZ w32 (ofZ w32 (toZ w32 (ofZ w32 (shrZ (toZ w32 (ofZ w32 (c .args .x))) 256)) +ℤ pos 8_388_608)) ≡ pos (lifted 8_388_608 (shrZ (c .args .x) 256))
-above c = rw (toZ-ofZ (c .fits .x)) (lift-is 8_388_608 (shrZ (c .args .x) 256) (fits c) (small c) (omega arith))
+small : (c : tie.After-above) → mag (sent c) < 32_768
+small c = sixteen-small (sample c) (sample-at (now (c .before .args .samples)) (c .before .args .at) (c .before .pre .0) (c .before .pre .1))
+
+fits : (c : tie.After-above) → SFits w32 (sent c)
+fits c = below-fits 32_768 (sent c) (small c) (omega arith)
+
+room : (c : tie.After-above) → SFits w32 (pos (lifted 32_768 (sent c)))
+room c = lifted-fits 32_768 (sent c) (small c) (omega arith)
+
+above : (c : tie.After-above) → toZ w32 (ofZ w32 (toZ w32 (ofZ w32 (shrZ (toZ w32 (ofZ w32 (sample c))) 256)) +ℤ pos 32_768)) ≡ pos (lifted 32_768 (sent c))
+above c = rw (toZ-ofZ {z = sample c} (sfits-of (c .above .given))) (lift-is w32 32_768 (sent c) (fits c) (small c) (room c))
+
+mul-above : tie.Need-mul-above
+mul-above c = search needs
+
+shared-slice-copy-out-above : tie.Need-shared-slice-copy-out-above
+shared-slice-copy-out-above c = search needs
 
 add-above : tie.Need-add-above
-add-above c = rw (toZ-ofZ (c .fits .x)) (lift-fits 8_388_608 (shrZ (c .args .x) 256) (fits c) (small c) (omega arith))
+add-above c = rw (toZ-ofZ {z = sample c} (sfits-of (c .above .given))) (lift-fits w32 32_768 (sent c) (fits c) (small c) (room c))
 
 cast-above : tie.Need-cast-above
-cast-above c = rw (above c) (tt, omega (arith, lifted-below 8_388_608 (shrZ (c .args .x) 256) (small c)))
+cast-above c = rw (above c) (tt, omega (arith, lifted-below 32_768 (sent c) (small c)))
+
+add-result : tie.Need-add-result
+add-result c = rw (above c) (omega (arith, lifted-below 32_768 (sent c) (small c)))
 
 cast-result : tie.Need-cast-result
 cast-result c = search needs
 
 returns : tie.Need-returns
-returns c = rw (above c) (lowered (shrZ (c .args .x) 256) (small c))
+returns c = rw (above c) (turned 16 32_768 refl (sent c) (small c))
 
 pub code16-spec : {M : Type 1} → statement M
-code16-spec = tie.close (tie.spec add-above cast-above cast-result returns)
+code16-spec = tie.close (tie.spec mul-above shared-slice-copy-out-above add-above cast-above add-result cast-result returns)

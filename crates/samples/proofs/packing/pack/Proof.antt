@@ -9,7 +9,7 @@ use denote.Ref.{now}
 use lib.ListN.{length}
 use Rattle.packets.specs.Forms.{listed, totalOf}
 use Rattle.packets.proofs.Forms.{is-listed-form}
-use Rattle.samples.proofs.Refusals.{other-width, room-for, whole-halves, pack-unlisted, pack-count, pack-room, pack-done}
+use Rattle.samples.proofs.Refusals.{other-width, room-for, eight-pairs, pack-unlisted, pack-count, pack-room, pack-done}
 use Rattle.samples.proofs.packing.pack.Statement.{statement}
 use Rattle.samples.proofs.packing.pack.Tie as tie
 
@@ -52,13 +52,17 @@ returns-3 c =
 room : (c : tie.Else3) → totalOf (c .before .before .before .before .before .before .before .args .f) ≤ length (now (c .before .before .before .before .before .before .before .args .packet))
 room c = rw (total (c .before)) at (c .if3 .left)
 
+-- the samples of a form are whole fours and whole sixteens, and in the packet there is room for them
 pack24-requires : tie.Need-pack24-requires
 pack24-requires c κs =
     let r = c .before .before .before in
     let u = r .before .before in
     let e = u .before .before in
     let f = e .before .before .before .args .f in
-    (omega (arith, is-listed-form f (form e) .few), room-for f 3 _ _ (ap (λ (b : ℕ). b / 8) (c .before .if4 .taken)) (u .if2 .left) (room r))
+    let n = length (now (e .before .before .before .args .samples)) in
+    let fit : 4 + 3 * n ≤ length (now (e .before .before .before .args .packet))
+    = room-for f 3 n _ (ap (λ (b : ℕ). b / 8) (c .before .if4 .taken)) (u .if2 .left) (room r) in
+    (omega (arith, eight-pairs f (form e)), omega (arith, eight-pairs f (form e)))
 
 same-length : tie.Need-same-length
 same-length c = search needs
@@ -83,7 +87,7 @@ pack16-requires c κs =
     let width = other-width f (form e) (c .before .if4 .left) in
     let fit : 4 + 2 * n ≤ length (now (e .before .before .before .args .packet))
     = room-for f 2 n _ (ap (λ (b : ℕ). b / 8) width) (u .if2 .left) (room r) in
-    (is-listed-form f (form e) .some, is-listed-form f (form e) .few, whole-halves f (form e) width, u .if2 .left, omega arith)
+    (omega (arith, eight-pairs f (form e)), omega (arith, eight-pairs f (form e)))
 
 same-length-2 : tie.Need-same-length-2
 same-length-2 c = search needs

@@ -1,42 +1,89 @@
--- `samples::packing::pack16` meets its contract: either array is long enough.
-use mathlib.Core.Path.{refl}
+-- `samples::packing::pack16` meets its contract. The loop's invariant: what is still to be stored gives the whole.
+use Prim.Native.Nat.{_+_, _*_, _-_, _≤_}
+use mathlib.Core.Path.{_≡_, refl, sym, _∙_}
+use mathlib.Core.Bool.{true, false}
+use native.Mathlib.Omega.{arith}
 use borrow.Author.Needs.{needs}
+use borrow.Author.Tests.{not-true, not-false}
+use denote.Ref.{now}
+use lib.ListN.{length, drop}
+use lib.Seq.{sets}
+use Rattle.packets.specs.Samples.{allSamples, samplesBytes}
+use Rattle.samples.proofs.Written.{pack-end}
 use Rattle.samples.proofs.packing.pack16.Statement.{statement}
 use Rattle.samples.proofs.packing.pack16.Tie as tie
 
-slice-aggregate-pack16-by : tie.Need-slice-aggregate-pack16-by
-slice-aggregate-pack16-by c = refl
+abbrev Inv-loop : tie.InvT-loop
+Inv-loop samples packet₀ blocks i₀ packet i =
+    (i ≤ blocks)
+    × (length packet ≡ length packet₀)
+    × (sets packet (4 + 2 * (16 * i)) (samplesBytes 16 (drop (16 * i) samples)) ≡ sets packet₀ 4 (samplesBytes 16 samples))
 
-pack16-by-requires : tie.Need-pack16-by-requires
-pack16-by-requires c κs = search needs
+abbrev μ-loop : tie.MeasureT-loop
+μ-loop samples packet₀ blocks i₀ packet i = blocks - i
 
-same-length : tie.Need-same-length
-same-length c = search needs
+all-fit-requires : tie.Need-all-fit-requires Inv-loop μ-loop
+all-fit-requires c κs = tt
 
-returns : tie.Need-returns
-returns c = c .before .before .before .pack16-by .ensures
+returns : tie.Need-returns Inv-loop μ-loop
+returns c =
+    let none : allSamples (now (c .before .before .before .args .samples)) ≡ false
+    = sym (c .before .all-fit .ensures) ∙ not-true _ (c .if1 .taken) in
+    (sym none, rw none)
 
-slice-aggregate-pack16-by-2 : tie.Need-slice-aggregate-pack16-by-2
-slice-aggregate-pack16-by-2 c = refl
+-- past the test all are samples
+all : (c : tie.Else1 Inv-loop μ-loop) → allSamples (now (c .before .before .before .args .samples)) ≡ true
+all c = sym (c .before .all-fit .ensures) ∙ not-false _ (c .if1 .left)
 
-pack16-by-requires-2 : tie.Need-pack16-by-requires-2
-pack16-by-requires-2 c κs = search needs
+loop-holds : tie.Need-loop-holds Inv-loop μ-loop
+loop-holds c = (omega arith, refl, refl)
 
-same-length-2 : tie.Need-same-length-2
-same-length-2 c = search needs
+mul-block16 : tie.Need-mul-block16 Inv-loop μ-loop
+mul-block16 c = omega arith
 
-returns-2 : tie.Need-returns-2
-returns-2 c = c .before .before .before .pack16-by2 .ensures
+block16-requires : tie.Need-block16-requires Inv-loop μ-loop
+block16-requires c κs = (all (c .before .before .before), omega arith, omega arith)
+
+add-i : tie.Need-add-i Inv-loop μ-loop
+add-i c = omega arith
+
+loop-less : tie.Need-loop-less Inv-loop μ-loop
+loop-less c = omega arith
+
+loop-again : tie.Need-loop-again Inv-loop μ-loop
+loop-again c =
+    let b = c .before .before in
+    let l = b .before .before .before in
+    let next : 16 * (l .loop .i + 1) ≡ 16 * l .loop .i + 16 = omega arith in (
+      omega arith,
+      b .block16 .kept .1 .0 ∙ l .loop .inv .1,
+      rw next (b .block16 .ensures ∙ l .loop .inv .2),
+    )
+
+same-length : tie.Need-same-length Inv-loop μ-loop
+same-length c = c .before .loop .inv .1
+
+returns-2 : tie.Need-returns-2 Inv-loop μ-loop
+returns-2 c =
+    let l = c .before in
+    let a = l .before .before .before .before .args in (
+      sym (all (l .before)),
+      rw (all (l .before)) (pack-end 16 (l .loop .packet) _ (now (a .samples)) (16 * l .loop .i) (omega arith) (l .loop .inv .2)),
+    )
 
 pub pack16-spec : {M : Type 1} → statement M
 pack16-spec =
     tie.close
     (tie.spec
-    slice-aggregate-pack16-by
-    pack16-by-requires
-    same-length
+    Inv-loop
+    μ-loop
+    all-fit-requires
     returns
-    slice-aggregate-pack16-by-2
-    pack16-by-requires-2
-    same-length-2
+    loop-holds
+    mul-block16
+    block16-requires
+    add-i
+    loop-less
+    loop-again
+    same-length
     returns-2)

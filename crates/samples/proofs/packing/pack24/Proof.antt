@@ -1,42 +1,143 @@
--- `samples::packing::pack24` meets its contract: either array is long enough.
-use mathlib.Core.Path.{refl}
+-- `samples::packing::pack24` meets its contract. The loop's invariant: what is still to be stored gives the whole.
+use Prim.Native.Nat.{_+_, _*_, _-_, _≤_}
+use mathlib.Core.Path.{_≡_, refl, sym, _∙_}
+use mathlib.Core.Bool.{true, false}
+use mathlib.Core.List.{[], _∷_}
+use native.Mathlib.Omega.{arith}
 use borrow.Author.Needs.{needs}
+use borrow.Author.Tests.{not-true, not-false}
+use denote.Ref.{now}
+use lib.ListN.{length, drop}
+use lib.Seq.{sets}
+use Rattle.packets.specs.Samples.{allSamples, samplesBytes}
+use Rattle.samples.proofs.Written.{pack-four, pack-end}
 use Rattle.samples.proofs.packing.pack24.Statement.{statement}
 use Rattle.samples.proofs.packing.pack24.Tie as tie
 
-slice-aggregate-pack24-by : tie.Need-slice-aggregate-pack24-by
-slice-aggregate-pack24-by c = refl
+abbrev Inv-loop : tie.InvT-loop
+Inv-loop samples packet₀ fours i₀ packet i =
+    (i ≤ fours)
+    × (length packet ≡ length packet₀)
+    × (sets packet (4 + 3 * (4 * i)) (samplesBytes 24 (drop (4 * i) samples)) ≡ sets packet₀ 4 (samplesBytes 24 samples))
 
-pack24-by-requires : tie.Need-pack24-by-requires
-pack24-by-requires c κs = search needs
+abbrev μ-loop : tie.MeasureT-loop
+μ-loop samples packet₀ fours i₀ packet i = fours - i
 
-same-length : tie.Need-same-length
-same-length c = search needs
+all-fit-requires : tie.Need-all-fit-requires Inv-loop μ-loop
+all-fit-requires c κs = tt
 
-returns : tie.Need-returns
-returns c = c .before .before .before .pack24-by .ensures
+returns : tie.Need-returns Inv-loop μ-loop
+returns c =
+    let none : allSamples (now (c .before .before .before .args .samples)) ≡ false
+    = sym (c .before .all-fit .ensures) ∙ not-true _ (c .if1 .taken) in
+    (sym none, rw none)
 
-slice-aggregate-pack24-by-2 : tie.Need-slice-aggregate-pack24-by-2
-slice-aggregate-pack24-by-2 c = refl
+-- past the test all are samples
+all : (c : tie.Else1 Inv-loop μ-loop) → allSamples (now (c .before .before .before .args .samples)) ≡ true
+all c = sym (c .before .all-fit .ensures) ∙ not-false _ (c .if1 .left)
 
-pack24-by-requires-2 : tie.Need-pack24-by-requires-2
-pack24-by-requires-2 c κs = search needs
+loop-holds : tie.Need-loop-holds Inv-loop μ-loop
+loop-holds c = (omega arith, refl, refl)
 
-same-length-2 : tie.Need-same-length-2
-same-length-2 c = search needs
+mul-code24 : tie.Need-mul-code24 Inv-loop μ-loop
+mul-code24 c = omega arith
 
-returns-2 : tie.Need-returns-2
-returns-2 c = c .before .before .before .pack24-by2 .ensures
+code24-requires : tie.Need-code24-requires Inv-loop μ-loop
+code24-requires c κs = (all (c .before .before), omega arith)
+
+mul-code24-2 : tie.Need-mul-code24-2 Inv-loop μ-loop
+mul-code24-2 c = omega arith
+
+add-code24 : tie.Need-add-code24 Inv-loop μ-loop
+add-code24 c = omega arith
+
+code24-requires-2 : tie.Need-code24-requires-2 Inv-loop μ-loop
+code24-requires-2 c κs = (all (c .before .before .before), omega arith)
+
+mul-code24-3 : tie.Need-mul-code24-3 Inv-loop μ-loop
+mul-code24-3 c = omega arith
+
+add-code24-2 : tie.Need-add-code24-2 Inv-loop μ-loop
+add-code24-2 c = omega arith
+
+code24-requires-3 : tie.Need-code24-requires-3 Inv-loop μ-loop
+code24-requires-3 c κs = (all (c .before .before .before .before), omega arith)
+
+mul-code24-4 : tie.Need-mul-code24-4 Inv-loop μ-loop
+mul-code24-4 c = omega arith
+
+add-code24-3 : tie.Need-add-code24-3 Inv-loop μ-loop
+add-code24-3 c = omega arith
+
+code24-requires-4 : tie.Need-code24-requires-4 Inv-loop μ-loop
+code24-requires-4 c κs = (all (c .before .before .before .before .before), omega arith)
+
+mul-put-four : tie.Need-mul-put-four Inv-loop μ-loop
+mul-put-four c = omega arith
+
+add-put-four : tie.Need-add-put-four Inv-loop μ-loop
+add-put-four c = omega arith
+
+put-four-requires : tie.Need-put-four-requires Inv-loop μ-loop
+put-four-requires c κs =
+    let d = c .before in
+    (omega arith, d .before .before .before .code24 .ensures .1, d .before .before .code242 .ensures .1, d .before .code243 .ensures .1, d .code244 .ensures .1)
+
+add-i : tie.Need-add-i Inv-loop μ-loop
+add-i c = omega arith
+
+loop-less : tie.Need-loop-less Inv-loop μ-loop
+loop-less c = omega arith
+
+loop-again : tie.Need-loop-again Inv-loop μ-loop
+loop-again c =
+    let p = c .before .before in
+    let d = p .before .before in
+    let l = d .before .before .before .before .before in
+    let a = l .before .before .before .before .args in (
+      omega arith,
+      p .put-four .kept .0 ∙ l .loop .inv .1,
+      rw (p .put-four .ensures)
+          (pack-four (now (a .samples)) (l .loop .packet) _ (l .loop .i) _ _ _ _ (omega arith)
+          (d .before .before .before .code24 .ensures .0) (d .before .before .code242 .ensures .0) (d .before .code243 .ensures .0) (d .code244 .ensures .0) (l .loop .inv .2)),
+    )
+
+same-length : tie.Need-same-length Inv-loop μ-loop
+same-length c = c .before .loop .inv .1
+
+returns-2 : tie.Need-returns-2 Inv-loop μ-loop
+returns-2 c =
+    let l = c .before in
+    let a = l .before .before .before .before .args in (
+      sym (all (l .before)),
+      rw (all (l .before)) (pack-end 24 (l .loop .packet) _ (now (a .samples)) (4 * l .loop .i) (omega arith) (l .loop .inv .2)),
+    )
 
 pub pack24-spec : {M : Type 1} → statement M
 pack24-spec =
     tie.close
     (tie.spec
-    slice-aggregate-pack24-by
-    pack24-by-requires
-    same-length
+    Inv-loop
+    μ-loop
+    all-fit-requires
     returns
-    slice-aggregate-pack24-by-2
-    pack24-by-requires-2
-    same-length-2
+    loop-holds
+    mul-code24
+    code24-requires
+    mul-code24-2
+    add-code24
+    code24-requires-2
+    mul-code24-3
+    add-code24-2
+    code24-requires-3
+    mul-code24-4
+    add-code24-3
+    code24-requires-4
+    mul-put-four
+    add-put-four
+    put-four-requires
+    add-i
+    loop-less
+    loop-again
+    same-length
     returns-2)

@@ -12,7 +12,8 @@ use lib.ListN.{length, drop, length-set}
 use lib.Seq.{sets}
 use mir.Facts.{toZ-ofZ}
 use Rattle.packets.specs.Samples.{samplesFrom}
-use Rattle.samples.proofs.Taken.{Holds, hold-pair, unpack-turn, unpack-end}
+use Rattle.samples.proofs.Held.{Held}
+use Rattle.samples.proofs.Taken.{StandFor, hold-pair, unpack-turn, unpack-end}
 use Rattle.samples.proofs.unpacking.block16.Statement.{statement}
 use Rattle.samples.proofs.unpacking.block16.Tie as tie
 
@@ -22,7 +23,7 @@ stored packet first out k = sets out (2 * first + k) (samplesFrom 16 (drop 4 pac
 
 abbrev Inv-loop2 : tie.InvT-loop2
 Inv-loop2 packet out first held₀ round i₀ held i =
-    (i ≤ 4 * round + 4) × (length held ≡ 64) × Holds (drop 4 packet) (2 * first) held (2 * i)
+    (i ≤ 4 * round + 4) × (length held ≡ 64) × Held (StandFor (drop 4 packet) (2 * first)) held (2 * i)
 
 abbrev μ-loop2 : tie.MeasureT-loop2
 μ-loop2 packet out first held₀ round i₀ held i = 4 * round + 4 - i
@@ -38,7 +39,7 @@ abbrev Inv-loop : tie.InvT-loop
 Inv-loop packet out₀ first held₀ round₀ out held round =
     (round ≤ 8)
     × (length held ≡ 64)
-    × Holds (drop 4 packet) (2 * first) held (8 * round)
+    × Held (StandFor (drop 4 packet) (2 * first)) held (8 * round)
     × (length out ≡ length out₀)
     × (stored packet first out (8 * round) ≡ stored packet first out₀ 0)
 
