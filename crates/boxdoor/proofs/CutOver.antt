@@ -1,6 +1,6 @@
 -- What cutting over the door comes to, from the tests that led there.
 use Prim.Native.Nat.{ℕ, _≤_, _<_}
-use mathlib.Core.Path.{_≡_, refl, ap, _∙_}
+use mathlib.Core.Path.{_≡_, refl, sym, ap, _∙_}
 use mathlib.Core.List.{List}
 use native.Mathlib.Omega.{arith}
 use borrow.Author.Tests.{eq-eqb, ne-eqb, lt-ltb, le-ltb}
@@ -10,33 +10,24 @@ use lib.IntN.{ℤ}
 use lib.ListN.{length}
 use lib.Seq.{sets}
 use Rattle.wire.specs.Choice.{pick}
-use Rattle.wire.specs.Number.{bytes, field}
-use Rattle.items.specs.declared.Settings.{Settings}
+use Rattle.wire.specs.Number.{bytes}
+use Rattle.framing.specs.declared.Store.{Store}
 use Rattle.station.specs.declared.Station.{Station}
-use Rattle.station.specs.Station.{boxOf}
 use Rattle.cutting.specs.declared.Cut.{Cut}
 use Rattle.cutting.specs.declared.CutHeld.{CutHeld}
 use Rattle.cutting.specs.Cutting.{Cutting, cuttingOf, partsOf}
 use Rattle.cutting.proofs.Ways.{each-cut, cutting-holds}
-use Rattle.boxdoor.specs.States.{settingsIn, storeIn, stationIn, settingsBytes, stationBytes}
+use Rattle.boxdoor.specs.States.{settingsIn, stationIn, settingsBytes, stationBytes}
 use Rattle.boxdoor.specs.Cutting.{cutBy, cutOver, packetOver}
 use Rattle.boxdoor.proofs.Parts.{length-part}
 use Rattle.boxdoor.proofs.Fields.{parts-stored}
+use Rattle.boxdoor.proofs.Lent.{Read, lentBox, lent-is, box-after}
 
--- Bytes of a box, which cut with its held bytes lent where they lie: what was read of the rest, and what came back.
+-- A box that cut so, and what came back.
 pub record Lent (state : List ℕ) (samples : List ℤ) (room : ℕ) : Type 0 where
-  pub settings : Settings
-  pub taken : ℕ
+  pub box : Read state
   pub back : CutHeld
-  pub long : length state ≡ 108
-  pub read : settings ≡ settingsIn state
-  pub had : taken ≡ field 100 8 state
-  pub told : back ≡ partsOf (cuttingOf (boxOf settings (midOf 36 64 state) taken) samples room .cut)
-
--- the box after it, from its parts
-box-after : (made : Cut) (r : CutHeld) (held : List ℕ) (taken : ℕ) → r ≡ partsOf made → made .station .store ≡ record { held = held; taken = taken }
-    → boxOf (r .settings) held taken ≡ made .station
-box-after made r held taken told kept = rw (told, ← kept) refl
+  pub told : back ≡ partsOf (cuttingOf (lentBox state box) samples room .cut)
 
 -- The settings are written back where the call was not refused.
 module _ (state : List ℕ) (samples : List ℤ) (room : ℕ) (l : Lent state samples room) where
@@ -45,14 +36,10 @@ module _ (state : List ℕ) (samples : List ℤ) (room : ℕ) (l : Lent state sa
 
   -- the box that cut
   abbrev lent : Station
-  lent = boxOf (l .settings) (midOf 36 64 state) (l .taken)
+  lent = lentBox state (l .box)
 
   abbrev cut : Cut
   cut = cuttingOf lent samples room .cut
-
-  lent-is : lent ≡ stationIn state
-  unfolding storeIn
-  lent-is = rw (l .read, l .had) refl
 
   answer : (after : List ℕ) → after ≡ pick (ltb (r .code) 20) (stationBytes (cut .station)) state
       → record { code = r .code; wrote = r .wrote; state = after } ≡ cutOver state samples room
@@ -60,23 +47,24 @@ module _ (state : List ℕ) (samples : List ℤ) (room : ℕ) (l : Lent state sa
   answer after e =
       rw e
       (ap (λ (k : CutHeld). record { code = k .code; wrote = k .wrote; state = pick (ltb (k .code) 20) (stationBytes (cut .station)) state }) (l .told)
-      ∙ rw (eq-eqb (length state) 108 (l .long), ← lent-is) refl)
+      ∙ rw (eq-eqb (length state) 108 (l .box .long), ← lent-is state (l .box)) refl)
 
   -- the serial stays
-  same-serial : cut .station .settings .serial ≡ l .settings .serial
-  same-serial = each-cut (λ (c : Cutting). c .cut .station .settings .serial ≡ l .settings .serial) lent samples room (λ e. refl) (λ n. refl)
+  same-serial : cut .station .settings .serial ≡ l .box .settings .serial
+  same-serial = each-cut (λ (c : Cutting). c .cut .station .settings .serial ≡ l .box .settings .serial) lent samples room (λ e. refl) (λ n. refl)
 
   serial-long : length (r .settings .serial) ≡ 8
   unfolding settingsIn
-  serial-long = rw (l .told, same-serial, l .read) (length-part 28 8 state (omega (arith, l .long)))
+  serial-long = rw (l .told, same-serial, l .box .read) (length-part 28 8 state (omega (arith, l .box .long)))
 
-  pub cut-done : (after : List ℕ) → r .code < 20 → after ≡ sets (sets state 0 (settingsBytes (r .settings))) 100 (bytes 8 (l .taken))
+  pub cut-done : (after : List ℕ) → r .code < 20 → after ≡ sets (sets state 0 (settingsBytes (r .settings))) 100 (bytes 8 (l .box .taken))
       → record { code = r .code; wrote = r .wrote; state = after } ≡ cutOver state samples room
   cut-done after low e =
+      let holds = sym (cutting-holds lent samples room) in
       answer after
       (e
-      ∙ parts-stored (r .settings) (midOf 36 64 state) state (l .taken) (l .long) serial-long refl
-      ∙ ap stationBytes (box-after cut r (midOf 36 64 state) (l .taken) (l .told) (cutting-holds lent samples room))
+      ∙ parts-stored (r .settings) (midOf 36 64 state) state (l .box .taken) (l .box .long) serial-long refl
+      ∙ ap stationBytes (box-after (cut .station) (r .settings) (midOf 36 64 state) (l .box .taken) (ap (λ (k : CutHeld). k .settings) (l .told)) (ap (λ (k : Store). k .held) holds) (ap (λ (k : Store). k .taken) holds))
       ∙ rw (lt-ltb (r .code) 20 low) refl)
 
   pub cut-refused : 20 ≤ r .code → record { code = r .code; wrote = r .wrote; state = state } ≡ cutOver state samples room
@@ -84,7 +72,7 @@ module _ (state : List ℕ) (samples : List ℤ) (room : ℕ) (l : Lent state sa
 
   pub packet-whole : (packet after : List ℕ) → after ≡ sets packet 0 (cuttingOf lent samples room .bytes) → after ≡ sets packet 0 (packetOver state samples room)
   unfolding packetOver
-  packet-whole packet after q = rw (q, eq-eqb (length state) 108 (l .long), ← lent-is) refl
+  packet-whole packet after q = rw (q, eq-eqb (length state) 108 (l .box .long), ← lent-is state (l .box)) refl
 
 -- other bytes: 21
 pub cut-broken : (state : List ℕ) (samples : List ℤ) (room : ℕ) → (length state ≡ 108 → ⊥)

@@ -10,39 +10,31 @@ use lib.Dec.{ltb}
 use lib.ListN.{length}
 use lib.Seq.{sets}
 use Rattle.wire.specs.Choice.{pick}
-use Rattle.wire.specs.Number.{bytes, field}
+use Rattle.wire.specs.Number.{bytes}
 use Rattle.wire.specs.Told.{Told}
-use Rattle.items.specs.declared.Settings.{Settings}
 use Rattle.station.specs.declared.Began.{Began}
 use Rattle.station.specs.declared.Fed.{Fed}
 use Rattle.station.specs.declared.FedHeld.{FedHeld}
 use Rattle.station.specs.declared.Station.{Station}
-use Rattle.station.specs.Station.{boxOf, valid, freshBox, tuningTold}
+use Rattle.station.specs.Station.{valid, freshBox, tuningTold}
 use Rattle.station.specs.Feeding.{Feeding, feedingOf, partsOf}
 use Rattle.framing.proofs.Leaving.{left-long}
 use Rattle.station.proofs.Kept.{serial-long}
 use Rattle.station.proofs.Valid.{valid-settings, valid-store, feeding-broken}
 use Rattle.station.proofs.Calls.{refused-returns, feeding-keeps}
-use Rattle.boxdoor.specs.States.{settingsIn, storeIn, stationIn, settingsBytes, stationBytes}
+use Rattle.boxdoor.specs.States.{stationIn, settingsBytes, stationBytes}
 use Rattle.boxdoor.specs.Feeding.{fedOver, feedOver, repliedOver, freshOver, Tuned, tuned, tunedOver}
 use Rattle.boxdoor.proofs.Parts.{length-part}
 use Rattle.boxdoor.proofs.Fields.{parts-stored, held-put}
+use Rattle.boxdoor.proofs.Lent.{Read, lentBox, lent-is, box-after}
 
--- Bytes of a box, which was fed with its held bytes lent where they lie: what was read of the rest, and what came back.
+-- A box that was fed so: its held bytes after the call, and what came back.
 pub record Lent (state host : List ℕ) (room : ℕ) : Type 0 where
-  pub settings : Settings
-  pub taken : ℕ
+  pub box : Read state
   pub held : List ℕ
   pub back : FedHeld
-  pub long : length state ≡ 108
-  pub read : settings ≡ settingsIn state
-  pub had : taken ≡ field 100 8 state
-  pub told : back ≡ partsOf (feedingOf (boxOf settings (midOf 36 64 state) taken) host room .fed)
-  pub kept : held ≡ feedingOf (boxOf settings (midOf 36 64 state) taken) host room .fed .station .store .held
-
--- the box after it, from its parts
-box-after : {fed : Fed} (f : FedHeld) (held : List ℕ) → f ≡ partsOf fed → held ≡ fed .station .store .held → boxOf (f .settings) held (f .taken) ≡ fed .station
-box-after f held told kept = rw (told, kept) refl
+  pub told : back ≡ partsOf (feedingOf (lentBox state box) host room .fed)
+  pub kept : held ≡ feedingOf (lentBox state box) host room .fed .station .store .held
 
 -- All but the held bytes is written back where the call was not refused.
 module _ (state host : List ℕ) (room : ℕ) (l : Lent state host room) where
@@ -51,14 +43,10 @@ module _ (state host : List ℕ) (room : ℕ) (l : Lent state host room) where
 
   -- the box that was fed
   abbrev lent : Station
-  lent = boxOf (l .settings) (midOf 36 64 state) (l .taken)
+  lent = lentBox state (l .box)
 
   abbrev fed : Fed
   fed = feedingOf lent host room .fed
-
-  lent-is : lent ≡ stationIn state
-  unfolding storeIn
-  lent-is = rw (l .read, l .had) refl
 
   answer : (after : List ℕ) → after ≡ pick (ltb (f .code) 20) (stationBytes (fed .station)) state
       → record { code = f .code; consumed = f .consumed; wrote = f .wrote; state = after } ≡ feedOver state host room
@@ -66,7 +54,7 @@ module _ (state host : List ℕ) (room : ℕ) (l : Lent state host room) where
   answer after e =
       rw e
       (ap (λ (k : FedHeld). record { code = k .code; consumed = k .consumed; wrote = k .wrote; state = pick (ltb (k .code) 20) (stationBytes (fed .station)) state }) (l .told)
-      ∙ rw (eq-eqb (length state) 108 (l .long), ← lent-is) refl)
+      ∙ rw (eq-eqb (length state) 108 (l .box .long), ← lent-is state (l .box)) refl)
 
   -- a box that was not refused was a valid one, and still is
   still-valid : f .code < 20 → valid (fed .station) ≡ true
@@ -85,11 +73,11 @@ module _ (state host : List ℕ) (room : ℕ) (l : Lent state host room) where
       let serial : length (f .settings .serial) ≡ 8 = rw (l .told) (serial-long (fed .station .settings) (valid-settings (fed .station .settings) (fed .station .store) (still-valid low))) in
       let many : length (l .held) ≡ 64 = rw (l .kept) (left-long (fed .station .store) (valid-store (fed .station .settings) (fed .station .store) (still-valid low))) in
       let part : length (midOf 36 64 state) ≡ 64 = length-part 36 64 state (omega arith) in
-      let size : length (putMid 36 64 state (l .held)) ≡ 108 = same-len-mid 36 64 state (l .held) (many ∙ sym part) ∙ l .long in
+      let size : length (putMid 36 64 state (l .held)) ≡ 108 = same-len-mid 36 64 state (l .held) (many ∙ sym part) ∙ l .box .long in
       answer after
       (e
-      ∙ parts-stored (f .settings) (l .held) (putMid 36 64 state (l .held)) (f .taken) size serial (held-put state (l .held) (l .long) many)
-      ∙ ap stationBytes (box-after f (l .held) (l .told) (l .kept))
+      ∙ parts-stored (f .settings) (l .held) (putMid 36 64 state (l .held)) (f .taken) size serial (held-put state (l .held) (l .box .long) many)
+      ∙ ap stationBytes (box-after (fed .station) (f .settings) (l .held) (f .taken) (ap (λ (k : FedHeld). k .settings) (l .told)) (l .kept) (ap (λ (k : FedHeld). k .taken) (l .told)))
       ∙ rw (lt-ltb (f .code) 20 low) refl)
 
   pub feed-refused : 20 ≤ f .code
@@ -101,7 +89,7 @@ module _ (state host : List ℕ) (room : ℕ) (l : Lent state host room) where
 
   pub replied-whole : (reply after : List ℕ) → after ≡ sets reply 0 (feedingOf lent host room .bytes) → after ≡ sets reply 0 (repliedOver state host room)
   unfolding repliedOver
-  replied-whole reply after q = rw (q, eq-eqb (length state) 108 (l .long), ← lent-is) refl
+  replied-whole reply after q = rw (q, eq-eqb (length state) 108 (l .box .long), ← lent-is state (l .box)) refl
 
 -- other bytes: 21
 pub feed-broken : (state host : List ℕ) (room : ℕ) → (length state ≡ 108 → ⊥)

@@ -1,4 +1,5 @@
 pub mod Parts
 pub mod Fields
+pub mod Lent
 pub mod Fed
 pub mod CutOver

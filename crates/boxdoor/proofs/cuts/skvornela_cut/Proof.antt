@@ -23,12 +23,15 @@ start k = whole k .before .before .before
 lent : (k : tie.After-cut-held) → Lent (now (start k .args .state)) (now (start k .args .samples)) (length (now (start k .args .packet)))
 lent k =
     record {
-      settings = settings k .settings-of .result;
-      taken = count k .taken-of .result;
+      box =
+          record {
+            settings = settings k .settings-of .result;
+            taken = count k .taken-of .result;
+            long = whole k .if1 .taken;
+            read = settings k .settings-of .ensures;
+            had = count k .taken-of .ensures;
+          };
       back = k .cut-held .result;
-      long = whole k .if1 .taken;
-      read = settings k .settings-of .ensures;
-      had = count k .taken-of .ensures;
       told = k .cut-held .ensures .0;
     }
 

@@ -23,13 +23,16 @@ start f = whole f .before .before .before .before
 lent : (f : tie.After-feed-held) → Lent (now (start f .args .state)) (now (start f .args .host)) (length (now (start f .args .reply)))
 lent f =
     record {
-      settings = settings f .settings-of .result;
-      taken = count f .taken-of .result;
+      box =
+          record {
+            settings = settings f .settings-of .result;
+            taken = count f .taken-of .result;
+            long = whole f .if1 .taken;
+            read = settings f .settings-of .ensures;
+            had = count f .taken-of .ensures;
+          };
       held = f .feed-held .last .1 .0;
       back = f .feed-held .result;
-      long = whole f .if1 .taken;
-      read = settings f .settings-of .ensures;
-      had = count f .taken-of .ensures;
       told = f .feed-held .ensures .0;
       kept = f .feed-held .ensures .1;
     }
