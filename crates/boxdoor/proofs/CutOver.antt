@@ -17,13 +17,13 @@ use Rattle.cutting.specs.declared.Cut.{Cut}
 use Rattle.cutting.specs.declared.CutHeld.{CutHeld}
 use Rattle.cutting.specs.Cutting.{Cutting, cuttingOf, partsOf}
 use Rattle.cutting.proofs.Ways.{each-cut, cutting-holds}
-use Rattle.boxdoor.specs.States.{settingsIn, stationIn, settingsBytes, stationBytes}
+use Rattle.boxdoor.specs.States.{settingsIn, settingsBytes, stationBytes}
 use Rattle.boxdoor.specs.Cutting.{cutBy, cutOver, packetOver}
 use Rattle.boxdoor.proofs.Parts.{length-part}
 use Rattle.boxdoor.proofs.Fields.{parts-stored}
 use Rattle.boxdoor.proofs.Lent.{Read, lentBox, lent-is, box-after}
 
--- A box that cut so, and what came back.
+-- A box whose held bytes were lent (proofs/Lent), and which cut: what came back.
 pub record Lent (state : List ℕ) (samples : List ℤ) (room : ℕ) : Type 0 where
   pub box : Read state
   pub back : CutHeld

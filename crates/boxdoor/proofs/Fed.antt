@@ -28,7 +28,7 @@ use Rattle.boxdoor.proofs.Parts.{length-part}
 use Rattle.boxdoor.proofs.Fields.{parts-stored, held-put}
 use Rattle.boxdoor.proofs.Lent.{Read, lentBox, lent-is, box-after}
 
--- A box that was fed so: its held bytes after the call, and what came back.
+-- A box whose held bytes were lent (proofs/Lent), and which was fed: those bytes after the call, and what came back.
 pub record Lent (state host : List ℕ) (room : ℕ) : Type 0 where
   pub box : Read state
   pub held : List ℕ

@@ -1,4 +1,5 @@
--- A box over the door: its held bytes are lent where they lie; the rest is read out before a call, and written back after it.
+-- A box over the door: its held bytes are lent where they lie; the rest is read out before a call, and written back after it,
+-- unless the call was refused.
 use Prim.Native.Nat.{ℕ}
 use mathlib.Core.Path.{_≡_, refl}
 use mathlib.Core.List.{List}
@@ -26,7 +27,7 @@ pub lent-is : (state : List ℕ) (b : Read state) → lentBox state b ≡ statio
 unfolding storeIn
 lent-is state b = rw (b .read, b .had) refl
 
--- the box after it, from its parts
+-- a box, from its parts
 pub box-after : (s : Station) (settings : Settings) (held : List ℕ) (taken : ℕ) → settings ≡ s .settings → held ≡ s .store .held → taken ≡ s .store .taken
     → boxOf settings held taken ≡ s
 box-after s settings held taken set kept count = rw (set, kept, count) refl

@@ -1,6 +1,6 @@
 -- The table of packet forms agrees, row by row, with width and pair count, and what every listed form satisfies, so that no
 -- later proof over forms goes by the four rows. Assumes nothing.
-use Prim.Native.Nat.{ℕ, _*_, _/_, _^_, _≤_, _<_}
+use Prim.Native.Nat.{ℕ, _/_, _^_, _≤_, _<_}
 use mathlib.Core.Path.{_≡_, refl, sym, ap, _∙_}
 use mathlib.Core.Logic.{_⊎_, inl, inr, ⊎-elim}
 use mathlib.Core.Bool.{Bool, true, false, _&&_, _||_}
@@ -96,7 +96,6 @@ pub record Listed (f : Form) : Type 0 where
   pub width : (f .bits ≡ 24) ⊎ (f .bits ≡ 16)
   -- a sample is whole bytes
   pub bytewise : 2 ^ (f .bits) ≡ 256 ^ (f .bits / 8)
-  pub eights : f .bits / 8 * 8 ≡ f .bits
   pub wide : 8 ≤ f .bits
   pub narrow : f .bits ≤ 24
   pub some : 1 ≤ f .pairs
@@ -115,7 +114,6 @@ is-listed-form f l =
           ⊎-elim (λ w. inl (eqb-true (f .bits) 24 w)) (λ w. inr (eqb-true (f .bits) 16 w))
           (or-either _ _ (of-listed (λ g. eqb (g .bits) 24 || eqb (g .bits) 16) refl f l));
       bytewise = eqb-true _ _ (of-listed (λ g. eqb (2 ^ (g .bits)) (256 ^ (g .bits / 8))) refl f l);
-      eights = eqb-true _ _ (of-listed (λ g. eqb (g .bits / 8 * 8) (g .bits)) refl f l);
       wide = leb-true _ _ (of-listed (λ g. leb 8 (g .bits)) refl f l);
       narrow = leb-true _ _ (of-listed (λ g. leb (g .bits) 24) refl f l);
       some = leb-true _ _ (of-listed (λ g. leb 1 (g .pairs)) refl f l);

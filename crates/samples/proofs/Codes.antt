@@ -1,6 +1,7 @@
--- Two's complement without a branch: a number lifted by half a turn, which makes it whole, and by half a turn more.
+-- Two's complement without a branch: a number lifted by half a turn, which makes it whole, and by half a turn more. (Joined
+-- lifts by more.)
 -- Assumes nothing.
-use Prim.Native.Nat.{ℕ, zero, suc, _+_, _*_, _-_, _%_, _^_, _≤_, _<_}
+use Prim.Native.Nat.{ℕ, zero, suc, _+_, _-_, _%_, _^_, _≤_, _<_}
 use mathlib.Core.Path.{_≡_, refl, ap, _∙_}
 use mathlib.Core.Bool.{true}
 use native.Mathlib.Nat.{div-one, add-mod-right, mod-eq-of-lt, mod-eq-sub-mod}
@@ -38,12 +39,19 @@ module _ (w : Width) (h : ℕ) (z : ℤ) (fits : SFits w z) (l : mag z < h) (roo
   pub lift-is : toZ w (ofZ w (toZ w (ofZ w z) +ℤ pos h)) ≡ pos (lifted h z)
   lift-is = toZ-ofZ lift-fits ∙ rw (toZ-ofZ fits) (lift h z l)
 
--- a number below half a turn of at most 24 bits fits, and so does it lifted
-pub below-fits : (h : ℕ) (z : ℤ) → mag z < h → h ≤ 8_388_608 → SFits w32 z
-below-fits h z l small = record { sfits = omega arith }
+-- the same of a number below half a turn of at most 24 bits
+module _ (h : ℕ) (z : ℤ) (l : mag z < h) (small : h ≤ 8_388_608) where
+  itself-fits : SFits w32 z
+  itself-fits = record { sfits = omega arith }
 
-pub lifted-fits : (h : ℕ) (z : ℤ) → mag z < h → h ≤ 8_388_608 → SFits w32 (pos (lifted h z))
-lifted-fits h z l small = record { sfits = omega (arith, lifted-below h z l) }
+  lifted-fits : SFits w32 (pos (lifted h z))
+  lifted-fits = record { sfits = omega (arith, lifted-below h z l) }
+
+  pub half-fits : SFits w32 (toZ w32 (ofZ w32 z) +ℤ pos h)
+  half-fits = lift-fits w32 h z itself-fits l lifted-fits
+
+  pub half-is : toZ w32 (ofZ w32 (toZ w32 (ofZ w32 z) +ℤ pos h)) ≡ pos (lifted h z)
+  half-is = lift-is w32 h z itself-fits l lifted-fits
 
 -- half a turn more, and the whole turns off: the k bits that stand for z
 pub turned : (k h : ℕ) → 2 ^ k ≡ h + h → (z : ℤ) → mag z < h → (lifted h z + h) % (h + h) ≡ coded k z

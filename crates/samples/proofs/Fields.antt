@@ -1,7 +1,8 @@
 -- Fields of a few bytes, as sums and as parts of each other. Assumes nothing.
-use Prim.Native.Nat.{ℕ, _+_, _*_, _/_, _%_, _≤_, _<_}
+use Prim.Native.Nat.{ℕ, zero, suc, _+_, _*_, _/_, _%_, _^_, _≤_, _<_}
 use mathlib.Core.Path.{_≡_, refl, ap, _∙_}
-use mathlib.Core.List.{List, [], _∷_, _++_}
+use mathlib.Core.List.{List, _∷_, _++_}
+use native.Mathlib.Nat.{zero-add, suc-add, mul-assoc}
 use native.Mathlib.Omega.{arith}
 use native.Mathlib.Numerals.{add-one}
 use lib.ListN.{length, getD, take, drop}
@@ -29,54 +30,41 @@ field-halves s at small h =
     let one : field (at + 1) 1 s ≡ getD s (at + 1) 0 + 256 * field (at + 2) 0 s = field-on s at 1 0 (omega arith) in
     (omega (arith, small at, small (at + 1)), omega (arith, small at, small (at + 1)))
 
--- the four bytes of a word are the two of its lower and the two of its upper half
-pub bytes-pair : (a b : ℕ) → a < 65_536 → bytes 4 (a + 65_536 * b) ≡ bytes 2 a ++ (bytes 2 b ++ [])
-bytes-pair a b h =
-    let low : (a + 65_536 * b) % 256 ≡ a % 256 = omega arith in
-    let half : (a + 65_536 * b) / 256 ≡ a / 256 + 256 * b = omega arith in
-    let next : (a / 256 + 256 * b) % 256 ≡ a / 256 % 256 = omega arith in
-    let high : (a / 256 + 256 * b) / 256 ≡ b = omega arith in
-    rw (low, half, next, high)
+-- ---- numbers side by side in one word
 
--- the twelve bytes of three words are the three of each of four numbers of 24 bits
-lowest-word : (a b : ℕ) → a < 16_777_216 → bytes 4 (a + 16_777_216 * (b % 256)) ≡ bytes 3 a ++ (b % 256 ∷ [])
-lowest-word a b h =
-    let low : (a + 16_777_216 * (b % 256)) % 256 ≡ a % 256 = omega arith in
-    let two : (a + 16_777_216 * (b % 256)) / 256 ≡ a / 256 + 65_536 * (b % 256) = omega arith in
-    let next : (a / 256 + 65_536 * (b % 256)) % 256 ≡ a / 256 % 256 = omega arith in
-    let three : (a / 256 + 65_536 * (b % 256)) / 256 ≡ a / 256 / 256 + 256 * (b % 256) = omega arith in
-    let last : (a / 256 / 256 + 256 * (b % 256)) % 256 ≡ a / 256 / 256 % 256 = omega arith in
-    let four : (a / 256 / 256 + 256 * (b % 256)) / 256 ≡ b % 256 = omega arith in
-    let byte : b % 256 % 256 ≡ b % 256 = omega arith in
-    rw (low, two, next, three, last, four, byte)
+-- m bytes, and n more
+bytes-join : (m n a b : ℕ) → a < 256 ^ m → bytes (m + n) (a + 256 ^ m * b) ≡ bytes m a ++ bytes n b
+bytes-join zero n a b h =
+    let same : a + 256 ^ 0 * b ≡ b = omega arith in
+    rw (zero-add n, same) refl
+bytes-join (suc m) n a b h =
+    let power : 256 ^ suc m ≡ 256 * 256 ^ m = omega arith in
+    let turn : 256 ^ suc m * b ≡ 256 * (256 ^ m * b) = ap (λ (k : ℕ). k * b) power ∙ mul-assoc 256 (256 ^ m) b in
+    let low : (a + 256 ^ suc m * b) % 256 ≡ a % 256 = omega arith in
+    let rest : (a + 256 ^ suc m * b) / 256 ≡ a / 256 + 256 ^ m * b = omega arith in
+    let small : a / 256 < 256 ^ m = omega arith in
+    rw (suc-add m n, low, rest) (ap (λ (l : List ℕ). a % 256 ∷ l) (bytes-join m n (a / 256) b small))
 
-low-byte : (c : ℕ) → c % 65_536 / 256 % 256 ≡ c / 256 % 256
-low-byte c =
+-- two numbers of 16 bits in a word
+pub bytes-pair : (a b : ℕ) → a < 65_536 → bytes 4 (a + 65_536 * b) ≡ bytes 2 a ++ bytes 2 b
+bytes-pair a b h = bytes-join 2 2 a b h
+
+second-byte : (c : ℕ) → c % 65_536 / 256 % 256 ≡ c / 256 % 256
+second-byte c =
     let low : c % 65_536 ≡ c % 256 + 256 * (c / 256 % 256) = omega arith in
     omega arith
 
-middle-word : (b c : ℕ) → b < 16_777_216 → bytes 4 (b / 256 + 65_536 * (c % 65_536)) ≡ b / 256 % 256 ∷ b / 256 / 256 % 256 ∷ c % 256 ∷ c / 256 % 256 ∷ []
-middle-word b c h =
-    let low : (b / 256 + 65_536 * (c % 65_536)) % 256 ≡ b / 256 % 256 = omega arith in
-    let two : (b / 256 + 65_536 * (c % 65_536)) / 256 ≡ b / 256 / 256 + 256 * (c % 65_536) = omega arith in
-    let next : (b / 256 / 256 + 256 * (c % 65_536)) % 256 ≡ b / 256 / 256 % 256 = omega arith in
-    let three : (b / 256 / 256 + 256 * (c % 65_536)) / 256 ≡ c % 65_536 = omega arith in
-    let third : c % 65_536 % 256 ≡ c % 256 = omega arith in
-    rw (low, two, next, three, third, low-byte c)
-
-highest-word : (c d : ℕ) → c < 16_777_216 → bytes 4 (c / 65_536 + 256 * d) ≡ c / 256 / 256 % 256 ∷ bytes 3 d
-highest-word c d h =
-    let upper : c / 65_536 ≡ c / 256 / 256 = omega arith in
-    let low : (c / 256 / 256 + 256 * d) % 256 ≡ c / 256 / 256 % 256 = omega arith in
-    let rest : (c / 256 / 256 + 256 * d) / 256 ≡ d = omega arith in
-    rw (upper, low, rest)
-
+-- four numbers of 24 bits in three words
 pub bytes-four : (a b c d : ℕ) → a < 16_777_216 → b < 16_777_216 → c < 16_777_216
     → (bytes 4 (a + 16_777_216 * (b % 256)) ++ bytes 4 (b / 256 + 65_536 * (c % 65_536))) ++ bytes 4 (c / 65_536 + 256 * d)
-    ≡ bytes 3 a ++ (bytes 3 b ++ (bytes 3 c ++ (bytes 3 d ++ [])))
+    ≡ bytes 3 a ++ (bytes 3 b ++ (bytes 3 c ++ bytes 3 d))
 bytes-four a b c d ha hb hc =
-    let one = bytes 3 a ++ (b % 256 ∷ []) in
-    let three = bytes 4 (c / 65_536 + 256 * d) in
-    ap (λ (l : List ℕ). (l ++ bytes 4 (b / 256 + 65_536 * (c % 65_536))) ++ three) (lowest-word a b ha)
-    ∙ ap (λ (l : List ℕ). (one ++ l) ++ three) (middle-word b c hb)
-    ∙ ap (λ (l : List ℕ). (one ++ (b / 256 % 256 ∷ b / 256 / 256 % 256 ∷ c % 256 ∷ c / 256 % 256 ∷ [])) ++ l) (highest-word c d hc)
+    let middle = bytes 4 (b / 256 + 65_536 * (c % 65_536)) in
+    let last = bytes 4 (c / 65_536 + 256 * d) in
+    let first-byte : b % 256 % 256 ≡ b % 256 = omega arith in
+    let low-byte : c % 65_536 % 256 ≡ c % 256 = omega arith in
+    let high-byte : c / 65_536 ≡ c / 256 / 256 = omega arith in
+    ap (λ (l : List ℕ). (l ++ middle) ++ last) (bytes-join 3 1 a (b % 256) ha)
+    ∙ ap (λ (l : List ℕ). ((bytes 3 a ++ bytes 1 (b % 256)) ++ l) ++ last) (bytes-join 2 2 (b / 256) (c % 65_536) (omega arith))
+    ∙ ap (λ (l : List ℕ). ((bytes 3 a ++ bytes 1 (b % 256)) ++ (bytes 2 (b / 256) ++ bytes 2 (c % 65_536))) ++ l) (bytes-join 1 3 (c / 65_536) d (omega arith))
+    ∙ rw (first-byte, low-byte, second-byte c, high-byte) refl

@@ -1,7 +1,7 @@
 pub mod Codes
-pub mod Extent
 pub mod Fields
 pub mod Held
+pub mod Joined
 pub mod Refusals
 pub mod RoundTrip
 pub mod Taken

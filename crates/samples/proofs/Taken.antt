@@ -66,7 +66,7 @@ unpack-end bits s out whole i n h done =
 
 -- ---- 16-bit numbers held for a while
 
--- the numbers held stand for the samples from one on
+-- the number held at place j stands for the sample at `from + j`
 abbrev pub StandFor : List ℕ → ℕ → ℕ → ℕ → Type 0
 StandFor s from j v = signed 16 v ≡ sampleAt 16 s (from + j)
 

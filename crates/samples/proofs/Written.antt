@@ -2,13 +2,13 @@
 use Prim.Native.Nat.{ℕ, zero, suc, _+_, _*_, _/_, _≤_, _<_}
 use mathlib.Core.Path.{_≡_, refl, sym, ap, _∙_}
 use mathlib.Core.Bool.{true}
-use mathlib.Core.List.{List, [], _∷_, _++_}
-use native.Mathlib.Nat.{add-zero, mul-suc, mul-zero}
+use mathlib.Core.List.{List, [], _∷_, _++_, append-assoc}
+use native.Mathlib.Nat.{mul-add, mul-suc, mul-zero}
 use native.Mathlib.Numerals.{add-one}
 use native.Mathlib.Omega.{arith}
 use lib.IntN.{ℤ, pos}
-use lib.ListN.{length, getD, drop, length-append, drop-of-length-le}
-use lib.Seq.{drop-cons, sets}
+use lib.ListN.{length, getD, take, drop, length-append, length-take, length-drop, drop-of-length-le}
+use lib.Seq.{sets, drop-cons, drop-drop, getD-take, getD-drop}
 use Rattle.wire.specs.Number.{bytes}
 use Rattle.wire.specs.Signed.{coded}
 use Rattle.wire.proofs.Laws.{and-left, and-right}
@@ -30,72 +30,76 @@ length-samples bits (z ∷ zs) =
     rw (length-append (sampleBytes bits z) (samplesBytes bits zs), length-bytes (bits / 8) (coded bits (narrowed bits z)), length-samples bits zs, mul-suc (bits / 8) (length zs))
     (omega arith)
 
--- One turn: the i-th sample is stored, and what is still to be stored gives the whole.
-pub pack-turn : (bits : ℕ) (l whole : List ℕ) (zs : List ℤ) (i v : ℕ) → i < length zs → v ≡ coded bits (narrowed bits (getD zs i (pos 0)))
-    → sets l (4 + bits / 8 * i) (samplesBytes bits (drop i zs)) ≡ whole
-    → sets (sets l (4 + bits / 8 * i) (bytes (bits / 8) v)) (4 + bits / 8 * (i + 1)) (samplesBytes bits (drop (i + 1) zs)) ≡ whole
-pack-turn bits l whole zs i v h is done =
-    let z = getD zs i (pos 0) in
-    let rest : drop i zs ≡ z ∷ drop (i + 1) zs = rw add-one (drop-cons zs i (pos 0) h) in
-    let next : 4 + bits / 8 * (i + 1) ≡ 4 + bits / 8 * i + length (bytes (bits / 8) v) = rw (length-bytes (bits / 8) v, add-one i, mul-suc (bits / 8) i) (omega arith) in
-    rw (next, sets-append l (4 + bits / 8 * i) (bytes (bits / 8) v) (samplesBytes bits (drop (i + 1) zs)), is) (rw rest at done)
+-- ---- storing a part, after which what is still to be stored gives the whole
 
--- Many turns at once: the numbers sent of the samples from the i-th on, and their bytes.
-abbrev pub Sent : ℕ → List ℤ → ℕ → List ℕ → Type 0
-Sent bits zs i [] = Unit {0}
-Sent bits zs i (v ∷ vs) = (v ≡ coded bits (narrowed bits (getD zs i (pos 0)))) × Sent bits zs (i + 1) vs
+samples-split : (bits k : ℕ) (zs : List ℤ) → samplesBytes bits (take k zs) ++ samplesBytes bits (drop k zs) ≡ samplesBytes bits zs
+samples-split bits zero zs = refl
+samples-split bits (suc k) [] = refl
+samples-split bits (suc k) (z ∷ zs) =
+    append-assoc (sampleBytes bits z) (samplesBytes bits (take k zs)) (samplesBytes bits (drop k zs))
+    ∙ ap (λ (l : List ℕ). sampleBytes bits z ++ l) (samples-split bits k zs)
 
-abbrev pub codesBytes : ℕ → List ℕ → List ℕ
-codesBytes n [] = []
-codesBytes n (v ∷ vs) = bytes n v ++ codesBytes n vs
+-- k samples from the i-th on
+pub pack-part : (bits at k i : ℕ) (zs : List ℤ) (l whole : List ℕ) → i + k ≤ length zs
+    → sets l (at + bits / 8 * i) (samplesBytes bits (drop i zs)) ≡ whole
+    → sets (sets l (at + bits / 8 * i) (samplesBytes bits (take k (drop i zs)))) (at + bits / 8 * (i + k)) (samplesBytes bits (drop (i + k) zs)) ≡ whole
+pack-part bits at k i zs l whole h done =
+    let part = samplesBytes bits (take k (drop i zs)) in
+    let count : length (take k (drop i zs)) ≡ k = simp (length-take, length-drop) (omega arith) in
+    let long : length part ≡ bits / 8 * k = length-samples bits (take k (drop i zs)) ∙ ap (λ (n : ℕ). bits / 8 * n) count in
+    let next : at + bits / 8 * (i + k) ≡ at + bits / 8 * i + length part = rw (long, mul-add (bits / 8) i k) (omega arith) in
+    rw (next, ← drop-drop k i zs, sets-append l (at + bits / 8 * i) part (samplesBytes bits (drop k (drop i zs))), samples-split bits k (drop i zs)) done
 
-pub pack-turns : (bits : ℕ) (whole : List ℕ) (zs : List ℤ) (vs l : List ℕ) (i : ℕ) → i + length vs ≤ length zs → Sent bits zs i vs
-    → sets l (4 + bits / 8 * i) (samplesBytes bits (drop i zs)) ≡ whole
-    → sets (sets l (4 + bits / 8 * i) (codesBytes (bits / 8) vs)) (4 + bits / 8 * (i + length vs)) (samplesBytes bits (drop (i + length vs) zs)) ≡ whole
-pack-turns bits whole zs [] l i h sent done = rw (add-zero i) done
-pack-turns bits whole zs (v ∷ vs) l i h sent done =
-    let b = bytes (bits / 8) v in
-    let all : i + length (v ∷ vs) ≡ i + 1 + length vs = omega arith in
-    let next : 4 + bits / 8 * i + length b ≡ 4 + bits / 8 * (i + 1) = rw (length-bytes (bits / 8) v, add-one i, mul-suc (bits / 8) i) (omega arith) in
-    rw (all, ← sets-append l (4 + bits / 8 * i) b (codesBytes (bits / 8) vs), next)
-    (pack-turns bits whole zs vs (sets l (4 + bits / 8 * i) b) (i + 1) (omega arith) (sent .1)
-    (pack-turn bits l whole zs i v (omega arith) (sent .0) done))
+-- all is stored
+pub pack-end : (bits at : ℕ) (l whole : List ℕ) (zs : List ℤ) (i : ℕ) → length zs ≤ i
+    → sets l (at + bits / 8 * i) (samplesBytes bits (drop i zs)) ≡ whole → l ≡ whole
+pack-end bits at l whole zs i h done = rw (drop-of-length-le zs {i = i} h) at done
 
--- four turns at 24 bits
+-- ---- a part of two or of four, by its samples
+
+-- a number is what is sent of the sample at a place
+abbrev pub Sent : ℕ → List ℤ → ℕ → ℕ → Type 0
+Sent bits zs i v = v ≡ coded bits (narrowed bits (getD zs i (pos 0)))
+
+pub from-here : (zs : List ℤ) (i : ℕ) → i < length zs → drop i zs ≡ getD zs i (pos 0) ∷ drop (i + 1) zs
+from-here zs i h = rw add-one (drop-cons zs i (pos 0) h)
+
+two-sent : (bits : ℕ) (zs : List ℤ) (i v w : ℕ) → i + 2 ≤ length zs → Sent bits zs i v → Sent bits zs (i + 1) w
+    → samplesBytes bits (take 2 (drop i zs)) ≡ bytes (bits / 8) v ++ (bytes (bits / 8) w ++ [])
+two-sent bits zs i v w h first second = rw (from-here zs i (omega arith), from-here zs (i + 1) (omega arith), first, second) refl
+
+four-sent : (bits : ℕ) (zs : List ℤ) (i a b c d : ℕ) → i + 4 ≤ length zs → Sent bits zs i a → Sent bits zs (i + 1) b → Sent bits zs (i + 2) c → Sent bits zs (i + 3) d
+    → samplesBytes bits (take 4 (drop i zs)) ≡ bytes (bits / 8) a ++ (bytes (bits / 8) b ++ (bytes (bits / 8) c ++ (bytes (bits / 8) d ++ [])))
+four-sent bits zs i a b c d h isA isB isC isD =
+    let third : i + 1 + 1 ≡ i + 2 = omega arith in
+    let fourth : i + 2 + 1 ≡ i + 3 = omega arith in
+    rw (from-here zs i (omega arith), from-here zs (i + 1) (omega arith), third, from-here zs (i + 2) (omega arith), fourth, from-here zs (i + 3) (omega arith), isA, isB, isC, isD) refl
+
+-- four of 24 bits are stored
 pub pack-four : (zs : List ℤ) (l whole : List ℕ) (i a b c d : ℕ) → 4 * (i + 1) ≤ length zs
-    → a ≡ coded 24 (narrowed 24 (getD zs (4 * i) (pos 0))) → b ≡ coded 24 (narrowed 24 (getD zs (4 * i + 1) (pos 0)))
-    → c ≡ coded 24 (narrowed 24 (getD zs (4 * i + 2) (pos 0))) → d ≡ coded 24 (narrowed 24 (getD zs (4 * i + 3) (pos 0)))
+    → Sent 24 zs (4 * i) a → Sent 24 zs (4 * i + 1) b → Sent 24 zs (4 * i + 2) c → Sent 24 zs (4 * i + 3) d
     → sets l (4 + 3 * (4 * i)) (samplesBytes 24 (drop (4 * i) zs)) ≡ whole
-    → sets (sets l (4 + 12 * i) (bytes 3 a ++ (bytes 3 b ++ (bytes 3 c ++ (bytes 3 d ++ []))))) (4 + 3 * (4 * (i + 1))) (samplesBytes 24 (drop (4 * (i + 1)) zs)) ≡ whole
+    → sets (sets l (4 + 12 * i) (bytes 3 a ++ (bytes 3 b ++ (bytes 3 c ++ bytes 3 d)))) (4 + 3 * (4 * (i + 1))) (samplesBytes 24 (drop (4 * (i + 1)) zs)) ≡ whole
 pack-four zs l whole i a b c d h isA isB isC isD done =
     let here : 4 + 12 * i ≡ 4 + 3 * (4 * i) = omega arith in
     let next : 4 * (i + 1) ≡ 4 * i + 4 = omega arith in
-    let third : 4 * i + 2 ≡ 4 * i + 1 + 1 = omega arith in
-    let fourth : 4 * i + 3 ≡ 4 * i + 1 + 1 + 1 = omega arith in
-    rw (here, next)
-    (pack-turns 24 whole zs (a ∷ b ∷ c ∷ d ∷ []) l (4 * i) (omega arith) (isA, (isB, (rw third at isC, (rw fourth at isD, tt)))) done)
+    ap (λ (bs : List ℕ). sets (sets l (4 + 12 * i) bs) (4 + 3 * (4 * (i + 1))) (samplesBytes 24 (drop (4 * (i + 1)) zs))) (sym (four-sent 24 zs (4 * i) a b c d (omega arith) isA isB isC isD))
+    ∙ rw (here, next) (pack-part 24 4 4 (4 * i) zs l whole (omega arith) done)
 
--- all is stored
-pub pack-end : (bits : ℕ) (l whole : List ℕ) (zs : List ℤ) (i : ℕ) → length zs ≤ i
-    → sets l (4 + bits / 8 * i) (samplesBytes bits (drop i zs)) ≡ whole → l ≡ whole
-pack-end bits l whole zs i h done = rw (drop-of-length-le zs {i = i} h) at done
+-- ---- a block, whose samples are a part of the whole
 
--- ---- numbers held for a while
+-- the place of a part is a place of the whole
+pub part-at : (zs : List ℤ) (first k j : ℕ) → j < k → getD (take k (drop first zs)) j (pos 0) ≡ getD zs (first + j) (pos 0)
+part-at zs first k j h = getD-take k (drop first zs) j (pos 0) h ∙ getD-drop first zs j (pos 0)
 
--- the numbers held are those sent of the samples from one on
-abbrev pub SentAt : ℕ → List ℤ → ℕ → ℕ → ℕ → Type 0
-SentAt bits zs from j v = v ≡ coded bits (narrowed bits (getD zs (from + j) (pos 0)))
-
--- a pair of them is stored as one word r
-pub stored-pair : (zs : List ℤ) (l whole held : List ℕ) (first k r : ℕ) → k < 8 → first + 16 ≤ length zs
-    → bytes 4 r ≡ bytes 2 (getD held (2 * k) 0) ++ (bytes 2 (getD held (2 * k + 1) 0) ++ []) → Held (SentAt 16 zs first) held 16
-    → sets l (4 + 2 * (first + 2 * k)) (samplesBytes 16 (drop (first + 2 * k) zs)) ≡ whole
-    → sets (sets l (4 + 2 * (first + 2 * k)) (bytes 4 r)) (4 + 2 * (first + 2 * (k + 1))) (samplesBytes 16 (drop (first + 2 * (k + 1)) zs)) ≡ whole
-stored-pair zs l whole held first k r h long word known done =
-    let i = first + 2 * k in
-    let next : first + 2 * (k + 1) ≡ i + 2 = omega arith in
-    let second : first + (2 * k + 1) ≡ i + 1 = omega arith in
-    ap (λ (bs : List ℕ). sets (sets l (4 + 2 * i) bs) (4 + 2 * (first + 2 * (k + 1))) (samplesBytes 16 (drop (first + 2 * (k + 1)) zs))) word
-    ∙ rw next
-    (pack-turns 16 whole zs (getD held (2 * k) 0 ∷ getD held (2 * k + 1) 0 ∷ []) l i (omega arith)
-    (known (2 * k) (omega arith), (rw second at (known (2 * k + 1) (omega arith)), tt)) done)
+-- a pair of held numbers is stored as one word r
+pub pack-pair : (ws : List ℤ) (at : ℕ) (l whole held : List ℕ) (k r : ℕ) → 2 * (k + 1) ≤ length ws
+    → bytes 4 r ≡ bytes 2 (getD held (2 * k) 0) ++ bytes 2 (getD held (2 * k + 1) 0) → Held (Sent 16 ws) held (length ws)
+    → sets l (at + 2 * (2 * k)) (samplesBytes 16 (drop (2 * k) ws)) ≡ whole
+    → sets (sets l (at + 2 * (2 * k)) (bytes 4 r)) (at + 2 * (2 * (k + 1))) (samplesBytes 16 (drop (2 * (k + 1)) ws)) ≡ whole
+pack-pair ws at l whole held k r h word known done =
+    let next : 2 * (k + 1) ≡ 2 * k + 2 = omega arith in
+    let both : bytes 4 r ≡ samplesBytes 16 (take 2 (drop (2 * k) ws))
+    = word ∙ sym (two-sent 16 ws (2 * k) (getD held (2 * k) 0) (getD held (2 * k + 1) 0) (omega arith) (known (2 * k) (omega arith)) (known (2 * k + 1) (omega arith))) in
+    ap (λ (bs : List ℕ). sets (sets l (at + 2 * (2 * k)) bs) (at + 2 * (2 * (k + 1))) (samplesBytes 16 (drop (2 * (k + 1)) ws))) both
+    ∙ rw next (pack-part 16 at 2 (2 * k) ws l whole (omega arith) done)

@@ -4,8 +4,8 @@ ghost use mathlib.Core.Path.{_≡_};
 ghost use lib.Dec.{ltb};
 ghost use Rattle.packets.specs.Samples.{isSample, allSamples};
 
-// The upper 16 of the 32 bits that tell how far a number lies above the least sample: below 256 for a sample, and for no
-// other number.
+// The upper 16 of the 32 bits that tell how far a number lies above the least sample, modulo 2 ^ 32: below 256 for a sample,
+// and for no other number. (4303355904 is 2 ^ 32 + 2 ^ 23: with the whole turn no sum is negative.)
 fn upper(x: i32) -> u16
     ensures { λ r. ⌜ ltb r 256 ≡ isSample x ⌝ }
 {

@@ -6,7 +6,7 @@ ghost use mathlib.Core.Bool.{true};
 ghost use mathlib.Core.List.{[], _++_};
 ghost use Prim.Native.Nat.{_+_, _*_, _≤_, _<_};
 ghost use lib.IntN.{pos};
-ghost use lib.ListN.{length, getD, drop};
+ghost use lib.ListN.{length, getD, take, drop};
 ghost use lib.Seq.{sets};
 ghost use Rattle.wire.specs.Choice.{pick};
 ghost use Rattle.wire.specs.Number.{bytes};
@@ -15,7 +15,7 @@ ghost use Rattle.packets.specs.Samples.{allSamples, narrowed, samplesBytes};
 ghost use Rattle.samples.specs.Packing.{mayPack, packedOf};
 
 // Writes a number in four bytes at a place that the slice has: stores of one number side by side are one of the processor's.
-fn put4(dst: &mut [u8], at: usize, v: u32)
+fn put_word(dst: &mut [u8], at: usize, v: u32)
     requires { ⌜ at + 4 ≤ length (now dst) ⌝ }
     ensures { λ r. ⌜ now (dst .exit) ≡ sets (now (dst .entry)) at (bytes 4 v) ⌝ }
 {
@@ -27,24 +27,25 @@ fn put4(dst: &mut [u8], at: usize, v: u32)
 
 // The word whose four bytes are the two of each of two numbers.
 fn pair(first: u16, second: u16) -> u32
-    ensures { λ r. ⌜ bytes 4 r ≡ bytes 2 first ++ (bytes 2 second ++ []) ⌝ }
+    ensures { λ r. ⌜ bytes 4 r ≡ bytes 2 first ++ bytes 2 second ⌝ }
 {
     first as u32 + 65536 * (second as u32)
 }
 
 // Writes four numbers of 24 bits at a place that the slice has: twelve bytes, in three words.
-fn put_four(dst: &mut [u8], at: usize, a: u32, b: u32, c: u32, d: u32)
+fn put_four24(dst: &mut [u8], at: usize, a: u32, b: u32, c: u32, d: u32)
     requires { ⌜ (at + 12 ≤ length (now dst)) × (a < 16777216) × (b < 16777216) × (c < 16777216) × (d < 16777216) ⌝ }
     ensures { λ r.
         ⌜ now (dst .exit)
-        ≡ sets (now (dst .entry)) at (bytes 3 a ++ (bytes 3 b ++ (bytes 3 c ++ (bytes 3 d ++ [])))) ⌝ }
+        ≡ sets (now (dst .entry)) at (bytes 3 a ++ (bytes 3 b ++ (bytes 3 c ++ bytes 3 d))) ⌝ }
 {
-    put4(dst, at, a + 16777216 * (b % 256));
-    put4(dst, at + 4, b / 256 + 65536 * (c % 65536));
-    put4(dst, at + 8, c / 65536 + 256 * d);
+    put_word(dst, at, a + 16777216 * (b % 256));
+    put_word(dst, at + 4, b / 256 + 65536 * (c % 65536));
+    put_word(dst, at + 8, c / 65536 + 256 * d);
 }
 
-// "24-bit form: two's complement."
+// What is sent of the sample at a place: "24-bit form: two's complement." The slice is handed in, since what is known is that
+// all of it are samples.
 fn code24(samples: &[i32], at: usize) -> u32
     requires { ⌜ (allSamples (now samples) ≡ true) × (at < length (now samples)) ⌝ }
     ensures { λ r. ⌜ (r ≡ coded 24 (narrowed 24 (getD (now (samples .entry)) at (pos 0)))) × (r < 16777216) ⌝ }
@@ -53,7 +54,8 @@ fn code24(samples: &[i32], at: usize) -> u32
     (above + 8388608) % 16777216
 }
 
-// "16-bit form (house): the value divided by 256, rounded towards minus infinity", as a shift rounds.
+// What is sent of it at 16 bits: "16-bit form (house): the value divided by 256, rounded towards minus infinity", as a shift
+// rounds.
 fn code16(samples: &[i32], at: usize) -> u16
     requires { ⌜ (allSamples (now samples) ≡ true) × (at < length (now samples)) ⌝ }
     ensures { λ r. ⌜ r ≡ coded 16 (narrowed 16 (getD (now (samples .entry)) at (pos 0))) ⌝ }
@@ -80,23 +82,22 @@ fn pack24(samples: &[i32], packet: &mut [u8], fours: usize) -> bool
         let b = code24(samples, 4 * i + 1);
         let c = code24(samples, 4 * i + 2);
         let d = code24(samples, 4 * i + 3);
-        put_four(packet, 4 + 12 * i, a, b, c, d);
+        put_four24(packet, 4 + 12 * i, a, b, c, d);
         i += 1;
     }
     true
 }
 
-// Writes 16 samples from the first on, in two bytes each: after that, what is still to be written gives the whole. They go by
-// way of an array of 16-bit numbers: the compiler narrows them in the first loop, makes a plain copy of the second, and no
-// array is left.
+// Writes 16 samples from the first on, in two bytes each. They go by way of an array of 16-bit numbers: the compiler narrows
+// them in the first loop, makes a plain copy of the second, and no array is left.
 fn block16(samples: &[i32], packet: &mut [u8], first: usize)
     requires { ⌜
         (allSamples (now samples) ≡ true)
         × (first + 16 ≤ length (now samples))
-        × (4 + 2 * length (now samples) ≤ length (now packet)) ⌝ }
+        × (4 + 2 * (first + 16) ≤ length (now packet)) ⌝ }
     ensures { λ r.
-        ⌜ sets (now (packet .exit)) (4 + 2 * (first + 16)) (samplesBytes 16 (drop (first + 16) (now (samples .entry))))
-        ≡ sets (now (packet .entry)) (4 + 2 * first) (samplesBytes 16 (drop first (now (samples .entry)))) ⌝ }
+        ⌜ now (packet .exit)
+        ≡ sets (now (packet .entry)) (4 + 2 * first) (samplesBytes 16 (take 16 (drop first (now (samples .entry))))) ⌝ }
 {
     let mut held = [0u16; 16];
     let mut i = 0;
@@ -106,7 +107,7 @@ fn block16(samples: &[i32], packet: &mut [u8], first: usize)
     }
     let mut k = 0;
     while k < 8 {
-        put4(
+        put_word(
             packet,
             4 + 2 * (first + 2 * k),
             pair(held[2 * k], held[2 * k + 1]),
@@ -150,6 +151,7 @@ pub fn pack(f: Form, samples: &[i32], packet: &mut [u8]) -> bool
     if (packet.len() as u64) < packets::total_of(f) {
         return false;
     }
+    // In every listed form the pairs are a multiple of eight: the samples are whole fours, and whole sixteens.
     if f.bits == 24 {
         return pack24(samples, packet, samples.len() / 4);
     }

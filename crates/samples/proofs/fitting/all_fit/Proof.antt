@@ -10,7 +10,7 @@ use lib.Dec.{ltb}
 use lib.ListN.{length, drop}
 use mir.Facts.{toZ-ofZ}
 use Rattle.packets.specs.Samples.{allSamples}
-use Rattle.samples.proofs.Extent.{look-turn, look-end}
+use Rattle.samples.proofs.Joined.{look-turn, look-end}
 use Rattle.samples.proofs.fitting.all_fit.Statement.{statement}
 use Rattle.samples.proofs.fitting.all_fit.Tie as tie
 

@@ -9,7 +9,7 @@ use mir.Syntax.{w32, w64}
 use mir.Val.{SFits, toZ, ofZ}
 use mir.Facts.{toZ-ofZ}
 use Rattle.samples.proofs.Codes.{lifted, lifted-below, lift-fits, lift-is}
-use Rattle.samples.proofs.Extent.{lifted-sample}
+use Rattle.samples.proofs.Joined.{lifted-sample}
 use Rattle.samples.proofs.fitting.upper.Statement.{statement}
 use Rattle.samples.proofs.fitting.upper.Tie as tie
 

@@ -1,35 +1,38 @@
 -- `samples::packing::block16` meets its contract. What the loops keep: the numbers held so far are those sent of their samples,
 -- and what is still to be stored gives the whole.
-use Prim.Native.Nat.{ℕ, _+_, _*_, _-_, _≤_, _<_}
-use mathlib.Core.Path.{_≡_, refl, ap, _∙_}
-use mathlib.Core.List.{List, [], _∷_}
+use Prim.Native.Nat.{ℕ, _+_, _*_, _-_, _≤_}
+use mathlib.Core.Path.{_≡_, refl, sym, ap, _∙_}
+use mathlib.Core.List.{List}
 use native.Mathlib.Nat.{add-zero}
 use native.Mathlib.Omega.{arith}
-use borrow.Author.Needs.{needs, sfits-of}
 use denote.Ref.{now}
-use lib.IntN.{ℤ, pos}
-use lib.ListN.{length, getD, drop, length-set}
+use lib.IntN.{ℤ}
+use lib.ListN.{length, take, drop, length-set, length-take, length-drop}
 use lib.Seq.{sets}
-use mir.Facts.{toZ-ofZ}
-use Rattle.packets.specs.Samples.{samplesBytes}
+use Rattle.wire.specs.Signed.{coded}
+use Rattle.packets.specs.Samples.{narrowed, samplesBytes}
 use Rattle.samples.proofs.Held.{Held, hold-turn}
-use Rattle.samples.proofs.Written.{SentAt, sample-at, stored-pair}
+use Rattle.samples.proofs.Written.{Sent, part-at, pack-pair, pack-end}
 use Rattle.samples.proofs.packing.block16.Statement.{statement}
 use Rattle.samples.proofs.packing.block16.Tie as tie
 
--- the samples from the i-th on, stored
-abbrev stored : List ℤ → List ℕ → ℕ → List ℕ
-stored samples packet i = sets packet (4 + 2 * i) (samplesBytes 16 (drop i samples))
+-- the samples of the block
+abbrev block : List ℤ → ℕ → List ℤ
+block samples first = take 16 (drop first samples)
+
+-- those from the i-th on, stored
+abbrev stored : List ℤ → ℕ → List ℕ → ℕ → List ℕ
+stored samples first packet i = sets packet (4 + 2 * first + 2 * i) (samplesBytes 16 (drop i (block samples first)))
 
 abbrev Inv-loop : tie.InvT-loop
-Inv-loop samples packet first held₀ i₀ held i = (i ≤ 16) × (length held ≡ 16) × Held (SentAt 16 samples first) held i
+Inv-loop samples packet first held₀ i₀ held i = (i ≤ 16) × (length held ≡ 16) × Held (Sent 16 (block samples first)) held i
 
 abbrev μ-loop : tie.MeasureT-loop
 μ-loop samples packet first held₀ i₀ held i = 16 - i
 
 abbrev Inv-loop2 : tie.InvT-loop2
 Inv-loop2 samples packet₀ first held i k₀ packet k =
-    (k ≤ 8) × (length packet ≡ length packet₀) × (stored samples packet (first + 2 * k) ≡ stored samples packet₀ first)
+    (k ≤ 8) × (length packet ≡ length packet₀) × (stored samples first packet (2 * k) ≡ stored samples first packet₀ 0)
 
 abbrev μ-loop2 : tie.MeasureT-loop2
 μ-loop2 samples packet₀ first held i k₀ packet k = 8 - k
@@ -61,23 +64,25 @@ loop-again c =
     let a = l .before .before .args in (
       omega arith,
       simp length-set (l .loop .inv .1),
-      hold-turn (SentAt 16 (now (a .samples)) (a .first)) (l .loop .held) (l .loop .i) (c .code16 .result) (omega arith) (c .code16 .ensures) (l .loop .inv .2),
+      hold-turn (Sent 16 (block (now (a .samples)) (a .first))) (l .loop .held) (l .loop .i) (c .code16 .result) (omega arith)
+          (c .code16 .ensures ∙ ap (λ (z : ℤ). coded 16 (narrowed 16 z)) (sym (part-at (now (a .samples)) (a .first) 16 (l .loop .i) (omega arith))))
+          (l .loop .inv .2),
     )
 
 loop2-holds : tie.Need-loop2-holds Inv-loop μ-loop Inv-loop2 μ-loop2
-loop2-holds c = (omega arith, refl, rw (add-zero (c .before .before .before .args .first)) refl)
+loop2-holds c = (omega arith, refl, refl)
 
-mul-put4 : tie.Need-mul-put4 Inv-loop μ-loop Inv-loop2 μ-loop2
-mul-put4 c = omega arith
+mul-put-word : tie.Need-mul-put-word Inv-loop μ-loop Inv-loop2 μ-loop2
+mul-put-word c = omega arith
 
-add-put4 : tie.Need-add-put4 Inv-loop μ-loop Inv-loop2 μ-loop2
-add-put4 c = omega arith
+add-put-word : tie.Need-add-put-word Inv-loop μ-loop Inv-loop2 μ-loop2
+add-put-word c = omega arith
 
-mul-put4-2 : tie.Need-mul-put4-2 Inv-loop μ-loop Inv-loop2 μ-loop2
-mul-put4-2 c = omega arith
+mul-put-word-2 : tie.Need-mul-put-word-2 Inv-loop μ-loop Inv-loop2 μ-loop2
+mul-put-word-2 c = omega arith
 
-add-put4-2 : tie.Need-add-put4-2 Inv-loop μ-loop Inv-loop2 μ-loop2
-add-put4-2 c = omega arith
+add-put-word-2 : tie.Need-add-put-word-2 Inv-loop μ-loop Inv-loop2 μ-loop2
+add-put-word-2 c = omega arith
 
 mul-pair : tie.Need-mul-pair Inv-loop μ-loop Inv-loop2 μ-loop2
 mul-pair c = omega arith
@@ -103,8 +108,8 @@ array-read-pair-2 c = omega arith
 pair-requires : tie.Need-pair-requires Inv-loop μ-loop Inv-loop2 μ-loop2
 pair-requires c κs = tt
 
-put4-requires : tie.Need-put4-requires Inv-loop μ-loop Inv-loop2 μ-loop2
-put4-requires c κs = omega arith
+put-word-requires : tie.Need-put-word-requires Inv-loop μ-loop Inv-loop2 μ-loop2
+put-word-requires c κs = omega arith
 
 add-k : tie.Need-add-k Inv-loop μ-loop Inv-loop2 μ-loop2
 add-k c = omega arith
@@ -112,16 +117,22 @@ add-k c = omega arith
 loop2-less : tie.Need-loop2-less Inv-loop μ-loop Inv-loop2 μ-loop2
 loop2-less c = omega arith
 
+-- a block has 16 samples
+sixteen : (l : tie.At-loop Inv-loop μ-loop Inv-loop2 μ-loop2) → length (block (now (l .before .before .args .samples)) (l .before .before .args .first)) ≡ 16
+sixteen l = simp (length-take, length-drop) (omega arith)
+
 loop2-again : tie.Need-loop2-again Inv-loop μ-loop Inv-loop2 μ-loop2
 loop2-again c =
     let p = c .before .before in
     let l2 = p .before .before .before .before in
     let l = l2 .before .before in
-    let a = l .before .before .args in (
+    let a = l .before .before .args in
+    let here : 4 + 2 * (a .first + 2 * l2 .loop2 .k) ≡ 4 + 2 * a .first + 2 * (2 * l2 .loop2 .k) = omega arith in (
       omega arith,
-      p .put4 .kept .0 ∙ l2 .loop2 .inv .1,
-      rw (p .put4 .ensures)
-          (stored-pair (now (a .samples)) (l2 .loop2 .packet) _ (l .loop .held) (a .first) (l2 .loop2 .k) (p .before .pair .result) (omega arith) (omega arith) (p .before .pair .ensures) (λ j h. l .loop .inv .2 j (omega arith)) (l2 .loop2 .inv .2)),
+      p .put-word .kept .0 ∙ l2 .loop2 .inv .1,
+      rw (p .put-word .ensures, here)
+          (pack-pair (block (now (a .samples)) (a .first)) (4 + 2 * a .first) (l2 .loop2 .packet) _ (l .loop .held) (l2 .loop2 .k) (p .before .pair .result)
+          (omega (arith, sixteen l)) (p .before .pair .ensures) (λ j h. l .loop .inv .2 j (omega (arith, sixteen l))) (l2 .loop2 .inv .2)),
     )
 
 same-length : tie.Need-same-length Inv-loop μ-loop Inv-loop2 μ-loop2
@@ -130,9 +141,10 @@ same-length c = c .before .loop2 .inv .1
 returns : tie.Need-returns Inv-loop μ-loop Inv-loop2 μ-loop2
 returns c =
     let l2 = c .before in
-    let a = l2 .before .before .before .before .args in
-    let end : a .first + 16 ≡ a .first + 2 * l2 .loop2 .k = omega arith in
-    ap (stored (now (a .samples)) (l2 .loop2 .packet)) end ∙ l2 .loop2 .inv .2
+    let l = l2 .before .before in
+    let a = l .before .before .args in
+    pack-end 16 (4 + 2 * a .first) (l2 .loop2 .packet) _ (block (now (a .samples)) (a .first)) (2 * l2 .loop2 .k) (omega (arith, sixteen l)) (l2 .loop2 .inv .2)
+    ∙ ap (λ (n : ℕ). sets (now (a .packet)) n (samplesBytes 16 (block (now (a .samples)) (a .first)))) (add-zero (4 + 2 * a .first))
 
 pub block16-spec : {M : Type 1} → statement M
 block16-spec =
@@ -151,10 +163,10 @@ block16-spec =
     loop-less
     loop-again
     loop2-holds
-    mul-put4
-    add-put4
-    mul-put4-2
-    add-put4-2
+    mul-put-word
+    add-put-word
+    mul-put-word-2
+    add-put-word-2
     mul-pair
     mul-pair-2
     array-read-pair
@@ -163,7 +175,7 @@ block16-spec =
     mul-pair-4
     array-read-pair-2
     pair-requires
-    put4-requires
+    put-word-requires
     add-k
     loop2-less
     loop2-again

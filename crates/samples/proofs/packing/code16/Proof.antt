@@ -1,6 +1,6 @@
 -- `samples::packing::code16` meets its contract: the shift rounds towards minus infinity, and what it leaves of a sample is
 -- lifted as in `code24`, by half a turn of 2 ^ 16.
-use Prim.Native.Nat.{_+_, _%_, _<_}
+use Prim.Native.Nat.{_<_}
 use mathlib.Core.Path.{_≡_, refl}
 use native.Mathlib.Omega.{arith}
 use borrow.Author.Needs.{needs, sfits-of}
@@ -9,10 +9,10 @@ use lib.IntN.{ℤ, pos, _+ℤ_}
 use lib.ListN.{getD}
 use lib.Signed.{mag, shrZ}
 use mir.Syntax.{w32}
-use mir.Val.{SFits, toZ, ofZ}
+use mir.Val.{toZ, ofZ}
 use mir.Facts.{toZ-ofZ}
 use Rattle.packets.specs.Samples.{narrowed}
-use Rattle.samples.proofs.Codes.{lifted, lifted-below, lifted-fits, below-fits, lift-fits, lift-is, turned, sixteen-small}
+use Rattle.samples.proofs.Codes.{lifted, lifted-below, half-fits, half-is, turned, sixteen-small}
 use Rattle.samples.proofs.Written.{sample-at}
 use Rattle.samples.proofs.packing.code16.Statement.{statement}
 use Rattle.samples.proofs.packing.code16.Tie as tie
@@ -27,14 +27,8 @@ sent c = narrowed 16 (sample c)
 small : (c : tie.After-above) → mag (sent c) < 32_768
 small c = sixteen-small (sample c) (sample-at (now (c .before .args .samples)) (c .before .args .at) (c .before .pre .0) (c .before .pre .1))
 
-fits : (c : tie.After-above) → SFits w32 (sent c)
-fits c = below-fits 32_768 (sent c) (small c) (omega arith)
-
-room : (c : tie.After-above) → SFits w32 (pos (lifted 32_768 (sent c)))
-room c = lifted-fits 32_768 (sent c) (small c) (omega arith)
-
 above : (c : tie.After-above) → toZ w32 (ofZ w32 (toZ w32 (ofZ w32 (shrZ (toZ w32 (ofZ w32 (sample c))) 256)) +ℤ pos 32_768)) ≡ pos (lifted 32_768 (sent c))
-above c = rw (toZ-ofZ {z = sample c} (sfits-of (c .above .given))) (lift-is w32 32_768 (sent c) (fits c) (small c) (room c))
+above c = rw (toZ-ofZ {z = sample c} (sfits-of (c .above .given))) (half-is 32_768 (sent c) (small c) (omega arith))
 
 mul-above : tie.Need-mul-above
 mul-above c = search needs
@@ -43,7 +37,7 @@ shared-slice-copy-out-above : tie.Need-shared-slice-copy-out-above
 shared-slice-copy-out-above c = search needs
 
 add-above : tie.Need-add-above
-add-above c = rw (toZ-ofZ {z = sample c} (sfits-of (c .above .given))) (lift-fits w32 32_768 (sent c) (fits c) (small c) (room c))
+add-above c = rw (toZ-ofZ {z = sample c} (sfits-of (c .above .given))) (half-fits 32_768 (sent c) (small c) (omega arith))
 
 cast-above : tie.Need-cast-above
 cast-above c = rw (above c) (tt, omega (arith, lifted-below 32_768 (sent c) (small c)))

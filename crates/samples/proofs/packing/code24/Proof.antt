@@ -1,6 +1,6 @@
 -- `samples::packing::code24` meets its contract: a sample lifted by half a turn of 2 ^ 24 is whole, and half a turn more
 -- gives its 24 bits.
-use Prim.Native.Nat.{_+_, _%_, _<_}
+use Prim.Native.Nat.{_<_}
 use mathlib.Core.Path.{_≡_, refl}
 use native.Mathlib.Omega.{arith}
 use borrow.Author.Needs.{needs}
@@ -9,8 +9,8 @@ use lib.IntN.{ℤ, pos, _+ℤ_}
 use lib.ListN.{getD}
 use lib.Signed.{mag}
 use mir.Syntax.{w32}
-use mir.Val.{SFits, toZ, ofZ}
-use Rattle.samples.proofs.Codes.{lifted, lifted-below, lifted-fits, below-fits, lift-fits, lift-is, turned, narrowed-24, sample-small}
+use mir.Val.{toZ, ofZ}
+use Rattle.samples.proofs.Codes.{lifted, lifted-below, half-fits, half-is, turned, narrowed-24, sample-small}
 use Rattle.samples.proofs.Written.{sample-at}
 use Rattle.samples.proofs.packing.code24.Statement.{statement}
 use Rattle.samples.proofs.packing.code24.Tie as tie
@@ -21,14 +21,8 @@ sample c = getD (now (c .before .args .samples)) (c .before .args .at) (pos 0)
 small : (c : tie.After-above) → mag (sample c) < 8_388_608
 small c = sample-small (sample c) (sample-at (now (c .before .args .samples)) (c .before .args .at) (c .before .pre .0) (c .before .pre .1))
 
-fits : (c : tie.After-above) → SFits w32 (sample c)
-fits c = below-fits 8_388_608 (sample c) (small c) (omega arith)
-
-room : (c : tie.After-above) → SFits w32 (pos (lifted 8_388_608 (sample c)))
-room c = lifted-fits 8_388_608 (sample c) (small c) (omega arith)
-
 above : (c : tie.After-above) → toZ w32 (ofZ w32 (toZ w32 (ofZ w32 (sample c)) +ℤ pos 8_388_608)) ≡ pos (lifted 8_388_608 (sample c))
-above c = lift-is w32 8_388_608 (sample c) (fits c) (small c) (room c)
+above c = half-is 8_388_608 (sample c) (small c) (omega arith)
 
 mul-above : tie.Need-mul-above
 mul-above c = search needs
@@ -37,7 +31,7 @@ shared-slice-copy-out-above : tie.Need-shared-slice-copy-out-above
 shared-slice-copy-out-above c = search needs
 
 add-above : tie.Need-add-above
-add-above c = lift-fits w32 8_388_608 (sample c) (fits c) (small c) (room c)
+add-above c = half-fits 8_388_608 (sample c) (small c) (omega arith)
 
 cast-above : tie.Need-cast-above
 cast-above c = rw (above c) (tt, omega (arith, lifted-below 8_388_608 (sample c) (small c)))

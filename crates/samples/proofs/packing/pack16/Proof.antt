@@ -3,13 +3,12 @@ use Prim.Native.Nat.{_+_, _*_, _-_, _≤_}
 use mathlib.Core.Path.{_≡_, refl, sym, _∙_}
 use mathlib.Core.Bool.{true, false}
 use native.Mathlib.Omega.{arith}
-use borrow.Author.Needs.{needs}
 use borrow.Author.Tests.{not-true, not-false}
 use denote.Ref.{now}
 use lib.ListN.{length, drop}
 use lib.Seq.{sets}
 use Rattle.packets.specs.Samples.{allSamples, samplesBytes}
-use Rattle.samples.proofs.Written.{pack-end}
+use Rattle.samples.proofs.Written.{pack-part, pack-end}
 use Rattle.samples.proofs.packing.pack16.Statement.{statement}
 use Rattle.samples.proofs.packing.pack16.Tie as tie
 
@@ -54,10 +53,11 @@ loop-again : tie.Need-loop-again Inv-loop μ-loop
 loop-again c =
     let b = c .before .before in
     let l = b .before .before .before in
+    let zs = now (l .before .before .before .before .args .samples) in
     let next : 16 * (l .loop .i + 1) ≡ 16 * l .loop .i + 16 = omega arith in (
       omega arith,
       b .block16 .kept .1 .0 ∙ l .loop .inv .1,
-      rw next (b .block16 .ensures ∙ l .loop .inv .2),
+      rw (b .block16 .ensures, next) (pack-part 16 4 16 (16 * l .loop .i) zs (l .loop .packet) _ (omega arith) (l .loop .inv .2)),
     )
 
 same-length : tie.Need-same-length Inv-loop μ-loop
@@ -68,7 +68,7 @@ returns-2 c =
     let l = c .before in
     let a = l .before .before .before .before .args in (
       sym (all (l .before)),
-      rw (all (l .before)) (pack-end 16 (l .loop .packet) _ (now (a .samples)) (16 * l .loop .i) (omega arith) (l .loop .inv .2)),
+      rw (all (l .before)) (pack-end 16 4 (l .loop .packet) _ (now (a .samples)) (16 * l .loop .i) (omega arith) (l .loop .inv .2)),
     )
 
 pub pack16-spec : {M : Type 1} → statement M

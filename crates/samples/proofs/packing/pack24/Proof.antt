@@ -2,9 +2,7 @@
 use Prim.Native.Nat.{_+_, _*_, _-_, _≤_}
 use mathlib.Core.Path.{_≡_, refl, sym, _∙_}
 use mathlib.Core.Bool.{true, false}
-use mathlib.Core.List.{[], _∷_}
 use native.Mathlib.Omega.{arith}
-use borrow.Author.Needs.{needs}
 use borrow.Author.Tests.{not-true, not-false}
 use denote.Ref.{now}
 use lib.ListN.{length, drop}
@@ -72,14 +70,14 @@ add-code24-3 c = omega arith
 code24-requires-4 : tie.Need-code24-requires-4 Inv-loop μ-loop
 code24-requires-4 c κs = (all (c .before .before .before .before .before), omega arith)
 
-mul-put-four : tie.Need-mul-put-four Inv-loop μ-loop
-mul-put-four c = omega arith
+mul-put-four24 : tie.Need-mul-put-four24 Inv-loop μ-loop
+mul-put-four24 c = omega arith
 
-add-put-four : tie.Need-add-put-four Inv-loop μ-loop
-add-put-four c = omega arith
+add-put-four24 : tie.Need-add-put-four24 Inv-loop μ-loop
+add-put-four24 c = omega arith
 
-put-four-requires : tie.Need-put-four-requires Inv-loop μ-loop
-put-four-requires c κs =
+put-four24-requires : tie.Need-put-four24-requires Inv-loop μ-loop
+put-four24-requires c κs =
     let d = c .before in
     (omega arith, d .before .before .before .code24 .ensures .1, d .before .before .code242 .ensures .1, d .before .code243 .ensures .1, d .code244 .ensures .1)
 
@@ -94,11 +92,11 @@ loop-again c =
     let p = c .before .before in
     let d = p .before .before in
     let l = d .before .before .before .before .before in
-    let a = l .before .before .before .before .args in (
+    let zs = now (l .before .before .before .before .args .samples) in (
       omega arith,
-      p .put-four .kept .0 ∙ l .loop .inv .1,
-      rw (p .put-four .ensures)
-          (pack-four (now (a .samples)) (l .loop .packet) _ (l .loop .i) _ _ _ _ (omega arith)
+      p .put-four24 .kept .0 ∙ l .loop .inv .1,
+      rw (p .put-four24 .ensures)
+          (pack-four zs (l .loop .packet) _ (l .loop .i) _ _ _ _ (omega arith)
           (d .before .before .before .code24 .ensures .0) (d .before .before .code242 .ensures .0) (d .before .code243 .ensures .0) (d .code244 .ensures .0) (l .loop .inv .2)),
     )
 
@@ -110,7 +108,7 @@ returns-2 c =
     let l = c .before in
     let a = l .before .before .before .before .args in (
       sym (all (l .before)),
-      rw (all (l .before)) (pack-end 24 (l .loop .packet) _ (now (a .samples)) (4 * l .loop .i) (omega arith) (l .loop .inv .2)),
+      rw (all (l .before)) (pack-end 24 4 (l .loop .packet) _ (now (a .samples)) (4 * l .loop .i) (omega arith) (l .loop .inv .2)),
     )
 
 pub pack24-spec : {M : Type 1} → statement M
@@ -133,9 +131,9 @@ pack24-spec =
     mul-code24-4
     add-code24-3
     code24-requires-4
-    mul-put-four
-    add-put-four
-    put-four-requires
+    mul-put-four24
+    add-put-four24
+    put-four24-requires
     add-i
     loop-less
     loop-again

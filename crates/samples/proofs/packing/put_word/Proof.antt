@@ -1,12 +1,11 @@
--- `samples::packing::put4` meets its contract: the four stores are those of `sets`.
-use Prim.Native.Nat.{_/_}
-use mathlib.Core.Path.{_≡_}
+-- `samples::packing::put_word` meets its contract: the four stores are those of `sets`.
 use native.Mathlib.Omega.{arith}
-use native.Mathlib.Numerals.{add-one, add-two, add-three}
 use lib.ListN.{length-set}
 use borrow.Author.Needs.{needs}
-use Rattle.samples.proofs.packing.put4.Statement.{statement}
-use Rattle.samples.proofs.packing.put4.Tie as tie
+use denote.Ref.{now}
+use Rattle.wire.proofs.Words.{word-put}
+use Rattle.samples.proofs.packing.put_word.Statement.{statement}
+use Rattle.samples.proofs.packing.put_word.Tie as tie
 
 cast-dst : tie.Need-cast-dst
 cast-dst c = search needs
@@ -45,14 +44,10 @@ same-length : tie.Need-same-length
 same-length c = search needs
 
 returns : tie.Need-returns
-returns c =
-    let v = c .args .v in
-    let third : v / 65536 ≡ v / 256 / 256 = omega arith in
-    let fourth : v / 16777216 ≡ v / 256 / 256 / 256 = omega arith in
-    rw (third, fourth, add-one (c .args .at), add-two (c .args .at), add-three (c .args .at))
+returns c = word-put (now (c .args .dst)) (c .args .at) (c .args .v)
 
-pub put4-spec : {M : Type 1} → statement M
-put4-spec =
+pub put-word-spec : {M : Type 1} → statement M
+put-word-spec =
     tie.close
     (tie.spec
     cast-dst
