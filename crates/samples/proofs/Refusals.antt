@@ -3,7 +3,7 @@ use Prim.Native.Nat.{ℕ, _+_, _*_, _/_, _%_, _≤_, _<_}
 use mathlib.Core.Path.{_≡_, refl, sym, _∙_}
 use mathlib.Core.Logic.{⊎-elim}
 use mathlib.Core.Bool.{Bool, true, false, _||_}
-use mathlib.Core.List.{List, []}
+use mathlib.Core.List.{List}
 use native.Mathlib.Nat.{mul-comm}
 use native.Mathlib.Omega.{arith}
 use lib.Dec.{eqb}
@@ -53,13 +53,18 @@ module _ (f : Form) (zs : List ℤ) (l : List ℕ) where
   pack-room e n h = pack-refused (rw (e, eq-eqb (length zs) (2 * f .pairs) n, lt-leb (totalOf f) (length l) h))
 
   -- nothing but a sample outside 24 bits is left to refuse for
-  pub pack-done : (bits : ℕ) (r : Bool) (l′ : List ℕ) → listed f ≡ true → length zs ≡ 2 * f .pairs → totalOf f ≤ length l → f .bits ≡ bits
-      → r ≡ allSamples zs → l′ ≡ sets l 4 (pick (allSamples zs) (samplesBytes bits zs) [])
-      → (r ≡ mayPack f zs (length l)) × (l′ ≡ sets l 4 (packedOf f zs (length l)))
-  pack-done bits r l′ e n room w fit done =
-      let may : mayPack f zs (length l) ≡ allSamples zs
-      = rw (e, eq-eqb (length zs) (2 * f .pairs) n, le-leb (totalOf f) (length l) room) in
-      (fit ∙ sym may, done ∙ rw (may, w))
+  module _ (e : listed f ≡ true) (n : length zs ≡ 2 * f .pairs) (room : totalOf f ≤ length l) where
+    left-over : mayPack f zs (length l) ≡ allSamples zs
+    left-over = rw (e, eq-eqb (length zs) (2 * f .pairs) n, le-leb (totalOf f) (length l) room)
+
+    pub pack-outside : allSamples zs ≡ false → (false ≡ mayPack f zs (length l)) × (l ≡ sets l 4 (packedOf f zs (length l)))
+    pack-outside out = pack-refused (left-over ∙ out)
+
+    pub pack-done : (bits : ℕ) (l′ : List ℕ) → f .bits ≡ bits → allSamples zs ≡ true → l′ ≡ sets l 4 (samplesBytes bits zs)
+        → (true ≡ mayPack f zs (length l)) × (l′ ≡ sets l 4 (packedOf f zs (length l)))
+    pack-done bits l′ w fit done =
+        let may : mayPack f zs (length l) ≡ true = left-over ∙ fit in
+        (sym may, done ∙ rw (may, w))
 
 -- ---- unpacking
 

@@ -3,12 +3,11 @@ use crate::fitting::all_fit;
 use packets::Form;
 ghost use mathlib.Core.Path.{_≡_};
 ghost use mathlib.Core.Bool.{true};
-ghost use mathlib.Core.List.{[], _++_};
+ghost use mathlib.Core.List.{_++_};
 ghost use Prim.Native.Nat.{_+_, _*_, _≤_, _<_};
 ghost use lib.IntN.{pos};
 ghost use lib.ListN.{length, getD, take, drop};
 ghost use lib.Seq.{sets};
-ghost use Rattle.wire.specs.Choice.{pick};
 ghost use Rattle.wire.specs.Number.{bytes};
 ghost use Rattle.wire.specs.Signed.{coded};
 ghost use Rattle.packets.specs.Samples.{allSamples, narrowed, samplesBytes};
@@ -64,18 +63,14 @@ fn code16(samples: &[i32], at: usize) -> u16
     ((above + 32768) % 65536) as u16
 }
 
-// Writes all samples in three bytes each, four at once, unless one is outside 24 bits: all are looked at before the first is
-// written.
-fn pack24(samples: &[i32], packet: &mut [u8], fours: usize) -> bool
-    requires { ⌜ (length (now samples) ≡ 4 * fours) × (4 + 12 * fours ≤ length (now packet)) ⌝ }
-    ensures { λ r.
-        ⌜ (r ≡ allSamples (now (samples .entry)))
-        × (now (packet .exit)
-        ≡ sets (now (packet .entry)) 4 (pick (allSamples (now (samples .entry))) (samplesBytes 24 (now (samples .entry))) [])) ⌝ }
+// Writes samples in three bytes each, four at once.
+fn pack24(samples: &[i32], packet: &mut [u8], fours: usize)
+    requires { ⌜
+        (allSamples (now samples) ≡ true)
+        × (length (now samples) ≡ 4 * fours)
+        × (4 + 12 * fours ≤ length (now packet)) ⌝ }
+    ensures { λ r. ⌜ now (packet .exit) ≡ sets (now (packet .entry)) 4 (samplesBytes 24 (now (samples .entry))) ⌝ }
 {
-    if !all_fit(samples) {
-        return false;
-    }
     let mut i = 0;
     while i < fours {
         let a = code24(samples, 4 * i);
@@ -85,7 +80,6 @@ fn pack24(samples: &[i32], packet: &mut [u8], fours: usize) -> bool
         put_four24(packet, 4 + 12 * i, a, b, c, d);
         i += 1;
     }
-    true
 }
 
 // Writes 16 samples from the first on, in two bytes each. They go by way of an array of 16-bit numbers: the compiler narrows
@@ -116,23 +110,19 @@ fn block16(samples: &[i32], packet: &mut [u8], first: usize)
     }
 }
 
-// Writes all samples in two bytes each, in blocks of 16, unless one is outside 24 bits.
-fn pack16(samples: &[i32], packet: &mut [u8], blocks: usize) -> bool
-    requires { ⌜ (length (now samples) ≡ 16 * blocks) × (4 + 32 * blocks ≤ length (now packet)) ⌝ }
-    ensures { λ r.
-        ⌜ (r ≡ allSamples (now (samples .entry)))
-        × (now (packet .exit)
-        ≡ sets (now (packet .entry)) 4 (pick (allSamples (now (samples .entry))) (samplesBytes 16 (now (samples .entry))) [])) ⌝ }
+// Writes samples in two bytes each, in blocks of 16.
+fn pack16(samples: &[i32], packet: &mut [u8], blocks: usize)
+    requires { ⌜
+        (allSamples (now samples) ≡ true)
+        × (length (now samples) ≡ 16 * blocks)
+        × (4 + 32 * blocks ≤ length (now packet)) ⌝ }
+    ensures { λ r. ⌜ now (packet .exit) ≡ sets (now (packet .entry)) 4 (samplesBytes 16 (now (samples .entry))) ⌝ }
 {
-    if !all_fit(samples) {
-        return false;
-    }
     let mut i = 0;
     while i < blocks {
         block16(samples, packet, 16 * i);
         i += 1;
     }
-    true
 }
 
 // Writes the sample bytes of a packet of a form after its four leading bytes. It refuses, and writes nothing, where the
@@ -151,9 +141,15 @@ pub fn pack(f: Form, samples: &[i32], packet: &mut [u8]) -> bool
     if (packet.len() as u64) < packets::total_of(f) {
         return false;
     }
+    // all are looked at before the first is written
+    if !all_fit(samples) {
+        return false;
+    }
     // In every listed form the pairs are a multiple of eight: the samples are whole fours, and whole sixteens.
     if f.bits == 24 {
-        return pack24(samples, packet, samples.len() / 4);
+        pack24(samples, packet, samples.len() / 4);
+        return true;
     }
-    pack16(samples, packet, samples.len() / 16)
+    pack16(samples, packet, samples.len() / 16);
+    true
 }

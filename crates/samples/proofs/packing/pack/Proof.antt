@@ -8,8 +8,9 @@ use borrow.Author.Tests.{not-true, not-false}
 use denote.Ref.{now}
 use lib.ListN.{length}
 use Rattle.packets.specs.Forms.{listed, totalOf}
+use Rattle.packets.specs.Samples.{allSamples}
 use Rattle.packets.proofs.Forms.{is-listed-form}
-use Rattle.samples.proofs.Refusals.{other-width, room-for, eight-pairs, pack-unlisted, pack-count, pack-room, pack-done}
+use Rattle.samples.proofs.Refusals.{other-width, room-for, eight-pairs, pack-unlisted, pack-count, pack-room, pack-outside, pack-done}
 use Rattle.samples.proofs.packing.pack.Statement.{statement}
 use Rattle.samples.proofs.packing.pack.Tie as tie
 
@@ -52,55 +53,74 @@ returns-3 c =
 room : (c : tie.Else3) → totalOf (c .before .before .before .before .before .before .before .args .f) ≤ length (now (c .before .before .before .before .before .before .before .args .packet))
 room c = rw (total (c .before)) at (c .if3 .left)
 
+all-fit-requires : tie.Need-all-fit-requires
+all-fit-requires c κs = tt
+
+returns-4 : tie.Need-returns-4
+returns-4 c =
+    let r = c .before .before in
+    let u = r .before .before in
+    let e = u .before .before in
+    let a = e .before .before .before .args in
+    pack-outside (a .f) (now (a .samples)) (now (a .packet)) (form e) (u .if2 .left) (room r) (sym (c .before .all-fit .ensures) ∙ not-true _ (c .if4 .taken))
+
+-- past the fourth test all are samples
+all : (c : tie.Else4) → allSamples (now (c .before .before .before .before .before .before .before .before .before .args .samples)) ≡ true
+all c = sym (c .before .all-fit .ensures) ∙ not-false _ (c .if4 .left)
+
 -- the samples of a form are whole fours and whole sixteens, and in the packet there is room for them
 pack24-requires : tie.Need-pack24-requires
 pack24-requires c κs =
-    let r = c .before .before .before in
+    let q = c .before .before .before in
+    let r = q .before .before in
     let u = r .before .before in
     let e = u .before .before in
     let f = e .before .before .before .args .f in
     let n = length (now (e .before .before .before .args .samples)) in
     let fit : 4 + 3 * n ≤ length (now (e .before .before .before .args .packet))
-    = room-for f 3 n _ (ap (λ (b : ℕ). b / 8) (c .before .if4 .taken)) (u .if2 .left) (room r) in
-    (omega (arith, eight-pairs f (form e)), omega (arith, eight-pairs f (form e)))
+    = room-for f 3 n _ (ap (λ (b : ℕ). b / 8) (c .before .if5 .taken)) (u .if2 .left) (room r) in
+    (all q, omega (arith, eight-pairs f (form e)), omega (arith, eight-pairs f (form e)))
 
 same-length : tie.Need-same-length
 same-length c = search needs
-
-returns-4 : tie.Need-returns-4
-returns-4 c =
-    let p = c .before .before in
-    let t = p .before .before in
-    let r = t .before .before in
-    let u = r .before .before in
-    let e = u .before .before in
-    let a = e .before .before .before .args in
-    pack-done (a .f) (now (a .samples)) (now (a .packet)) 24 _ _ (form e) (u .if2 .left) (room r) (t .if4 .taken) (p .pack24 .ensures .0) (p .pack24 .ensures .1)
-
-pack16-requires : tie.Need-pack16-requires
-pack16-requires c κs =
-    let r = c .before .before .before in
-    let u = r .before .before in
-    let e = u .before .before in
-    let f = e .before .before .before .args .f in
-    let n = length (now (e .before .before .before .args .samples)) in
-    let width = other-width f (form e) (c .before .if4 .left) in
-    let fit : 4 + 2 * n ≤ length (now (e .before .before .before .args .packet))
-    = room-for f 2 n _ (ap (λ (b : ℕ). b / 8) width) (u .if2 .left) (room r) in
-    (omega (arith, eight-pairs f (form e)), omega (arith, eight-pairs f (form e)))
-
-same-length-2 : tie.Need-same-length-2
-same-length-2 c = search needs
 
 returns-5 : tie.Need-returns-5
 returns-5 c =
     let p = c .before .before in
     let t = p .before .before in
-    let r = t .before .before in
+    let q = t .before .before in
+    let r = q .before .before in
     let u = r .before .before in
     let e = u .before .before in
     let a = e .before .before .before .args in
-    pack-done (a .f) (now (a .samples)) (now (a .packet)) 16 _ _ (form e) (u .if2 .left) (room r) (other-width (a .f) (form e) (t .if4 .left)) (p .pack16 .ensures .0) (p .pack16 .ensures .1)
+    pack-done (a .f) (now (a .samples)) (now (a .packet)) (form e) (u .if2 .left) (room r) 24 _ (t .if5 .taken) (all q) (p .pack24 .ensures)
+
+pack16-requires : tie.Need-pack16-requires
+pack16-requires c κs =
+    let q = c .before .before .before in
+    let r = q .before .before in
+    let u = r .before .before in
+    let e = u .before .before in
+    let f = e .before .before .before .args .f in
+    let n = length (now (e .before .before .before .args .samples)) in
+    let width = other-width f (form e) (c .before .if5 .left) in
+    let fit : 4 + 2 * n ≤ length (now (e .before .before .before .args .packet))
+    = room-for f 2 n _ (ap (λ (b : ℕ). b / 8) width) (u .if2 .left) (room r) in
+    (all q, omega (arith, eight-pairs f (form e)), omega (arith, eight-pairs f (form e)))
+
+same-length-2 : tie.Need-same-length-2
+same-length-2 c = search needs
+
+returns-6 : tie.Need-returns-6
+returns-6 c =
+    let p = c .before .before in
+    let t = p .before .before in
+    let q = t .before .before in
+    let r = q .before .before in
+    let u = r .before .before in
+    let e = u .before .before in
+    let a = e .before .before .before .args in
+    pack-done (a .f) (now (a .samples)) (now (a .packet)) (form e) (u .if2 .left) (room r) 16 _ (other-width (a .f) (form e) (t .if5 .left)) (all q) (p .pack16 .ensures)
 
 pub pack-spec : {M : Type 1} → statement M
 pack-spec =
@@ -112,9 +132,11 @@ pack-spec =
     returns-2
     total-of-requires
     returns-3
+    all-fit-requires
+    returns-4
     pack24-requires
     same-length
-    returns-4
+    returns-5
     pack16-requires
     same-length-2
-    returns-5)
+    returns-6)

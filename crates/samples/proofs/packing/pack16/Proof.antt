@@ -1,13 +1,11 @@
 -- `samples::packing::pack16` meets its contract. The loop's invariant: what is still to be stored gives the whole.
 use Prim.Native.Nat.{_+_, _*_, _-_, _≤_}
-use mathlib.Core.Path.{_≡_, refl, sym, _∙_}
-use mathlib.Core.Bool.{true, false}
+use mathlib.Core.Path.{_≡_, refl, _∙_}
 use native.Mathlib.Omega.{arith}
-use borrow.Author.Tests.{not-true, not-false}
 use denote.Ref.{now}
 use lib.ListN.{length, drop}
 use lib.Seq.{sets}
-use Rattle.packets.specs.Samples.{allSamples, samplesBytes}
+use Rattle.packets.specs.Samples.{samplesBytes}
 use Rattle.samples.proofs.Written.{pack-part, pack-end}
 use Rattle.samples.proofs.packing.pack16.Statement.{statement}
 use Rattle.samples.proofs.packing.pack16.Tie as tie
@@ -21,19 +19,6 @@ Inv-loop samples packet₀ blocks i₀ packet i =
 abbrev μ-loop : tie.MeasureT-loop
 μ-loop samples packet₀ blocks i₀ packet i = blocks - i
 
-all-fit-requires : tie.Need-all-fit-requires Inv-loop μ-loop
-all-fit-requires c κs = tt
-
-returns : tie.Need-returns Inv-loop μ-loop
-returns c =
-    let none : allSamples (now (c .before .before .before .args .samples)) ≡ false
-    = sym (c .before .all-fit .ensures) ∙ not-true _ (c .if1 .taken) in
-    (sym none, rw none)
-
--- past the test all are samples
-all : (c : tie.Else1 Inv-loop μ-loop) → allSamples (now (c .before .before .before .args .samples)) ≡ true
-all c = sym (c .before .all-fit .ensures) ∙ not-false _ (c .if1 .left)
-
 loop-holds : tie.Need-loop-holds Inv-loop μ-loop
 loop-holds c = (omega arith, refl, refl)
 
@@ -41,7 +26,7 @@ mul-block16 : tie.Need-mul-block16 Inv-loop μ-loop
 mul-block16 c = omega arith
 
 block16-requires : tie.Need-block16-requires Inv-loop μ-loop
-block16-requires c κs = (all (c .before .before .before), omega arith, omega arith)
+block16-requires c κs = (c .before .before .before .before .pre .0, omega arith, omega arith)
 
 add-i : tie.Need-add-i Inv-loop μ-loop
 add-i c = omega arith
@@ -53,7 +38,7 @@ loop-again : tie.Need-loop-again Inv-loop μ-loop
 loop-again c =
     let b = c .before .before in
     let l = b .before .before .before in
-    let zs = now (l .before .before .before .before .args .samples) in
+    let zs = now (l .before .before .args .samples) in
     let next : 16 * (l .loop .i + 1) ≡ 16 * l .loop .i + 16 = omega arith in (
       omega arith,
       b .block16 .kept .1 .0 ∙ l .loop .inv .1,
@@ -63,13 +48,10 @@ loop-again c =
 same-length : tie.Need-same-length Inv-loop μ-loop
 same-length c = c .before .loop .inv .1
 
-returns-2 : tie.Need-returns-2 Inv-loop μ-loop
-returns-2 c =
+returns : tie.Need-returns Inv-loop μ-loop
+returns c =
     let l = c .before in
-    let a = l .before .before .before .before .args in (
-      sym (all (l .before)),
-      rw (all (l .before)) (pack-end 16 4 (l .loop .packet) _ (now (a .samples)) (16 * l .loop .i) (omega arith) (l .loop .inv .2)),
-    )
+    pack-end 16 4 (l .loop .packet) _ (now (l .before .before .args .samples)) (16 * l .loop .i) (omega arith) (l .loop .inv .2)
 
 pub pack16-spec : {M : Type 1} → statement M
 pack16-spec =
@@ -77,8 +59,6 @@ pack16-spec =
     (tie.spec
     Inv-loop
     μ-loop
-    all-fit-requires
-    returns
     loop-holds
     mul-block16
     block16-requires
@@ -86,4 +66,4 @@ pack16-spec =
     loop-less
     loop-again
     same-length
-    returns-2)
+    returns)

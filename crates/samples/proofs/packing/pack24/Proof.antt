@@ -1,13 +1,11 @@
 -- `samples::packing::pack24` meets its contract. The loop's invariant: what is still to be stored gives the whole.
 use Prim.Native.Nat.{_+_, _*_, _-_, _≤_}
-use mathlib.Core.Path.{_≡_, refl, sym, _∙_}
-use mathlib.Core.Bool.{true, false}
+use mathlib.Core.Path.{_≡_, refl, _∙_}
 use native.Mathlib.Omega.{arith}
-use borrow.Author.Tests.{not-true, not-false}
 use denote.Ref.{now}
 use lib.ListN.{length, drop}
 use lib.Seq.{sets}
-use Rattle.packets.specs.Samples.{allSamples, samplesBytes}
+use Rattle.packets.specs.Samples.{samplesBytes}
 use Rattle.samples.proofs.Written.{pack-four, pack-end}
 use Rattle.samples.proofs.packing.pack24.Statement.{statement}
 use Rattle.samples.proofs.packing.pack24.Tie as tie
@@ -21,19 +19,6 @@ Inv-loop samples packet₀ fours i₀ packet i =
 abbrev μ-loop : tie.MeasureT-loop
 μ-loop samples packet₀ fours i₀ packet i = fours - i
 
-all-fit-requires : tie.Need-all-fit-requires Inv-loop μ-loop
-all-fit-requires c κs = tt
-
-returns : tie.Need-returns Inv-loop μ-loop
-returns c =
-    let none : allSamples (now (c .before .before .before .args .samples)) ≡ false
-    = sym (c .before .all-fit .ensures) ∙ not-true _ (c .if1 .taken) in
-    (sym none, rw none)
-
--- past the test all are samples
-all : (c : tie.Else1 Inv-loop μ-loop) → allSamples (now (c .before .before .before .args .samples)) ≡ true
-all c = sym (c .before .all-fit .ensures) ∙ not-false _ (c .if1 .left)
-
 loop-holds : tie.Need-loop-holds Inv-loop μ-loop
 loop-holds c = (omega arith, refl, refl)
 
@@ -41,7 +26,7 @@ mul-code24 : tie.Need-mul-code24 Inv-loop μ-loop
 mul-code24 c = omega arith
 
 code24-requires : tie.Need-code24-requires Inv-loop μ-loop
-code24-requires c κs = (all (c .before .before), omega arith)
+code24-requires c κs = (c .before .before .before .pre .0, omega arith)
 
 mul-code24-2 : tie.Need-mul-code24-2 Inv-loop μ-loop
 mul-code24-2 c = omega arith
@@ -50,7 +35,7 @@ add-code24 : tie.Need-add-code24 Inv-loop μ-loop
 add-code24 c = omega arith
 
 code24-requires-2 : tie.Need-code24-requires-2 Inv-loop μ-loop
-code24-requires-2 c κs = (all (c .before .before .before), omega arith)
+code24-requires-2 c κs = (c .before .before .before .before .pre .0, omega arith)
 
 mul-code24-3 : tie.Need-mul-code24-3 Inv-loop μ-loop
 mul-code24-3 c = omega arith
@@ -59,7 +44,7 @@ add-code24-2 : tie.Need-add-code24-2 Inv-loop μ-loop
 add-code24-2 c = omega arith
 
 code24-requires-3 : tie.Need-code24-requires-3 Inv-loop μ-loop
-code24-requires-3 c κs = (all (c .before .before .before .before), omega arith)
+code24-requires-3 c κs = (c .before .before .before .before .before .pre .0, omega arith)
 
 mul-code24-4 : tie.Need-mul-code24-4 Inv-loop μ-loop
 mul-code24-4 c = omega arith
@@ -68,7 +53,7 @@ add-code24-3 : tie.Need-add-code24-3 Inv-loop μ-loop
 add-code24-3 c = omega arith
 
 code24-requires-4 : tie.Need-code24-requires-4 Inv-loop μ-loop
-code24-requires-4 c κs = (all (c .before .before .before .before .before), omega arith)
+code24-requires-4 c κs = (c .before .before .before .before .before .before .pre .0, omega arith)
 
 mul-put-four24 : tie.Need-mul-put-four24 Inv-loop μ-loop
 mul-put-four24 c = omega arith
@@ -92,7 +77,7 @@ loop-again c =
     let p = c .before .before in
     let d = p .before .before in
     let l = d .before .before .before .before .before in
-    let zs = now (l .before .before .before .before .args .samples) in (
+    let zs = now (l .before .before .args .samples) in (
       omega arith,
       p .put-four24 .kept .0 ∙ l .loop .inv .1,
       rw (p .put-four24 .ensures)
@@ -103,13 +88,10 @@ loop-again c =
 same-length : tie.Need-same-length Inv-loop μ-loop
 same-length c = c .before .loop .inv .1
 
-returns-2 : tie.Need-returns-2 Inv-loop μ-loop
-returns-2 c =
+returns : tie.Need-returns Inv-loop μ-loop
+returns c =
     let l = c .before in
-    let a = l .before .before .before .before .args in (
-      sym (all (l .before)),
-      rw (all (l .before)) (pack-end 24 4 (l .loop .packet) _ (now (a .samples)) (4 * l .loop .i) (omega arith) (l .loop .inv .2)),
-    )
+    pack-end 24 4 (l .loop .packet) _ (now (l .before .before .args .samples)) (4 * l .loop .i) (omega arith) (l .loop .inv .2)
 
 pub pack24-spec : {M : Type 1} → statement M
 pack24-spec =
@@ -117,8 +99,6 @@ pack24-spec =
     (tie.spec
     Inv-loop
     μ-loop
-    all-fit-requires
-    returns
     loop-holds
     mul-code24
     code24-requires
@@ -138,4 +118,4 @@ pack24-spec =
     loop-less
     loop-again
     same-length
-    returns-2)
+    returns)
