@@ -55,25 +55,29 @@ pub pack-end : (bits at : ℕ) (l whole : List ℕ) (zs : List ℤ) (i : ℕ) �
     → sets l (at + bits / 8 * i) (samplesBytes bits (drop i zs)) ≡ whole → l ≡ whole
 pack-end bits at l whole zs i h done = rw (drop-of-length-le zs {i = i} h) at done
 
--- ---- a part of two or of four, by its samples
+-- ---- a part, by the numbers that are sent of its samples
 
 -- a number is what is sent of the sample at a place
 abbrev pub Sent : ℕ → List ℤ → ℕ → ℕ → Type 0
 Sent bits zs i v = v ≡ coded bits (narrowed bits (getD zs i (pos 0)))
 
+-- numbers are what is sent of the samples from a place on, and their bytes
+abbrev AllSent : ℕ → List ℤ → ℕ → List ℕ → Type 0
+AllSent bits zs i [] = Unit {0}
+AllSent bits zs i (v ∷ vs) = Sent bits zs i v × AllSent bits zs (i + 1) vs
+
+abbrev codesBytes : ℕ → List ℕ → List ℕ
+codesBytes n [] = []
+codesBytes n (v ∷ vs) = bytes n v ++ codesBytes n vs
+
 pub from-here : (zs : List ℤ) (i : ℕ) → i < length zs → drop i zs ≡ getD zs i (pos 0) ∷ drop (i + 1) zs
 from-here zs i h = rw add-one (drop-cons zs i (pos 0) h)
 
-two-sent : (bits : ℕ) (zs : List ℤ) (i v w : ℕ) → i + 2 ≤ length zs → Sent bits zs i v → Sent bits zs (i + 1) w
-    → samplesBytes bits (take 2 (drop i zs)) ≡ bytes (bits / 8) v ++ (bytes (bits / 8) w ++ [])
-two-sent bits zs i v w h first second = rw (from-here zs i (omega arith), from-here zs (i + 1) (omega arith), first, second) refl
-
-four-sent : (bits : ℕ) (zs : List ℤ) (i a b c d : ℕ) → i + 4 ≤ length zs → Sent bits zs i a → Sent bits zs (i + 1) b → Sent bits zs (i + 2) c → Sent bits zs (i + 3) d
-    → samplesBytes bits (take 4 (drop i zs)) ≡ bytes (bits / 8) a ++ (bytes (bits / 8) b ++ (bytes (bits / 8) c ++ (bytes (bits / 8) d ++ [])))
-four-sent bits zs i a b c d h isA isB isC isD =
-    let third : i + 1 + 1 ≡ i + 2 = omega arith in
-    let fourth : i + 2 + 1 ≡ i + 3 = omega arith in
-    rw (from-here zs i (omega arith), from-here zs (i + 1) (omega arith), third, from-here zs (i + 2) (omega arith), fourth, from-here zs (i + 3) (omega arith), isA, isB, isC, isD) refl
+part-sent : (bits : ℕ) (zs : List ℤ) (vs : List ℕ) (i : ℕ) → i + length vs ≤ length zs → AllSent bits zs i vs
+    → samplesBytes bits (take (length vs) (drop i zs)) ≡ codesBytes (bits / 8) vs
+part-sent bits zs [] i h all = refl
+part-sent bits zs (v ∷ vs) i h all =
+    rw (from-here zs i (omega arith), all .0) (ap (λ (l : List ℕ). sampleBytes bits (getD zs i (pos 0)) ++ l) (part-sent bits zs vs (i + 1) (omega arith) (all .1)))
 
 -- four of 24 bits are stored
 pub pack-four : (zs : List ℤ) (l whole : List ℕ) (i a b c d : ℕ) → 4 * (i + 1) ≤ length zs
@@ -83,7 +87,10 @@ pub pack-four : (zs : List ℤ) (l whole : List ℕ) (i a b c d : ℕ) → 4 * (
 pack-four zs l whole i a b c d h isA isB isC isD done =
     let here : 4 + 12 * i ≡ 4 + 3 * (4 * i) = omega arith in
     let next : 4 * (i + 1) ≡ 4 * i + 4 = omega arith in
-    ap (λ (bs : List ℕ). sets (sets l (4 + 12 * i) bs) (4 + 3 * (4 * (i + 1))) (samplesBytes 24 (drop (4 * (i + 1)) zs))) (sym (four-sent 24 zs (4 * i) a b c d (omega arith) isA isB isC isD))
+    let third : 4 * i + 2 ≡ 4 * i + 1 + 1 = omega arith in
+    let fourth : 4 * i + 3 ≡ 4 * i + 1 + 1 + 1 = omega arith in
+    let four = part-sent 24 zs (a ∷ b ∷ c ∷ d ∷ []) (4 * i) (omega arith) (isA, (isB, (rw third at isC, (rw fourth at isD, tt)))) in
+    ap (λ (bs : List ℕ). sets (sets l (4 + 12 * i) bs) (4 + 3 * (4 * (i + 1))) (samplesBytes 24 (drop (4 * (i + 1)) zs))) (sym four)
     ∙ rw (here, next) (pack-part 24 4 4 (4 * i) zs l whole (omega arith) done)
 
 -- ---- a block, whose samples are a part of the whole
@@ -100,6 +107,6 @@ pub pack-pair : (ws : List ℤ) (at : ℕ) (l whole held : List ℕ) (k r : ℕ)
 pack-pair ws at l whole held k r h word known done =
     let next : 2 * (k + 1) ≡ 2 * k + 2 = omega arith in
     let both : bytes 4 r ≡ samplesBytes 16 (take 2 (drop (2 * k) ws))
-    = word ∙ sym (two-sent 16 ws (2 * k) (getD held (2 * k) 0) (getD held (2 * k + 1) 0) (omega arith) (known (2 * k) (omega arith)) (known (2 * k + 1) (omega arith))) in
+    = word ∙ sym (part-sent 16 ws (getD held (2 * k) 0 ∷ getD held (2 * k + 1) 0 ∷ []) (2 * k) (omega arith) (known (2 * k) (omega arith), (known (2 * k + 1) (omega arith), tt))) in
     ap (λ (bs : List ℕ). sets (sets l (at + 2 * (2 * k)) bs) (at + 2 * (2 * (k + 1))) (samplesBytes 16 (drop (2 * (k + 1)) ws))) both
     ∙ rw next (pack-part 16 at 2 (2 * k) ws l whole (omega arith) done)
