@@ -2,14 +2,14 @@
 use Prim.Native.Nat.{ℕ, zero, suc, _+_, _*_, _-_, _/_, _^_}
 use mathlib.Core.Bool.{Bool, true, _&&_}
 use mathlib.Core.List.{List, [], _∷_, _++_}
-use lib.IntN.{ℤ, pos, negsuc}
+use lib.IntN.{ℤ, pos}
 use lib.Signed.{leZ, shrZ}
 use Rattle.wire.specs.Number.{bytes, field}
-use Rattle.wire.specs.Signed.{coded, signed}
+use Rattle.wire.specs.Signed.{minus, coded, signed}
 
--- -8,388,608 ≤ z ≤ 8,388,607. (`negsuc n` is -n - 1.)
+-- -8,388,608 ≤ z ≤ 8,388,607
 abbrev pub isSample : ℤ → Bool
-isSample z = leZ (negsuc 8_388_607) z && leZ z (pos 8_388_607)
+isSample z = leZ (minus 8_388_608) z && leZ z (pos 8_388_607)
 
 abbrev pub allSamples : List ℤ → Bool
 allSamples [] = true

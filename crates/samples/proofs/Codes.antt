@@ -15,7 +15,7 @@ use mir.Facts.{toZ-ofZ, toZ-pos}
 use borrow.Author.Tests.{leb-true, lt-ltb, le-ltb}
 use lib.Dec.{leb}
 use Rattle.wire.proofs.Laws.{and-left}
-use Rattle.wire.specs.Signed.{coded, signed}
+use Rattle.wire.specs.Signed.{minus, coded, signed}
 use Rattle.packets.specs.Samples.{isSample, narrowed}
 
 -- z lifted by h, which is more than -z
@@ -81,7 +81,7 @@ sixteen-small (negsuc n) s = omega (arith, sample-small (negsuc n) s)
 -- "Dividing towards zero for 16 bits" gives others: -257 would be sent as FF FF.
 pub towards-zero-fails : ((z : ℤ) → isSample z ≡ true → coded 16 (quotZ z (pos 256)) ≡ coded 16 (narrowed 16 z)) → ⊥
 towards-zero-fails same =
-    let wrong : _≡_ {A = ℕ} 0xFFFF 0xFFFE = same (negsuc 256) refl in
+    let wrong : _≡_ {A = ℕ} 0xFFFF 0xFFFE = same (minus 257) refl in
     omega arith
 
 -- ---- and back: a code lifted by half a turn, the whole turns taken off, and the half turn taken off again

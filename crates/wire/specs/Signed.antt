@@ -1,9 +1,14 @@
--- Signed numbers in k bits, as two's complement.
-use Prim.Native.Nat.{ℕ, suc, _-_, _^_}
+-- Signed numbers, and their k bits as two's complement.
+use Prim.Native.Nat.{ℕ, zero, suc, _-_, _^_}
 use mathlib.Core.Bool.{Bool, false}
 use lib.Dec.{eqb, ltb}
 use lib.IntN.{ℤ, pos, negsuc}
 use Rattle.wire.specs.Choice.{pick}
+
+-- -n, as document 01 writes its negative numbers (`pos n` is n, `negsuc n` is -n - 1)
+abbrev pub minus : ℕ → ℤ
+minus zero = pos 0
+minus (suc n) = negsuc n
 
 -- the k bits that stand for z
 abbrev pub coded : ℕ → ℤ → ℕ
