@@ -10,7 +10,7 @@ use borrow.Author.Tests.{lt-ltb, le-ltb, ltb-true, ltb-false}
 use Rattle.wire.specs.Choice.{pick}
 use Rattle.wire.proofs.Laws.{within-low, within-high, pick-keeps}
 use Rattle.rates.specs.Rate.{mayAsk, miss, Nearer, Nearest, nearestUpTo, nearestOf}
-use Rattle.rates.specs.Table.{rates}
+use Rattle.rates.specs.Entries.{entries}
 use Rattle.rates.proofs.Rules.{everywhere}
 use Rattle.rates.proofs.Fractions.{between, here-before, here-after, next-before, next-after, tie}
 
@@ -42,7 +42,8 @@ module _ (f n d : ℕ) (b : Best f n d) where
             | yes less ↦ (
                 let d-pos : 0 < d = omega (arith, b .least) in
                 let so-far : e ≤ 10 + n = omega arith in
-                between (miss f (11 + n)) (11 + n) (miss f d) d (miss f e) e d-pos (le-of-lt (ltb-true (miss f (11 + n) * d) (miss f d * (11 + n)) test)) (b .best e low so-far))
+                let than-d : miss f (11 + n) * d ≤ miss f d * (11 + n) = le-of-lt (ltb-true (miss f (11 + n) * d) _ test) in
+                between (miss f (11 + n)) (11 + n) (miss f d) d (miss f e) e d-pos than-d (b .best e low so-far))
             | no less ↦ (let same : e ≡ 11 + n = omega arith in rw same (le-refl (miss f (11 + n) * (11 + n))))
           ]
 
@@ -90,11 +91,11 @@ abbrev tieRest : ℕ → ℕ
 tieRest d = 20000000 % (2 * (d * (d + 1)))
 
 no-tie : (d : ℕ) → 10 ≤ d → d ≤ 625 → 0 < tieRest d
-unfolding rates
+unfolding entries
 no-tie d low high =
     let place : d - 10 + 10 ≡ d = omega arith in
     let here : 0 < tieRest (d - 10 + 10)
-    = ltb→lt 0 (tieRest (d - 10 + 10)) (everywhere (λ k x. ltb 0 (tieRest (k + 10))) 616 rates tt refl (d - 10) (omega arith)) in
+    = ltb→lt 0 (tieRest (d - 10 + 10)) (everywhere (λ k x. ltb 0 (tieRest (k + 10))) 616 entries tt refl (d - 10) (omega arith)) in
     rw place at here
 
 module _ (f : ℕ) (asked : mayAsk f ≡ true) where
@@ -177,8 +178,11 @@ module _ (f : ℕ) (asked : mayAsk f ≡ true) where
   chosen-nearest =
       elim (decLt (above * (d + 1)) (below * d)) [
         | yes less ↦ rw (lt-ltb (above * (d + 1)) (below * d) less) (here-nearest less)
-        | no less ↦ rw (le-ltb (above * (d + 1)) (below * d) (omega arith)) (next-nearest (elim (ℕ-discrete (below * d) (above * (d + 1))) [ yes even ↦ absurd (differ even) | no odd ↦ omega arith ]))
+        | no less ↦ rw (le-ltb (above * (d + 1)) (below * d) (omega arith)) (next-nearest (more less))
       ]
+    where
+      more : (above * (d + 1) < below * d → ⊥) → below * d < above * (d + 1)
+      more less = elim (ℕ-discrete (below * d) (above * (d + 1))) [ yes even ↦ absurd (differ even) | no odd ↦ omega arith ]
 
   -- the search and the two candidates agree
   pub nearest-chosen : nearestOf f ≡ chosen f

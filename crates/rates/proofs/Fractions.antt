@@ -2,7 +2,8 @@
 -- 20,000,000 and f = above + below, the exact rate of d lies above / d over f, and that of d + 1 lies below / (d + 1) under it.
 use Prim.Native.Nat.{ℕ, suc, _+_, _*_, _-_, _%_, _≤_, _<_}
 use mathlib.Core.Path.{_≡_, sym, ap, _∙_}
-use native.Mathlib.Nat.{mul-add, add-mul, mul-suc, mul-comm, mul-assoc, mul-one, mul-right-comm, mul-le-mul-left, mul-le-mul-right, mul-pos, le-of-mul-le-mul-right, mul-mod-right, le-of-lt}
+use native.Mathlib.Nat.{mul-add, add-mul, mul-suc, mul-comm, mul-assoc, mul-one, mul-right-comm, mul-mod-right}
+use native.Mathlib.Nat.{mul-le-mul-left, mul-le-mul-right, mul-pos, le-of-mul-le-mul-right, le-of-lt}
 use native.Mathlib.Decide.{decLt}
 use native.Mathlib.Omega.{arith}
 use Rattle.rates.specs.Rate.{miss, Nearer}
@@ -41,10 +42,12 @@ module _ (f d above below : ℕ) (whole : f * d + above ≡ 20000000) (parts : f
   pub here-after : above * (d + 1) < below * d → (e j : ℕ) → e ≡ d + suc j → Nearer f d e
   here-after less e j h =
       let part : above ≤ f = omega arith in
-      let turn : above * e ≡ above * d + (above * j + above) = ap (λ (m : ℕ). above * m) h ∙ omega (arith, mul-add above d (suc j), mul-suc above j) in
+      let turn : above * e ≡ above * d + (above * j + above)
+      = ap (λ (m : ℕ). above * m) h ∙ omega (arith, mul-add above d (suc j), mul-suc above j) in
+      let next : above * (d + 1) ≡ above * d + above = omega (arith, mul-add above d 1, mul-one above) in
+      let more : f * j ≤ f * j * d = omega (arith, mul-le-mul-left (f * j) pos, mul-one (f * j)) in
       rw (miss-here, miss-after e j h)
-      (omega
-      (arith, turn, mul-add above d 1, mul-one above, add-mul below (f * j) d, mul-le-mul-right j part, mul-le-mul-left (f * j) pos, mul-one (f * j)))
+      (omega (arith, turn, next, more, add-mul below (f * j) d, mul-le-mul-right j part))
 
   -- where the rate of d + 1 is nearer than d's, it is nearer than those of all smaller D
   pub next-before : below * d < above * (d + 1) → (e k : ℕ) → e + k ≡ d → Nearer f (d + 1) e
@@ -60,15 +63,16 @@ module _ (f d above below : ℕ) (whole : f * d + above ≡ 20000000) (parts : f
       let step : 0 < suc j = omega arith in
       let past : e ≡ d + 1 + suc j = omega arith in
       let turn : below * e ≡ below * (d + 1) + below * suc j = ap (λ (m : ℕ). below * m) past ∙ mul-add below (d + 1) (suc j) in
+      let more : f * suc j * (d + 1) ≡ f * suc j * d + f * suc j = omega (arith, mul-add (f * suc j) d 1, mul-one (f * suc j)) in
       rw (miss-next, miss-after e (suc j) h)
-      (omega
-      (arith, turn, add-mul below (f * suc j) (d + 1), mul-le-mul-right (suc j) part, mul-add (f * suc j) d 1, mul-one (f * suc j), mul-pos (mul-pos rate step) pos))
+      (omega (arith, turn, more, add-mul below (f * suc j) (d + 1), mul-le-mul-right (suc j) part, mul-pos (mul-pos rate step) pos))
 
   -- A tie would make 20,000,000 a multiple of 2 d (d + 1).
   pub tie : below * d ≡ above * (d + 1) → 20000000 % (2 * (d * (d + 1))) ≡ 0
   tie even =
       let split : above * (d + 1) ≡ above * d + above = omega (arith, mul-add above d 1, mul-one above) in
-      let low : above ≤ below = elim (decLt below above) [ yes less ↦ omega (arith, mul-le-mul-right d (le-of-lt less)) | no less ↦ omega arith ] in
+      let low : above ≤ below
+      = elim (decLt below above) [ yes less ↦ omega (arith, mul-le-mul-right d (le-of-lt less)) | no less ↦ omega arith ] in
       let t : ℕ = below - above in
       let rest : above + t ≡ below = omega arith in
       let times : t * d ≡ above = omega (arith, add-mul above t d, ap (λ (m : ℕ). m * d) rest) in

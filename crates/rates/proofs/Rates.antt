@@ -14,19 +14,26 @@ use Rattle.wire.specs.Halves.{NearestUp}
 use Rattle.wire.proofs.Halves.{half-up}
 use Rattle.wire.proofs.Laws.{true-not-false, test-true, within-low, within-high, is-within, pick-true, by-test}
 use Rattle.rates.specs.Rate.{isD, rateOf, mayAsk, nearestOf}
+use Rattle.rates.specs.Entries.{entries}
 use Rattle.rates.specs.Table.{ratesFrom, rates, dIn, dOf}
 use Rattle.rates.proofs.Rules.{everywhere, falling}
 use Rattle.rates.proofs.Choosing.{chosen, nearest-chosen, nearest-is}
 
--- the rounding rule, at each place
+-- The numbers written out in the code are the rule's, in turn: all 616 at once. Whatever is said of the table rests on this.
+pub table-rates : entries ≡ rates
+unfolding entries rates rateOf
+table-rates = refl
+
+-- the rule at each place of its list
 from-rule : (n d k : ℕ) → k < n → getD (ratesFrom d n) k 0 ≡ rateOf (k + d)
 from-rule zero d k h = absurd (not-suc-le-zero h)
 from-rule (suc n) d zero h = ap rateOf (omega arith)
 from-rule (suc n) d (suc k) h = from-rule n (d + 1) k (le-of-suc-le-suc h) ∙ ap rateOf (omega arith)
 
-pub table-rule : (k : ℕ) → k < 616 → getD rates k 0 ≡ rateOf (k + 10)
+-- the rounding rule: the number at the place D less ten is the rate of D
+pub table-rule : (k : ℕ) → k < 616 → getD entries k 0 ≡ rateOf (k + 10)
 unfolding rates
-table-rule = from-rule 616 10
+table-rule k h = ap (λ (l : List ℕ). getD l k 0) table-rates ∙ from-rule 616 10 k h
 
 -- "rounded to a whole Hz, halves up"
 pub rate-nearest : (d : ℕ) → isD d ≡ true → NearestUp 20_000_000 d (rateOf d)
@@ -34,9 +41,9 @@ unfolding rateOf
 rate-nearest d is = half-up 20_000_000 d (omega (arith, within-low 10 625 d is))
 
 -- each entry is below those before it, so that all are distinct
-pub table-falls : (j k : ℕ) → j < k → k < 616 → getD rates k 0 < getD rates j 0
-unfolding rates rateOf
-table-falls = falling 2000001 rates tt
+pub table-falls : (j k : ℕ) → j < k → k < 616 → getD entries k 0 < getD entries j 0
+unfolding entries
+table-falls = falling 2000001 entries tt
 
 -- a fact that holds at each place of the table holds of each D
 at-d : (P : ℕ → Type 0) → ((k : ℕ) → k < 616 → P (k + 10)) → (d : ℕ) → isD d ≡ true → P d
@@ -47,16 +54,20 @@ at-d P h d is =
     rw place at (h (d - 10) (omega arith))
 
 asked : (k : ℕ) → k < 616 → mayAsk (rateOf (k + 10)) ≡ true
-unfolding rates rateOf
-asked k h = rw (table-rule k h) at (test-true (mayAsk (getD rates k 0)) (everywhere (λ j x. mayAsk x) 616 rates tt refl k h))
+unfolding entries
+asked k h =
+    let here : mayAsk (getD entries k 0) ≡ true = test-true _ (everywhere (λ j x. mayAsk x) 616 entries tt refl k h) in
+    rw (table-rule k h) at here
 
 -- an achieved rate lies in 32,000 to 2,000,000
 pub rate-asked : (d : ℕ) → isD d ≡ true → mayAsk (rateOf d) ≡ true
 rate-asked = at-d (λ d. mayAsk (rateOf d) ≡ true) asked
 
 back : (k : ℕ) → k < 616 → chosen (rateOf (k + 10)) ≡ k + 10
-unfolding rates rateOf chosen
-back k h = rw (table-rule k h) at (eqb→eq (chosen (getD rates k 0)) (k + 10) (everywhere (λ j x. eqb (chosen x) (j + 10)) 616 rates tt refl k h))
+unfolding entries chosen
+back k h =
+    let here : chosen (getD entries k 0) ≡ k + 10 = eqb→eq _ _ (everywhere (λ j x. eqb (chosen x) (j + 10)) 616 entries tt refl k h) in
+    rw (table-rule k h) at here
 
 -- and names its D alone: asked for, it gives this D
 pub rate-names : (d : ℕ) → isD d ≡ true → nearestOf (rateOf d) ≡ d
@@ -89,11 +100,12 @@ last-stretch i inside others = omega (arith, past 10 (i / 56) others)
 lt-ne : (n : ℕ) → 0 < n → n ≡ 0 → ⊥
 lt-ne n some none = omega arith
 
-table-length : length rates ≡ 616
-unfolding rates
+table-length : length entries ≡ 616
+unfolding entries
 table-length = refl
 
-in-at : (xs : List ℕ) (d rate k : ℕ) → k < length xs → ((j : ℕ) → j < k → getD xs j 0 ≡ rate → ⊥) → getD xs k 0 ≡ rate → dIn xs d rate ≡ d + k
+in-at : (xs : List ℕ) (d rate k : ℕ) → k < length xs → ((j : ℕ) → j < k → getD xs j 0 ≡ rate → ⊥) → getD xs k 0 ≡ rate
+    → dIn xs d rate ≡ d + k
 in-at [] d rate k h others is = absurd (not-suc-le-zero h)
 in-at (x ∷ xs) d rate zero h others is = rw (eq-eqb x rate is) (sym (add-zero d))
 in-at (x ∷ xs) d rate (suc k) h others is =
@@ -110,9 +122,10 @@ in-none (x ∷ xs) d rate none =
 of-place : (k : ℕ) → k < 616 → dOf (rateOf (k + 10)) ≡ k + 10
 unfolding dOf
 of-place k h =
-    in-at rates 10 (rateOf (k + 10)) k (rw table-length h)
+    rw (← table-rates)
+    (in-at entries 10 (rateOf (k + 10)) k (rw table-length h)
     (λ j l e. omega (arith, table-falls j k l h, table-rule k h, e)) (table-rule k h)
-    ∙ omega arith
+    ∙ omega arith)
 
 -- the achieved rate of a D has this D
 pub d-of-rate : (d : ℕ) → isD d ≡ true → dOf (rateOf d) ≡ d
@@ -121,9 +134,9 @@ d-of-rate = at-d (λ d. dOf (rateOf d) ≡ d) of-place
 -- a rate that is no D's achieved rate has none
 pub d-of-none : (rate : ℕ) → ((d : ℕ) → isD d ≡ true → rateOf d ≡ rate → ⊥) → dOf rate ≡ 0
 unfolding dOf
-d-of-none rate none = in-none rates 10 rate nowhere
+d-of-none rate none = rw (← table-rates) (in-none entries 10 rate nowhere)
   where
-    nowhere : (k : ℕ) → k < length rates → getD rates k 0 ≡ rate → ⊥
+    nowhere : (k : ℕ) → k < length entries → getD entries k 0 ≡ rate → ⊥
     nowhere k h e =
         let inside : k < 616 = omega (arith, table-length) in
         none (k + 10) (is-within 10 625 (k + 10) (omega arith) (omega arith)) (sym (table-rule k inside) ∙ e)
@@ -170,10 +183,14 @@ d-of-found rate some = go (mayAsk rate) refl
     go : (t : Bool) → mayAsk rate ≡ t → (isD (dOf rate) ≡ true) × (rateOf (dOf rate) ≡ rate)
     go false unasked = absurd (lt-ne (dOf rate) some (d-of-unasked rate unasked))
     go true asked =
-        let is : isD (nearestOf rate) ≡ true = nearest-d rate asked in
-        elim (ℕ-discrete (rateOf (nearestOf rate)) rate) [
-          | yes same ↦ (let its : dOf rate ≡ nearestOf rate = ap dOf (sym same) ∙ d-of-rate (nearestOf rate) is in (rw its is, rw its same))
-          | no other ↦ absurd (lt-ne (dOf rate) some (sym (d-of-miss rate (nearestOf rate) (rateOf (nearestOf rate)) (sym (pick-true _ _ _ asked)) (sym (pick-true _ _ _ is)) other)))
+        let d : ℕ = nearestOf rate in
+        let is : isD d ≡ true = nearest-d rate asked in
+        elim (ℕ-discrete (rateOf d) rate) [
+          | yes same ↦ (let its : dOf rate ≡ d = ap dOf (sym same) ∙ d-of-rate d is in (rw its is, rw its same))
+          | no other ↦ (
+              let near : d ≡ pick (mayAsk rate) d 0 = sym (pick-true _ _ _ asked) in
+              let got : rateOf d ≡ pick (isD d) (rateOf d) 0 = sym (pick-true _ _ _ is) in
+              absurd (lt-ne (dOf rate) some (sym (d-of-miss rate d (rateOf d) near got other))))
         ]
 
 -- a rate has a D exactly where it is one of the table

@@ -44,7 +44,9 @@ below-top : (top : ℕ) (xs : List ℕ) → T (falls top xs) → (k : ℕ) → k
 below-top top [] t k h = absurd (not-suc-le-zero h)
 below-top top (x ∷ xs) t zero h = ltb→lt x top (both-left (ltb x top) (falls x xs) t)
 below-top top (x ∷ xs) t (suc k) h =
-    omega (arith, ltb→lt x top (both-left (ltb x top) (falls x xs) t), below-top x xs (both-right (ltb x top) (falls x xs) t) k (le-of-suc-le-suc h))
+    let first : x < top = ltb→lt x top (both-left (ltb x top) (falls x xs) t) in
+    let later : getD xs k 0 < x = below-top x xs (both-right (ltb x top) (falls x xs) t) k (le-of-suc-le-suc h) in
+    omega arith
 
 pub falling : (top : ℕ) (xs : List ℕ) → T (falls top xs) → (j k : ℕ) → j < k → k < length xs → getD xs k 0 < getD xs j 0
 falling top [] t j k l h = absurd (not-suc-le-zero h)

@@ -1,2 +1,3 @@
 pub mod Rate
+pub mod Entries
 pub mod Table

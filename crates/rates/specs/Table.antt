@@ -1,5 +1,5 @@
--- "The 616 achieved rates are kept as one table": the rule's rate of each D from 10 to 625, in turn. Crate `rates` keeps their
--- numbers written out (src/entries.rt), and its promise is that they are these.
+-- The achieved rates by the rule: the rate of each D from 10 to 625, in turn. The table that is kept has them written out
+-- (Entries).
 use Prim.Native.Nat.{ℕ, zero, suc, _+_}
 use mathlib.Core.List.{List, [], _∷_}
 use lib.Dec.{eqb}

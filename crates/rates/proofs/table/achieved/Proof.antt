@@ -1,5 +1,5 @@
--- The number at the place D less ten is the rule's: the table that is written out and the list of the rule compute to the same.
--- Each arm reads at that very place (`stretch`), so that the rule is asked of the whole table and not of its stretches.
+-- The number at the place D less ten is the rule's, by `table-rule`. Each arm reads the written-out table at that very place
+-- (`stretch`), so that the law is asked of the whole table and not of its stretches.
 use Prim.Native.Nat.{ℕ, _-_, _≤_, _<_}
 use mathlib.Core.Path.{_≡_, sym, ap, _∙_}
 use mathlib.Core.Bool.{true, false}
@@ -11,7 +11,7 @@ use borrow.Author.Tests.{not-true, not-false}
 use Rattle.wire.specs.Choice.{pick}
 use Rattle.wire.proofs.Laws.{pick-true, pick-false, within-low, within-high}
 use Rattle.rates.specs.Rate.{isD, rateOf}
-use Rattle.rates.specs.Table.{rates}
+use Rattle.rates.specs.Entries.{entries}
 use Rattle.rates.proofs.Rates.{table-rule, stretch, last-stretch}
 use Rattle.rates.proofs.table.achieved.Statement.{statement}
 use Rattle.rates.proofs.table.achieved.Tie as tie
@@ -19,23 +19,27 @@ use Rattle.rates.proofs.table.achieved.Tie as tie
 no-d : (c : tie.Then1) → isD (c .before .before .args .d) ≡ false
 no-d c = sym (c .before .is-d .ensures) ∙ not-true _ (c .if1 .taken)
 
-a-d : (c : tie.Else1) → isD (c .before .before .args .d) ≡ true
+-- the D, where it is one
+abbrev the-d : tie.Else1 → ℕ
+the-d c = c .before .before .args .d
+
+a-d : (c : tie.Else1) → isD (the-d c) ≡ true
 a-d c = sym (c .before .is-d .ensures) ∙ not-false _ (c .if1 .left)
 
-ten : (c : tie.Else1) → 10 ≤ c .before .before .args .d
-ten c = within-low 10 625 (c .before .before .args .d) (a-d c)
+ten : (c : tie.Else1) → 10 ≤ the-d c
+ten c = within-low 10 625 (the-d c) (a-d c)
 
-most : (c : tie.Else1) → c .before .before .args .d ≤ 625
-most c = within-high 10 625 (c .before .before .args .d) (a-d c)
+most : (c : tie.Else1) → the-d c ≤ 625
+most c = within-high 10 625 (the-d c) (a-d c)
 
 abbrev place : tie.Else1 → ℕ
-place c = c .before .before .args .d - 10
+place c = the-d c - 10
 
 inside : (c : tie.Else1) → place c < 616
 inside c = omega (arith, ten c, most c)
 
 -- the entry at that place is the achieved rate
-entry : (c : tie.Else1) (i : ℕ) → i ≡ place c → getD rates i 0 ≡ pick (isD (c .before .before .args .d)) (rateOf (c .before .before .args .d)) 0
+entry : (c : tie.Else1) (i : ℕ) → i ≡ place c → getD entries i 0 ≡ pick (isD (the-d c)) (rateOf (the-d c)) 0
 entry c i here =
     table-rule i (rw here (inside c))
     ∙ ap rateOf (omega (arith, ten c))
@@ -150,47 +154,47 @@ array-read-result-11 : tie.Need-array-read-result-11
 array-read-result-11 c = search needs
 
 returns-2 : tie.Need-returns-2
-unfolding rates rateOf
+unfolding entries
 returns-2 c = entry (c .before) _ (sym (zero-add _) ∙ stretch 0 _ (c .match .keys1))
 
 returns-3 : tie.Need-returns-3
-unfolding rates rateOf
+unfolding entries
 returns-3 c = entry (c .before) _ (stretch 1 _ (c .match .keys2))
 
 returns-4 : tie.Need-returns-4
-unfolding rates rateOf
+unfolding entries
 returns-4 c = entry (c .before) _ (stretch 2 _ (c .match .keys3))
 
 returns-5 : tie.Need-returns-5
-unfolding rates rateOf
+unfolding entries
 returns-5 c = entry (c .before) _ (stretch 3 _ (c .match .keys4))
 
 returns-6 : tie.Need-returns-6
-unfolding rates rateOf
+unfolding entries
 returns-6 c = entry (c .before) _ (stretch 4 _ (c .match .keys5))
 
 returns-7 : tie.Need-returns-7
-unfolding rates rateOf
+unfolding entries
 returns-7 c = entry (c .before) _ (stretch 5 _ (c .match .keys6))
 
 returns-8 : tie.Need-returns-8
-unfolding rates rateOf
+unfolding entries
 returns-8 c = entry (c .before) _ (stretch 6 _ (c .match .keys7))
 
 returns-9 : tie.Need-returns-9
-unfolding rates rateOf
+unfolding entries
 returns-9 c = entry (c .before) _ (stretch 7 _ (c .match .keys8))
 
 returns-10 : tie.Need-returns-10
-unfolding rates rateOf
+unfolding entries
 returns-10 c = entry (c .before) _ (stretch 8 _ (c .match .keys9))
 
 returns-11 : tie.Need-returns-11
-unfolding rates rateOf
+unfolding entries
 returns-11 c = entry (c .before) _ (stretch 9 _ (c .match .keys10))
 
 returns-12 : tie.Need-returns-12
-unfolding rates rateOf
+unfolding entries
 returns-12 c = entry (c .before) _ (stretch 10 _ (last-stretch _ (inside (c .before)) (c .match .rest)))
 
 pub achieved-spec : {M : Type 1} → statement M

@@ -12,13 +12,17 @@ achieved-requires c κs = search needs
 
 returns : tie.Need-returns
 returns c =
-    let n = c .before .before in
-    d-of-hit (n .before .args .rate) (n .nearest .result) (c .before .achieved .result) (n .nearest .ensures) (c .before .achieved .ensures) (c .if1 .taken)
+    let found = c .before in
+    let near = found .before in
+    d-of-hit (near .before .args .rate) (near .nearest .result) (found .achieved .result)
+    (near .nearest .ensures) (found .achieved .ensures) (c .if1 .taken)
 
 returns-2 : tie.Need-returns-2
 returns-2 c =
-    let n = c .before .before in
-    d-of-miss (n .before .args .rate) (n .nearest .result) (c .before .achieved .result) (n .nearest .ensures) (c .before .achieved .ensures) (c .if1 .left)
+    let found = c .before in
+    let near = found .before in
+    d-of-miss (near .before .args .rate) (near .nearest .result) (found .achieved .result)
+    (near .nearest .ensures) (found .achieved .ensures) (c .if1 .left)
 
 pub d-of-spec : {M : Type 1} → statement M
 d-of-spec = tie.close (tie.spec nearest-requires achieved-requires returns returns-2)
