@@ -73,9 +73,6 @@ back k h =
 pub rate-names : (d : ℕ) → isD d ≡ true → nearestOf (rateOf d) ≡ d
 rate-names d is = nearest-chosen (rateOf d) (rate-asked d is) ∙ at-d (λ e. chosen (rateOf e) ≡ e) back d is
 
-pub rate-one : (d e : ℕ) → isD d ≡ true → isD e ≡ true → rateOf d ≡ rateOf e → d ≡ e
-rate-one d e p q same = sym (rate-names d p) ∙ ap nearestOf same ∙ rate-names e q
-
 -- ---- a place by its stretch of 56, as `achieved` reads it
 
 -- the place is where its stretch begins, and its place in the stretch

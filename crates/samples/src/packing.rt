@@ -13,7 +13,8 @@ ghost use Rattle.wire.specs.Signed.{coded};
 ghost use Rattle.packets.specs.Samples.{allSamples, narrowed, samplesBytes};
 ghost use Rattle.samples.specs.Packing.{mayPack, packedOf};
 
-// Writes a number in four bytes at a place that the slice has: stores of one number side by side are one of the processor's.
+// Writes a word at a place that the slice has: stores of one number side by side are one of the processor's. (`wire::put` looks
+// first whether the slice has it: a test at each word.)
 fn put_word(dst: &mut [u8], at: usize, v: u32)
     requires { ⌜ at + 4 ≤ length (now dst) ⌝ }
     ensures { λ r. ⌜ now (dst .exit) ≡ sets (now (dst .entry)) at (bytes 4 v) ⌝ }

@@ -9,19 +9,12 @@ ghost use Rattle.wire.specs.Signed.{signed};
 ghost use Rattle.packets.specs.Samples.{samplesFrom};
 ghost use Rattle.samples.specs.Packing.{mayUnpack, unpackedOf};
 
-// A byte as a part of a word.
-fn wide(b: u8) -> u32
-    ensures { λ r. ⌜ (r ≡ b) × (r ≤ 255) ⌝ }
-{
-    b as u32
-}
-
-// The number in four bytes at a place that the slice has: bytes side by side in one sum are one read of the processor's.
-fn word(s: &[u8], at: usize) -> u32
+// The word at a place that the slice has. (`wire::number_at` looks first whether the slice has it: a test at each sample.)
+fn word_at(s: &[u8], at: usize) -> u32
     requires { ⌜ at + 4 ≤ length (now s) ⌝ }
     ensures { λ r. ⌜ r ≡ field at 4 (now (s .entry)) ⌝ }
 {
-    wide(s[at]) + 256 * wide(s[at + 1]) + 65536 * wide(s[at + 2]) + 16777216 * wide(s[at + 3])
+    wire::word(s[at], s[at + 1], s[at + 2], s[at + 3])
 }
 
 // The number that 24 bits stand for.
@@ -47,7 +40,7 @@ fn unpack24(packet: &[u8], out: &mut [i32], n: usize)
 {
     let mut i = 0;
     while i < n {
-        out[i] = sign24(word(packet, 3 + 3 * i) / 256);
+        out[i] = sign24(word_at(packet, 3 + 3 * i) / 256);
         i += 1;
     }
 }
@@ -65,7 +58,7 @@ fn block16(packet: &[u8], out: &mut [i32], first: usize)
     while round < 8 {
         let mut i = 4 * round;
         while i < 4 * round + 4 {
-            let pair = word(packet, 4 + 4 * (first + i));
+            let pair = word_at(packet, 4 + 4 * (first + i));
             held[2 * i] = (pair % 65536) as u16;
             held[2 * i + 1] = (pair / 65536) as u16;
             i += 1;

@@ -4,15 +4,15 @@ use mathlib.Core.Path.{_≡_}
 use native.Mathlib.Omega.{arith}
 use Rattle.wire.specs.Header.{lengthIn, typeIn, headerOf}
 
-pub length-header : (type length : ℕ) → length < 8192 → lengthIn (headerOf type length) ≡ length
-length-header type length h = omega arith
+pub length-header : (type total : ℕ) → total < 8192 → lengthIn (headerOf type total) ≡ total
+length-header type total h = omega arith
 
-pub type-header : (type length : ℕ) → type < 8 → typeIn (headerOf type length) ≡ type
-type-header type length h = omega arith
+pub type-header : (type total : ℕ) → type < 8 → typeIn (headerOf type total) ≡ type
+type-header type total h = omega arith
 
 -- and a header is made of what is in it
 pub header-parts : (header : ℕ) → header < 65536 → headerOf (typeIn header) (lengthIn header) ≡ header
 header-parts header h = omega arith
 
-pub header-below : (type length : ℕ) → headerOf type length < 65536
-header-below type length = omega arith
+pub header-below : (type total : ℕ) → headerOf type total < 65536
+header-below type total = omega arith

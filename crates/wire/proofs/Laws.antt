@@ -28,10 +28,6 @@ pub test-true : (t : Bool) → T t → t ≡ true
 test-true true h = refl
 test-true false h = absurd h
 
-pub test-holds : (t : Bool) → t ≡ true → T t
-test-holds true e = tt
-test-holds false e = absurd (true-not-false (sym e))
-
 -- ---- `_&&_`
 
 pub and-both : (a b : Bool) → a ≡ true → b ≡ true → a && b ≡ true
@@ -69,18 +65,6 @@ pub or-right : (a b : Bool) → b ≡ true → a || b ≡ true
 or-right true b q = refl
 or-right false b q = q
 
-pub or-neither : (a b : Bool) → a ≡ false → b ≡ false → a || b ≡ false
-or-neither true b p q = p
-or-neither false b p q = q
-
-pub or-not-left : (a b : Bool) → a || b ≡ false → a ≡ false
-or-not-left true b e = e
-or-not-left false b e = refl
-
-pub or-not-right : (a b : Bool) → a || b ≡ false → b ≡ false
-or-not-right true b e = absurd (true-not-false e)
-or-not-right false b e = e
-
 -- where one holds and the first does not, the second does
 pub or-rest : (a b : Bool) → a || b ≡ true → a ≡ false → b ≡ true
 or-rest true b e p = absurd (true-not-false p)
@@ -109,10 +93,6 @@ module _ {X : Type 0} where
   pub pick-keeps : (P : X → Type 0) (t : Bool) (x y : X) → (t ≡ true → P x) → (t ≡ false → P y) → P (pick t x y)
   pick-keeps P true x y h k = h refl
   pick-keeps P false x y h k = k refl
-
-pub pick-ap : {X Y : Type 0} (f : X → Y) (t : Bool) (x y : X) → f (pick t x y) ≡ pick t (f x) (f y)
-pick-ap f true x y = refl
-pick-ap f false x y = refl
 
 -- ---- splitting
 
@@ -152,9 +132,3 @@ within-high low high n e = leb-true n high (and-right (leb low n) (leb n high) e
 
 pub is-within : (low high n : ℕ) → low ≤ n → n ≤ high → within low high n ≡ true
 is-within low high n l h = and-both (leb low n) (leb n high) (le-leb low n l) (le-leb n high h)
-
-pub below-within : (low high n : ℕ) → n < low → within low high n ≡ false
-below-within low high n l = and-not-left (leb low n) (leb n high) (lt-leb low n l)
-
-pub above-within : (low high n : ℕ) → high < n → within low high n ≡ false
-above-within low high n h = and-not-right (leb low n) (leb n high) (lt-leb n high h)

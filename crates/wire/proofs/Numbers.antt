@@ -61,12 +61,11 @@ put-turn l w at n i v more is =
 
 -- all is written, or the end of the slice is reached
 pub put-end : (l w : List ℕ) (at n i v : ℕ) → min n (length l - at) ≤ i → sets l (at + i) (bytes (n - i) v) ≡ w → l ≡ w
-put-end l w at n i v done is = elim (decLt i n) [ yes m ↦ sym (sets-out l (at + i) (bytes (n - i) v) (omega arith)) ∙ is | no m ↦ written m ]
-  where
-    written : (i < n → ⊥) → l ≡ w
-    written m =
-        let none : n - i ≡ 0 = omega arith in
-        rw none at is
+put-end l w at n i v done is =
+    elim (decLt i n) [
+      | yes m ↦ sym (sets-out l (at + i) (bytes (n - i) v) (omega arith)) ∙ is
+      | no m ↦ (let none : n - i ≡ 0 = omega arith in rw none at is)
+    ]
 
 -- ---- numbers and their bytes
 
@@ -103,10 +102,3 @@ bytes-number (b ∷ bs) h =
     let low : (b + 256 * number bs) % 256 ≡ b = omega (arith, h 0) in
     let high : (b + 256 * number bs) / 256 ≡ number bs = omega (arith, h 0) in
     rw (low, high) (ap (λ (r : List ℕ). b ∷ r) (bytes-number bs (λ k. h (suc k))))
-
--- a number that was written is read
-pub field-written : (l : List ℕ) (at n v : ℕ) → at + n ≤ length l → v < 256 ^ n → field at n (sets l at (bytes n v)) ≡ v
-field-written l at n v room small =
-    let part : take n (drop at (sets l at (bytes n v))) ≡ bytes n v
-    = rw (length-bytes n v) at (sets-taken l at (bytes n v) (rw (length-bytes n v) room)) in
-    ap number part ∙ number-bytes n v small

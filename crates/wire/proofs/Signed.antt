@@ -1,7 +1,6 @@
--- Signed numbers in k bits: what is coded comes back, and each code is one that comes back.
+-- Signed numbers in k bits: what is coded comes back.
 use Prim.Native.Nat.{ℕ, suc, _+_, _-_, _^_, _≤_, _<_}
 use mathlib.Core.Path.{_≡_, ap, _∙_}
-use native.Mathlib.Decide.{decLt}
 use native.Mathlib.Omega.{arith}
 use lib.IntN.{ℤ, pos, negsuc}
 use lib.Signed.{mag}
@@ -22,11 +21,3 @@ pub signed-coded : (k : ℕ) (z : ℤ) → 1 ≤ k → mag z < 2 ^ (k - 1) → s
 signed-coded k (pos n) some h = simp (lt-ltb n (2 ^ (k - 1)) h)
 signed-coded k (negsuc n) some h =
     simp (le-ltb (2 ^ k - suc n) (2 ^ (k - 1)) (omega (arith, halves k some))) (ap negsuc (omega (arith, halves k some)))
-
--- The other way: each code stands for a number of k bits, and is that number's code.
-module _ (k n : ℕ) (some : 1 ≤ k) (h : n < 2 ^ k) where
-  pub mag-signed : mag (signed k n) < 2 ^ (k - 1)
-  mag-signed = elim (decLt n (2 ^ (k - 1))) [ yes low ↦ simp (lt-ltb n (2 ^ (k - 1)) low) low | no low ↦ simp (le-ltb n (2 ^ (k - 1)) (omega arith)) (omega (arith, halves k some)) ]
-
-  pub coded-signed : coded k (signed k n) ≡ n
-  coded-signed = elim (decLt n (2 ^ (k - 1))) [ yes low ↦ simp (lt-ltb n (2 ^ (k - 1)) low) | no low ↦ simp (le-ltb n (2 ^ (k - 1)) (omega arith)) (omega (arith, halves k some)) ]

@@ -24,7 +24,8 @@ module _ {A : Type 0} where
       rw next (sets-append (set l i a) (suc i) vs ws)
 
   -- the same of lists that two calls leave
-  pub sets-then : (l : List A) {l₁ l₂ : List A} (i : ℕ) (vs ws : List A) → l₁ ≡ sets l i vs → l₂ ≡ sets l₁ (i + length vs) ws → l₂ ≡ sets l i (vs ++ ws)
+  pub sets-then : (l : List A) {l₁ l₂ : List A} (i : ℕ) (vs ws : List A)
+      → l₁ ≡ sets l i vs → l₂ ≡ sets l₁ (i + length vs) ws → l₂ ≡ sets l i (vs ++ ws)
   sets-then l i vs ws first second = second ∙ rw first (sets-append l i vs ws)
 
   -- what stands before a run stays
@@ -61,7 +62,8 @@ module _ {A : Type 0} where
   part-sets a k s vs h =
       let short : length (drop a s) ≤ k = simp length-drop (omega arith) in
       let part : sets (drop a s) 0 vs ≡ drop a (sets s a vs) = sym (rw (add-zero a) at (drop-sets-add a s 0 vs)) in
-      rw (take-all k (drop a s) short, drop-of-length-le (drop a s) short, append-nil (sets (drop a s) 0 vs), part, ← take-sets a s a vs (omega arith))
+      let before : take a s ≡ take a (sets s a vs) = sym (take-sets a s a vs (omega arith)) in
+      rw (take-all k (drop a s) short, drop-of-length-le (drop a s) short, append-nil (sets (drop a s) 0 vs), part, before)
       (take-append-drop a (sets s a vs))
 
 -- the rest of a list, as a part of it

@@ -1,12 +1,12 @@
 -- Numbers by words of four bytes. Assumes nothing.
 use Prim.Native.Nat.{ℕ, suc, _+_, _*_, _/_, _%_, _≤_, _<_}
 use mathlib.Core.Path.{_≡_, refl}
-use mathlib.Core.List.{List, _++_}
+use mathlib.Core.List.{List, [], _∷_, _++_}
 use native.Mathlib.Omega.{arith}
 use native.Mathlib.Numerals.{add-one}
 use lib.ListN.{length, getD, set}
 use lib.Seq.{sets}
-use Rattle.wire.specs.Number.{bytes, field}
+use Rattle.wire.specs.Number.{number, bytes, field}
 use Rattle.wire.proofs.Numbers.{field-step}
 
 -- the field after a place: its first byte, and 256 times the field after that
@@ -15,8 +15,9 @@ field-on s at k n h =
     let next : suc (at + k) ≡ at + suc k = omega arith in
     rw next at (field-step s (at + k) n h)
 
--- four bytes in one sum
-pub field-four : (s : List ℕ) (at : ℕ) → at + 4 ≤ length s → getD s at 0 + 256 * getD s (at + 1) 0 + 65_536 * getD s (at + 2) 0 + 16_777_216 * getD s (at + 3) 0 ≡ field at 4 s
+-- the four bytes at a place
+pub field-four : (s : List ℕ) (at : ℕ) → at + 4 ≤ length s
+    → number (getD s at 0 ∷ getD s (at + 1) 0 ∷ getD s (at + 2) 0 ∷ getD s (at + 3) 0 ∷ []) ≡ field at 4 s
 field-four s at h =
     let first : field at 4 s ≡ getD s at 0 + 256 * field (at + 1) 3 s = rw (add-one at) (field-step s at 3 (omega arith)) in
     omega (arith, first, field-on s at 1 2 (omega arith), field-on s at 2 1 (omega arith), field-on s at 3 0 (omega arith))
@@ -45,7 +46,8 @@ bytes-eight v =
 
 -- four bytes stored one behind the other
 pub word-put : (l : List ℕ) (at v : ℕ)
-    → set (set (set (set l at (v % 256)) (at + 1) (v / 256 % 256)) (at + 2) (v / 65536 % 256)) (at + 3) (v / 16777216 % 256) ≡ sets l at (bytes 4 v)
+    → set (set (set (set l at (v % 256)) (at + 1) (v / 256 % 256)) (at + 2) (v / 65536 % 256)) (at + 3) (v / 16777216 % 256)
+    ≡ sets l at (bytes 4 v)
 word-put l at v =
     let one : at + 1 ≡ suc at = omega arith in
     let two : at + 2 ≡ suc (suc at) = omega arith in

@@ -10,9 +10,9 @@ lengthIn header = header % 8192
 abbrev pub typeIn : ℕ → ℕ
 typeIn header = header / 8192 % 8
 
--- the header of a type and a length, 13 bits of the length and 3 of the type
+-- the header of a type and a total length, 13 bits of the length and 3 of the type
 abbrev pub headerOf : ℕ → ℕ → ℕ
-headerOf type length = type % 8 * 8192 + length % 8192
+headerOf type total = type % 8 * 8192 + total % 8192
 
 -- From the host: type 0 set, 1 request, 2 request range, 3 data acknowledgement, 4 to 7 data items 0 to 3.
 abbrev pub typeSet : ℕ

@@ -16,9 +16,9 @@ pub fn type_in(header: u16) -> u8
     (header >> 13) as u8
 }
 
-// The header of a type and a length: of a type its low three bits are taken, of a length its low 13.
-pub fn header_of(kind: u8, length: u16) -> u16
-    ensures { λ r. ⌜ r ≡ headerOf kind length ⌝ }
+// The header of a type and a total length: of a type its low three bits are taken, of a length its low 13.
+pub fn header_of(kind: u8, total: u16) -> u16
+    ensures { λ r. ⌜ r ≡ headerOf kind total ⌝ }
 {
-    ((kind & 7) as u16) << 13 | (length & 0x1fff)
+    ((kind & 7) as u16) << 13 | (total & 0x1fff)
 }

@@ -16,3 +16,4 @@ pub use header::length_in;
 pub use header::type_in;
 pub use number::number_at;
 pub use number::put;
+pub use number::word;

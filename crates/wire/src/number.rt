@@ -2,10 +2,11 @@
 use crate::counts::left;
 use crate::counts::lesser;
 ghost use mathlib.Core.Path.{_≡_};
+ghost use mathlib.Core.List.{[], _∷_};
 ghost use Prim.Native.Nat.{_+_, _≤_, _<_, min};
 ghost use lib.ListN.{length};
 ghost use lib.Seq.{sets};
-ghost use Rattle.wire.specs.Number.{bytes, field};
+ghost use Rattle.wire.specs.Number.{number, bytes, field};
 
 // The number in the n bytes at a place of a slice, of which at most eight are read. Bytes past the end of the slice are
 // not there, and count nothing.
@@ -28,7 +29,7 @@ fn eight_at(s: &[u8], at: usize) -> u64
     if left(s.len(), at) < 8 {
         return by_bytes(s, at, 8);
     }
-    word(s, at) + 4_294_967_296 * word(s, at + 4)
+    word_at(s, at) + 4_294_967_296 * word_at(s, at + 4)
 }
 
 fn four_at(s: &[u8], at: usize) -> u64
@@ -37,22 +38,23 @@ fn four_at(s: &[u8], at: usize) -> u64
     if left(s.len(), at) < 4 {
         return by_bytes(s, at, 4);
     }
-    word(s, at)
+    word_at(s, at)
 }
 
-// The number in four bytes at a place that the slice has: bytes side by side in one sum are one read of the processor's.
-fn word(s: &[u8], at: usize) -> u64
+// The word at a place that the slice has. A crate that reads words without a test has such a function of its own, since this
+// one is not for all slices, and what a crate makes public is.
+fn word_at(s: &[u8], at: usize) -> u64
     requires { ⌜ at + 4 ≤ length (now s) ⌝ }
     ensures { λ r. ⌜ (r ≡ field at 4 (now (s .entry))) × (r < 4294967296) ⌝ }
 {
-    wide(s[at]) + 256 * wide(s[at + 1]) + 65536 * wide(s[at + 2]) + 16777216 * wide(s[at + 3])
+    word(s[at], s[at + 1], s[at + 2], s[at + 3]) as u64
 }
 
-// A byte as a part of a word.
-fn wide(b: u8) -> u64
-    ensures { λ r. ⌜ (r ≡ b) × (r ≤ 255) ⌝ }
+// The number in four bytes: of bytes that stand side by side in a slice this sum is one read of the processor's.
+pub fn word(first: u8, second: u8, third: u8, fourth: u8) -> u32
+    ensures { λ r. ⌜ r ≡ number (first ∷ second ∷ third ∷ fourth ∷ []) ⌝ }
 {
-    b as u64
+    first as u32 + 256 * (second as u32) + 65536 * (third as u32) + 16777216 * (fourth as u32)
 }
 
 // Any number of bytes, from the last one down.
@@ -103,7 +105,8 @@ fn put_four(dst: &mut [u8], at: usize, v: u64)
     }
 }
 
-// Writes a number in four bytes at a place that the slice has: stores side by side are one of the processor's.
+// Writes a word at a place that the slice has: stores side by side are one of the processor's. As with `word_at`, a crate that
+// writes words without a test has its own.
 fn put_word(dst: &mut [u8], at: usize, v: u64)
     requires { ⌜ at + 4 ≤ length (now dst) ⌝ }
     ensures { λ _. ⌜ now (dst .exit) ≡ sets (now (dst .entry)) at (bytes 4 v) ⌝ }

@@ -63,17 +63,17 @@ mul-loop2 c = omega arith
 add-loop2 : tie.Need-add-loop2 Inv-loop2 μ-loop2 Inv-loop3 μ-loop3 Inv-loop μ-loop
 add-loop2 c = omega arith
 
-add-word : tie.Need-add-word Inv-loop2 μ-loop2 Inv-loop3 μ-loop3 Inv-loop μ-loop
-add-word c = omega arith
+add-word-at : tie.Need-add-word-at Inv-loop2 μ-loop2 Inv-loop3 μ-loop3 Inv-loop μ-loop
+add-word-at c = omega arith
 
-mul-word : tie.Need-mul-word Inv-loop2 μ-loop2 Inv-loop3 μ-loop3 Inv-loop μ-loop
-mul-word c = omega arith
+mul-word-at : tie.Need-mul-word-at Inv-loop2 μ-loop2 Inv-loop3 μ-loop3 Inv-loop μ-loop
+mul-word-at c = omega arith
 
-add-word-2 : tie.Need-add-word-2 Inv-loop2 μ-loop2 Inv-loop3 μ-loop3 Inv-loop μ-loop
-add-word-2 c = omega arith
+add-word-at-2 : tie.Need-add-word-at-2 Inv-loop2 μ-loop2 Inv-loop3 μ-loop3 Inv-loop μ-loop
+add-word-at-2 c = omega arith
 
-word-requires : tie.Need-word-requires Inv-loop2 μ-loop2 Inv-loop3 μ-loop3 Inv-loop μ-loop
-word-requires c κs = omega arith
+word-at-requires : tie.Need-word-at-requires Inv-loop2 μ-loop2 Inv-loop3 μ-loop3 Inv-loop μ-loop
+word-at-requires c κs = omega arith
 
 cast-held : tie.Need-cast-held Inv-loop2 μ-loop2 Inv-loop3 μ-loop3 Inv-loop μ-loop
 cast-held c = omega arith
@@ -116,7 +116,7 @@ loop2-again c =
     let a = l .before .before .args in (
       omega arith,
       simp length-set (l2 .loop2 .inv .1),
-      hold-pair (now (a .packet)) (l2 .loop2 .held) (a .first) (l2 .loop2 .i) (c .word .result) (λ k. l .before .shared-slice-known .given k .fits) (omega arith) (omega arith) (c .word .ensures) (l2 .loop2 .inv .2),
+      hold-pair (now (a .packet)) (l2 .loop2 .held) (a .first) (l2 .loop2 .i) (c .word-at .result) (λ k. l .before .shared-slice-known .given k .fits) (omega arith) (omega arith) (c .word-at .ensures) (l2 .loop2 .inv .2),
     )
 
 mul-k : tie.Need-mul-k Inv-loop2 μ-loop2 Inv-loop3 μ-loop3 Inv-loop μ-loop
@@ -217,10 +217,10 @@ block16-spec =
     loop2-holds
     mul-loop2
     add-loop2
-    add-word
-    mul-word
-    add-word-2
-    word-requires
+    add-word-at
+    mul-word-at
+    add-word-at-2
+    word-at-requires
     cast-held
     mul-held
     mul-held-2

@@ -25,14 +25,14 @@ abbrev μ-loop : tie.MeasureT-loop
 loop-holds : tie.Need-loop-holds Inv-loop μ-loop
 loop-holds c = (omega arith, refl, rw (sub-zero (c .before .args .n)))
 
-mul-word : tie.Need-mul-word Inv-loop μ-loop
-mul-word c = omega arith
+mul-word-at : tie.Need-mul-word-at Inv-loop μ-loop
+mul-word-at c = omega arith
 
-add-word : tie.Need-add-word Inv-loop μ-loop
-add-word c = omega arith
+add-word-at : tie.Need-add-word-at Inv-loop μ-loop
+add-word-at c = omega arith
 
-word-requires : tie.Need-word-requires Inv-loop μ-loop
-word-requires c κs = omega arith
+word-at-requires : tie.Need-word-at-requires Inv-loop μ-loop
+word-at-requires c κs = omega arith
 
 sign24-requires : tie.Need-sign24-requires Inv-loop μ-loop
 sign24-requires c κs = omega arith
@@ -57,7 +57,7 @@ loop-again c =
       omega arith,
       simp length-set (l .loop .inv .1),
       unpack-turn 24 (drop 4 (now (a .packet))) (l .loop .out) _ (l .loop .i) (a .n) _ (w .before .loop-test .taken)
-          (toZ-ofZ (sfits-of (c .sign24 .ok)) ∙ c .sign24 .ensures ∙ sample-24 (now (a .packet)) (l .loop .i) _ (λ k. l .before .shared-slice-known .given k .fits) (omega arith) (w .word .ensures))
+          (toZ-ofZ (sfits-of (c .sign24 .ok)) ∙ c .sign24 .ensures ∙ sample-24 (now (a .packet)) (l .loop .i) _ (λ k. l .before .shared-slice-known .given k .fits) (omega arith) (w .word-at .ensures))
           (l .loop .inv .2),
     )
 
@@ -77,9 +77,9 @@ unpack24-spec =
     Inv-loop
     μ-loop
     loop-holds
-    mul-word
-    add-word
-    word-requires
+    mul-word-at
+    add-word-at
+    word-at-requires
     sign24-requires
     mul-t11
     slice-set-from-out

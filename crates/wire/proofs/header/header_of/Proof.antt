@@ -7,18 +7,18 @@ use Rattle.wire.specs.Header.{headerOf}
 use Rattle.wire.proofs.header.header_of.Statement.{statement}
 use Rattle.wire.proofs.header.header_of.Tie as tie
 
-joined : (kind length : ℕ) → bitOr (bitAnd kind 7 * 8192 % 65536) (bitAnd length 8191) ≡ headerOf kind length
-joined kind length =
+joined : (kind total : ℕ) → bitOr (bitAnd kind 7 * 8192 % 65536) (bitAnd total 8191) ≡ headerOf kind total
+joined kind total =
     let up : bitAnd kind 7 * 8192 % 65536 ≡ kind % 8 * 8192 = omega (arith, and-mask kind 3) in
-    ap (λ (n : ℕ). bitOr n (bitAnd length 8191)) up
-    ∙ or-shifted (kind % 8) 13 (bitAnd length 8191) (mask-lt length 13)
-    ∙ omega (arith, and-mask length 13)
+    ap (λ (n : ℕ). bitOr n (bitAnd total 8191)) up
+    ∙ or-shifted (kind % 8) 13 (bitAnd total 8191) (mask-lt total 13)
+    ∙ omega (arith, and-mask total 13)
 
 cast-result : tie.Need-cast-result
 cast-result c = omega (arith, and-mask (c .args .kind) 3)
 
 returns : tie.Need-returns
-returns c = joined (c .args .kind) (c .args .length)
+returns c = joined (c .args .kind) (c .args .total)
 
 pub header-of-spec : {M : Type 1} → statement M
 header-of-spec = tie.close (tie.spec cast-result returns)

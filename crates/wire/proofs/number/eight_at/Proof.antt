@@ -15,14 +15,14 @@ by-bytes-requires c κs = search needs
 returns : tie.Need-returns
 returns c = search needs
 
-word-requires : tie.Need-word-requires
-word-requires c κs = search needs
+word-at-requires : tie.Need-word-at-requires
+word-at-requires c κs = search needs
 
-add-word : tie.Need-add-word
-add-word c = search needs
+add-word-at : tie.Need-add-word-at
+add-word-at c = search needs
 
-word-requires-2 : tie.Need-word-requires-2
-word-requires-2 c κs = search needs
+word-at-requires-2 : tie.Need-word-at-requires-2
+word-at-requires-2 c κs = search needs
 
 mul-result : tie.Need-mul-result
 mul-result c = search needs
@@ -33,7 +33,7 @@ add-result c = search needs
 returns-2 : tie.Need-returns-2
 returns-2 c =
     let a = c .before .before .before .before .before .args in
-    rw (c .before .word .ensures .0, c .word2 .ensures .0) (field-eight (now (a .s)) (a .at) (omega arith))
+    rw (c .before .word-at .ensures .0, c .word-at2 .ensures .0) (field-eight (now (a .s)) (a .at) (omega arith))
 
 pub eight-at-spec : {M : Type 1} → statement M
 eight-at-spec =
@@ -42,9 +42,9 @@ eight-at-spec =
     left-requires
     by-bytes-requires
     returns
-    word-requires
-    add-word
-    word-requires-2
+    word-at-requires
+    add-word-at
+    word-at-requires-2
     mul-result
     add-result
     returns-2)
