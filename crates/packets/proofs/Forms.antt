@@ -61,7 +61,7 @@ pub row-agrees : (r : Row) → rowAgrees r ≡ true → Agrees r
 row-agrees r h =
     let hs : headerAgrees r ≡ true = and-right (totalAgrees r) (headerAgrees r) h in
     let sent : List ℕ = bytes 2 (headerOf typeData (r .total)) in
-    let header : r .header ≡ bytes 2 (headerOf typeData (r .total)) = same-eq _ _ (and-left (same (r .header) sent) (ltb (r .total) 8_192) hs) in
+    let header : r .header ≡ sent = same-eq _ _ (and-left (same (r .header) sent) (ltb (r .total) 8_192) hs) in
     let short : r .total < 8_192 = ltb-true _ _ (and-right (same (r .header) sent) (ltb (r .total) 8_192) hs) in
     let number : field 0 2 (r .header) ≡ headerOf typeData (r .total) = ap (field 0 2) header ∙ omega arith in
     record {
@@ -80,9 +80,11 @@ same-is f g h =
     ap (λ (n : ℕ). record { bits = n; pairs = f .pairs }) b ∙ ap (λ (n : ℕ). record { bits = g .bits; pairs = n }) p
 
 -- a test that passes in every row passes at each listed form
-every-listed : (t : Form → Bool) (rs : List Row) → everyRow (λ r. t (formOf r)) rs ≡ true → (f : Form) → listedIn rs f ≡ true → t f ≡ true
+every-listed : (t : Form → Bool) (rs : List Row) → everyRow (λ r. t (formOf r)) rs ≡ true
+    → (f : Form) → listedIn rs f ≡ true → t f ≡ true
 every-listed t [] e f l = cc
-every-listed t (r ∷ rs) e f l = here (sameForm (formOf r) f) refl (every-listed t rs (and-right (t (formOf r)) (everyRow (λ x. t (formOf x)) rs) e) f)
+every-listed t (r ∷ rs) e f l =
+    here (sameForm (formOf r) f) refl (every-listed t rs (and-right (t (formOf r)) (everyRow (λ x. t (formOf x)) rs) e) f)
   where
     here : (same : Bool) → sameForm (formOf r) f ≡ same → (listedIn rs f ≡ true → t f ≡ true) → t f ≡ true
     here true q later = ap t (sym (same-is (formOf r) f q)) ∙ and-left (t (formOf r)) (everyRow (λ x. t (formOf x)) rs) e
@@ -131,13 +133,17 @@ form-for-listed mode size (inr m) (inr s) = rw (m, s)
 -- ---- a whole packet
 
 -- The header holds the total, so a slice is a whole packet where its header is a listed one and its length is the header's.
-whole-split-in : (rs : List Row) → everyRow rowAgrees rs ≡ true → (p : List ℕ) → wholeIn rs p ≡ pick (eqb (length p) (lengthIn (field 0 2 p))) (formWithIn rs (field 0 2 p)) noForm
+abbrev byHeader : List Row → List ℕ → Form
+byHeader rs p = pick (eqb (length p) (lengthIn (field 0 2 p))) (formWithIn rs (field 0 2 p)) noForm
+
+whole-split-in : (rs : List Row) → everyRow rowAgrees rs ≡ true → (p : List ℕ) → wholeIn rs p ≡ byHeader rs p
 whole-split-in [] e p = none (eqb (length p) (lengthIn (field 0 2 p)))
   where
     none : (b : Bool) → noForm ≡ pick b noForm noForm
     none true = refl
     none false = refl
-whole-split-in (r ∷ rs) e p = here (eqb (field 0 2 p) (field 0 2 (r .header))) refl (whole-split-in rs (and-right (rowAgrees r) (everyRow rowAgrees rs) e) p)
+whole-split-in (r ∷ rs) e p =
+    here (eqb (field 0 2 p) (field 0 2 (r .header))) refl (whole-split-in rs (and-right (rowAgrees r) (everyRow rowAgrees rs) e) p)
   where
     agrees : Agrees r
     agrees = row-agrees r (and-left (rowAgrees r) (everyRow rowAgrees rs) e)
@@ -146,7 +152,8 @@ whole-split-in (r ∷ rs) e p = here (eqb (field 0 2 p) (field 0 2 (r .header)))
     fits true f g w later = refl
     fits false f g w later = later
 
-    here : (same : Bool) → eqb (field 0 2 p) (field 0 2 (r .header)) ≡ same → wholeIn rs p ≡ pick (eqb (length p) (lengthIn (field 0 2 p))) (formWithIn rs (field 0 2 p)) noForm → wholeIn (r ∷ rs) p ≡ pick (eqb (length p) (lengthIn (field 0 2 p))) (formWithIn (r ∷ rs) (field 0 2 p)) noForm
+    here : (same : Bool) → eqb (field 0 2 p) (field 0 2 (r .header)) ≡ same
+        → wholeIn rs p ≡ byHeader rs p → wholeIn (r ∷ rs) p ≡ byHeader (r ∷ rs) p
     here true q later =
         let e : lengthIn (field 0 2 p) ≡ r .total = ap lengthIn (eqb-true _ _ q) ∙ agrees .holds in
         rw (q, e) (fits (eqb (length p) (r .total)) (formOf r) (formWithIn rs (field 0 2 p)) (wholeIn rs p) (rw e at later))
@@ -168,7 +175,8 @@ whole-not p h n is says other =
     sym (whole-split p ∙ rw unlike)
 
 -- Bytes with the header and the length of a listed form are a whole packet of that form.
-pub whole-cut : (f : Form) → listed f ≡ true → (p : List ℕ) → field 0 2 p ≡ headerOf typeData (totalOf f) → length p ≡ totalOf f → wholeOf p ≡ f
+pub whole-cut : (f : Form) → listed f ≡ true → (p : List ℕ) → field 0 2 p ≡ headerOf typeData (totalOf f) → length p ≡ totalOf f
+    → wholeOf p ≡ f
 whole-cut f l p h n =
     let holds : lengthIn (headerOf typeData (totalOf f)) ≡ totalOf f = omega (arith, is-listed-form f l .short) in
     let found : sameForm (formWithHeader (headerOf typeData (totalOf f))) f ≡ true
@@ -181,10 +189,15 @@ pub record Whole (p : List ℕ) (f : Form) : Type 0 where
   pub long : length p ≡ totalOf f
   pub header : field 0 2 p ≡ headerOf typeData (totalOf f)
 
-whole-in : (rs : List Row) → everyRow rowAgrees rs ≡ true → everyRow (λ r. listed (formOf r)) rs ≡ true → (p : List ℕ) → (wholeIn rs p ≡ noForm) ⊎ Whole p (wholeIn rs p)
+abbrev NoneOrWhole : List Row → List ℕ → Type 0
+NoneOrWhole rs p = (wholeIn rs p ≡ noForm) ⊎ Whole p (wholeIn rs p)
+
+whole-in : (rs : List Row) → everyRow rowAgrees rs ≡ true → everyRow (λ r. listed (formOf r)) rs ≡ true → (p : List ℕ) → NoneOrWhole rs p
 whole-in [] e l p = inl refl
 whole-in (r ∷ rs) e l p =
-    here (eqb (field 0 2 p) (field 0 2 (r .header)) && eqb (length p) (r .total)) refl (whole-in rs (and-right (rowAgrees r) (everyRow rowAgrees rs) e) (and-right (listed (formOf r)) (everyRow (λ x. listed (formOf x)) rs) l) p)
+    let agree = and-right (rowAgrees r) (everyRow rowAgrees rs) e in
+    let list = and-right (listed (formOf r)) (everyRow (λ x. listed (formOf x)) rs) l in
+    here (sameHeader && sameLength) refl (whole-in rs agree list p)
   where
     agrees : Agrees r
     agrees = row-agrees r (and-left (rowAgrees r) (everyRow rowAgrees rs) e)
@@ -195,7 +208,7 @@ whole-in (r ∷ rs) e l p =
     sameLength : Bool
     sameLength = eqb (length p) (r .total)
 
-    here : (same : Bool) → (eqb (field 0 2 p) (field 0 2 (r .header)) && eqb (length p) (r .total)) ≡ same → (wholeIn rs p ≡ noForm) ⊎ Whole p (wholeIn rs p) → (wholeIn (r ∷ rs) p ≡ noForm) ⊎ Whole p (wholeIn (r ∷ rs) p)
+    here : (same : Bool) → (sameHeader && sameLength) ≡ same → NoneOrWhole rs p → NoneOrWhole (r ∷ rs) p
     here true q later = rw q
         (inr
         (record {

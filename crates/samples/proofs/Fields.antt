@@ -22,7 +22,8 @@ field-high s at small h =
     omega (arith, step, small at)
 
 -- the two halves of a word
-pub field-halves : (s : List ℕ) (at : ℕ) → ((k : ℕ) → getD s k 0 < 256) → at + 2 ≤ length s → (field at 4 s % 65_536 ≡ field at 2 s) × (field at 4 s / 65_536 ≡ field (at + 2) 2 s)
+pub field-halves : (s : List ℕ) (at : ℕ) → ((k : ℕ) → getD s k 0 < 256) → at + 2 ≤ length s
+    → (field at 4 s % 65_536 ≡ field at 2 s) × (field at 4 s / 65_536 ≡ field (at + 2) 2 s)
 field-halves s at small h =
     let four : field at 4 s ≡ getD s at 0 + 256 * field (at + 1) 3 s = rw (add-one at) (field-step s at 3 (omega arith)) in
     let two : field at 2 s ≡ getD s at 0 + 256 * field (at + 1) 1 s = rw (add-one at) (field-step s at 1 (omega arith)) in
@@ -64,7 +65,9 @@ bytes-four a b c d ha hb hc =
     let first-byte : b % 256 % 256 ≡ b % 256 = omega arith in
     let low-byte : c % 65_536 % 256 ≡ c % 256 = omega arith in
     let high-byte : c / 65_536 ≡ c / 256 / 256 = omega arith in
+    let one = bytes 3 a ++ bytes 1 (b % 256) in
+    let two = bytes 2 (b / 256) ++ bytes 2 (c % 65_536) in
     ap (λ (l : List ℕ). (l ++ middle) ++ last) (bytes-join 3 1 a (b % 256) ha)
-    ∙ ap (λ (l : List ℕ). ((bytes 3 a ++ bytes 1 (b % 256)) ++ l) ++ last) (bytes-join 2 2 (b / 256) (c % 65_536) (omega arith))
-    ∙ ap (λ (l : List ℕ). ((bytes 3 a ++ bytes 1 (b % 256)) ++ (bytes 2 (b / 256) ++ bytes 2 (c % 65_536))) ++ l) (bytes-join 1 3 (c / 65_536) d (omega arith))
+    ∙ ap (λ (l : List ℕ). (one ++ l) ++ last) (bytes-join 2 2 (b / 256) (c % 65_536) (omega arith))
+    ∙ ap (λ (l : List ℕ). (one ++ two) ++ l) (bytes-join 1 3 (c / 65_536) d (omega arith))
     ∙ rw (first-byte, low-byte, second-byte c, high-byte) refl

@@ -10,7 +10,8 @@ abbrev pub Held : (ℕ → ℕ → Type 0) → List ℕ → ℕ → Type 0
 Held known held n = (j : ℕ) → j < n → known j (getD held j 0)
 
 -- one number more is held
-pub hold-turn : (known : ℕ → ℕ → Type 0) (held : List ℕ) (n v : ℕ) → n < length held → known n v → Held known held n → Held known (set held n v) (n + 1)
+pub hold-turn : (known : ℕ → ℕ → Type 0) (held : List ℕ) (n v : ℕ) → n < length held → known n v
+    → Held known held n → Held known (set held n v) (n + 1)
 hold-turn known held n v room is so j h =
     elim (ℕ-discrete j n) [
       | yes here ↦ rw (here, getD-set-same held n v 0 room) is

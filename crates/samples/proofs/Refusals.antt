@@ -39,16 +39,20 @@ eight-pairs f l = eqb-true (f .pairs % 8) 0 (of-listed (λ g. eqb (g .pairs % 8)
 -- ---- packing
 
 module _ (f : Form) (zs : List ℤ) (l : List ℕ) where
-  pack-refused : mayPack f zs (length l) ≡ false → (false ≡ mayPack f zs (length l)) × (l ≡ sets l 4 (packedOf f zs (length l)))
+  -- what is promised where packing refuses: the packet stays as it was
+  abbrev pub PackRefused : Type 0
+  PackRefused = (false ≡ mayPack f zs (length l)) × (l ≡ sets l 4 (packedOf f zs (length l)))
+
+  pack-refused : mayPack f zs (length l) ≡ false → PackRefused
   pack-refused e = (sym e, rw e)
 
-  pub pack-unlisted : listed f ≡ false → (false ≡ mayPack f zs (length l)) × (l ≡ sets l 4 (packedOf f zs (length l)))
+  pub pack-unlisted : listed f ≡ false → PackRefused
   pack-unlisted e = pack-refused (rw e)
 
-  pub pack-count : listed f ≡ true → (length zs ≡ 2 * f .pairs → ⊥) → (false ≡ mayPack f zs (length l)) × (l ≡ sets l 4 (packedOf f zs (length l)))
+  pub pack-count : listed f ≡ true → (length zs ≡ 2 * f .pairs → ⊥) → PackRefused
   pack-count e h = pack-refused (rw (e, ne-eqb (length zs) (2 * f .pairs) h))
 
-  pub pack-room : listed f ≡ true → length zs ≡ 2 * f .pairs → length l < totalOf f → (false ≡ mayPack f zs (length l)) × (l ≡ sets l 4 (packedOf f zs (length l)))
+  pub pack-room : listed f ≡ true → length zs ≡ 2 * f .pairs → length l < totalOf f → PackRefused
   pack-room e n h = pack-refused (rw (e, eq-eqb (length zs) (2 * f .pairs) n, lt-leb (totalOf f) (length l) h))
 
   -- nothing but a sample outside 24 bits is left to refuse for
@@ -56,7 +60,7 @@ module _ (f : Form) (zs : List ℤ) (l : List ℕ) where
     left-over : mayPack f zs (length l) ≡ allSamples zs
     left-over = rw (e, eq-eqb (length zs) (2 * f .pairs) n, le-leb (totalOf f) (length l) room)
 
-    pub pack-outside : allSamples zs ≡ false → (false ≡ mayPack f zs (length l)) × (l ≡ sets l 4 (packedOf f zs (length l)))
+    pub pack-outside : allSamples zs ≡ false → PackRefused
     pack-outside out = pack-refused (left-over ∙ out)
 
     pub pack-done : (bits : ℕ) (l′ : List ℕ) → f .bits ≡ bits → allSamples zs ≡ true → l′ ≡ sets l 4 (samplesBytes bits zs)
@@ -68,16 +72,19 @@ module _ (f : Form) (zs : List ℤ) (l : List ℕ) where
 -- ---- unpacking
 
 module _ (f : Form) (p : List ℕ) (out : List ℤ) where
-  unpack-refused : mayUnpack f (length p) (length out) ≡ false → (false ≡ mayUnpack f (length p) (length out)) × (out ≡ sets out 0 (unpackedOf f p (length out)))
+  abbrev pub UnpackRefused : Type 0
+  UnpackRefused = (false ≡ mayUnpack f (length p) (length out)) × (out ≡ sets out 0 (unpackedOf f p (length out)))
+
+  unpack-refused : mayUnpack f (length p) (length out) ≡ false → UnpackRefused
   unpack-refused e = (sym e, rw e)
 
-  pub unpack-unlisted : listed f ≡ false → (false ≡ mayUnpack f (length p) (length out)) × (out ≡ sets out 0 (unpackedOf f p (length out)))
+  pub unpack-unlisted : listed f ≡ false → UnpackRefused
   unpack-unlisted e = unpack-refused (rw e)
 
-  pub unpack-short : listed f ≡ true → length p < totalOf f → (false ≡ mayUnpack f (length p) (length out)) × (out ≡ sets out 0 (unpackedOf f p (length out)))
+  pub unpack-short : listed f ≡ true → length p < totalOf f → UnpackRefused
   unpack-short e h = unpack-refused (rw (e, lt-leb (totalOf f) (length p) h))
 
-  pub unpack-room : listed f ≡ true → totalOf f ≤ length p → length out < 2 * f .pairs → (false ≡ mayUnpack f (length p) (length out)) × (out ≡ sets out 0 (unpackedOf f p (length out)))
+  pub unpack-room : listed f ≡ true → totalOf f ≤ length p → length out < 2 * f .pairs → UnpackRefused
   unpack-room e long h = unpack-refused (rw (e, le-leb (totalOf f) (length p) long, lt-leb (2 * f .pairs) (length out) h))
 
   pub unpack-done : (bits : ℕ) (out′ : List ℤ) → listed f ≡ true → totalOf f ≤ length p → 2 * f .pairs ≤ length out → f .bits ≡ bits

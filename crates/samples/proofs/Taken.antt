@@ -19,7 +19,8 @@ pub sample-field : (bits : ℕ) (p : List ℕ) (i : ℕ) → sampleAt bits (drop
 sample-field bits p i = ap (signed bits) (field-drop 4 (bits / 8 * i) (bits / 8) p)
 
 -- at 24 bits: the word that ends with the sample, without its lowest byte
-pub sample-24 : (p : List ℕ) (i w : ℕ) → ((k : ℕ) → getD p k 0 < 256) → 4 + 3 * i ≤ length p → w ≡ field (3 + 3 * i) 4 p → signed 24 (w / 256) ≡ sampleAt 24 (drop 4 p) i
+pub sample-24 : (p : List ℕ) (i w : ℕ) → ((k : ℕ) → getD p k 0 < 256) → 4 + 3 * i ≤ length p → w ≡ field (3 + 3 * i) 4 p
+    → signed 24 (w / 256) ≡ sampleAt 24 (drop 4 p) i
 sample-24 p i w small h is =
     let here : 3 + 3 * i + 1 ≡ 4 + 3 * i = omega arith in
     rw (is, field-high p (3 + 3 * i) small (omega arith), here) (sym (sample-field 24 p i))
@@ -51,7 +52,8 @@ two-runs bits s out i (suc a) n =
     let count : suc a + n ≡ suc (a + n) = omega arith in
     rw (next, count, add-one i) (rw (add-one i) at (two-runs bits s (set out i (sampleAt bits s i)) (i + 1) a n))
 
-pub unpack-block : (bits : ℕ) (s : List ℕ) (out whole : List ℤ) (i e n : ℕ) → i ≤ e → e ≤ n → sets out i (samplesFrom bits s i (n - i)) ≡ whole
+pub unpack-block : (bits : ℕ) (s : List ℕ) (out whole : List ℤ) (i e n : ℕ) → i ≤ e → e ≤ n
+    → sets out i (samplesFrom bits s i (n - i)) ≡ whole
     → sets (sets out i (samplesFrom bits s i (e - i))) e (samplesFrom bits s e (n - e)) ≡ whole
 unpack-block bits s out whole i e n from to done =
     let end : i + (e - i) ≡ e = omega arith in
@@ -59,7 +61,8 @@ unpack-block bits s out whole i e n from to done =
     rw (end, all) at (two-runs bits s out i (e - i) (n - e)) ∙ done
 
 -- all is stored
-pub unpack-end : (bits : ℕ) (s : List ℕ) (out whole : List ℤ) (i n : ℕ) → n ≤ i → sets out i (samplesFrom bits s i (n - i)) ≡ whole → out ≡ whole
+pub unpack-end : (bits : ℕ) (s : List ℕ) (out whole : List ℤ) (i n : ℕ) → n ≤ i
+    → sets out i (samplesFrom bits s i (n - i)) ≡ whole → out ≡ whole
 unpack-end bits s out whole i n h done =
     let none : n - i ≡ 0 = omega arith in
     rw none at done
@@ -71,7 +74,8 @@ abbrev pub StandFor : List ℕ → ℕ → ℕ → ℕ → Type 0
 StandFor s from j v = signed 16 v ≡ sampleAt 16 s (from + j)
 
 -- the halves of the word that holds a pair are held
-pub hold-pair : (p held : List ℕ) (first i w : ℕ) → ((k : ℕ) → getD p k 0 < 256) → 4 + 4 * (first + i + 1) ≤ length p → 2 * i + 1 < length held → w ≡ field (4 + 4 * (first + i)) 4 p
+pub hold-pair : (p held : List ℕ) (first i w : ℕ) → ((k : ℕ) → getD p k 0 < 256)
+    → 4 + 4 * (first + i + 1) ≤ length p → 2 * i + 1 < length held → w ≡ field (4 + 4 * (first + i)) 4 p
     → Held (StandFor (drop 4 p) (2 * first)) held (2 * i)
     → Held (StandFor (drop 4 p) (2 * first)) (set (set held (2 * i) (w % 65_536)) (2 * i + 1) (w / 65_536)) (2 * (i + 1))
 hold-pair p held first i w small long room is so =

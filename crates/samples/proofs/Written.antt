@@ -27,7 +27,8 @@ sample-at (z ∷ zs) (suc i) all h = sample-at zs i (and-right (isSample z) (all
 pub length-samples : (bits : ℕ) (zs : List ℤ) → length (samplesBytes bits zs) ≡ bits / 8 * length zs
 length-samples bits [] = sym (mul-zero (bits / 8))
 length-samples bits (z ∷ zs) =
-    rw (length-append (sampleBytes bits z) (samplesBytes bits zs), length-bytes (bits / 8) (coded bits (narrowed bits z)), length-samples bits zs, mul-suc (bits / 8) (length zs))
+    let its : length (sampleBytes bits z) ≡ bits / 8 = length-bytes (bits / 8) (coded bits (narrowed bits z)) in
+    rw (length-append (sampleBytes bits z) (samplesBytes bits zs), its, length-samples bits zs, mul-suc (bits / 8) (length zs))
     (omega arith)
 
 -- ---- storing a part, after which what is still to be stored gives the whole
@@ -42,13 +43,16 @@ samples-split bits (suc k) (z ∷ zs) =
 -- k samples from the i-th on
 pub pack-part : (bits at k i : ℕ) (zs : List ℤ) (l whole : List ℕ) → i + k ≤ length zs
     → sets l (at + bits / 8 * i) (samplesBytes bits (drop i zs)) ≡ whole
-    → sets (sets l (at + bits / 8 * i) (samplesBytes bits (take k (drop i zs)))) (at + bits / 8 * (i + k)) (samplesBytes bits (drop (i + k) zs)) ≡ whole
+    → sets (sets l (at + bits / 8 * i) (samplesBytes bits (take k (drop i zs))))
+    (at + bits / 8 * (i + k)) (samplesBytes bits (drop (i + k) zs))
+    ≡ whole
 pack-part bits at k i zs l whole h done =
     let part = samplesBytes bits (take k (drop i zs)) in
     let count : length (take k (drop i zs)) ≡ k = simp (length-take, length-drop) (omega arith) in
     let long : length part ≡ bits / 8 * k = length-samples bits (take k (drop i zs)) ∙ ap (λ (n : ℕ). bits / 8 * n) count in
     let next : at + bits / 8 * (i + k) ≡ at + bits / 8 * i + length part = rw (long, mul-add (bits / 8) i k) (omega arith) in
-    rw (next, ← drop-drop k i zs, sets-append l (at + bits / 8 * i) part (samplesBytes bits (drop k (drop i zs))), samples-split bits k (drop i zs)) done
+    let later = samplesBytes bits (drop k (drop i zs)) in
+    rw (next, ← drop-drop k i zs, sets-append l (at + bits / 8 * i) part later, samples-split bits k (drop i zs)) done
 
 -- all is stored
 pub pack-end : (bits at : ℕ) (l whole : List ℕ) (zs : List ℤ) (i : ℕ) → length zs ≤ i
@@ -77,13 +81,16 @@ part-sent : (bits : ℕ) (zs : List ℤ) (vs : List ℕ) (i : ℕ) → i + lengt
     → samplesBytes bits (take (length vs) (drop i zs)) ≡ codesBytes (bits / 8) vs
 part-sent bits zs [] i h all = refl
 part-sent bits zs (v ∷ vs) i h all =
-    rw (from-here zs i (omega arith), all .0) (ap (λ (l : List ℕ). sampleBytes bits (getD zs i (pos 0)) ++ l) (part-sent bits zs vs (i + 1) (omega arith) (all .1)))
+    let later = part-sent bits zs vs (i + 1) (omega arith) (all .1) in
+    rw (from-here zs i (omega arith), all .0) (ap (λ (l : List ℕ). sampleBytes bits (getD zs i (pos 0)) ++ l) later)
 
 -- four of 24 bits are stored
 pub pack-four : (zs : List ℤ) (l whole : List ℕ) (i a b c d : ℕ) → 4 * (i + 1) ≤ length zs
     → Sent 24 zs (4 * i) a → Sent 24 zs (4 * i + 1) b → Sent 24 zs (4 * i + 2) c → Sent 24 zs (4 * i + 3) d
     → sets l (4 + 3 * (4 * i)) (samplesBytes 24 (drop (4 * i) zs)) ≡ whole
-    → sets (sets l (4 + 12 * i) (bytes 3 a ++ (bytes 3 b ++ (bytes 3 c ++ bytes 3 d)))) (4 + 3 * (4 * (i + 1))) (samplesBytes 24 (drop (4 * (i + 1)) zs)) ≡ whole
+    → sets (sets l (4 + 12 * i) (bytes 3 a ++ (bytes 3 b ++ (bytes 3 c ++ bytes 3 d))))
+    (4 + 3 * (4 * (i + 1))) (samplesBytes 24 (drop (4 * (i + 1)) zs))
+    ≡ whole
 pack-four zs l whole i a b c d h isA isB isC isD done =
     let here : 4 + 12 * i ≡ 4 + 3 * (4 * i) = omega arith in
     let next : 4 * (i + 1) ≡ 4 * i + 4 = omega arith in
@@ -106,7 +113,9 @@ pub pack-pair : (ws : List ℤ) (at : ℕ) (l whole held : List ℕ) (k r : ℕ)
     → sets (sets l (at + 2 * (2 * k)) (bytes 4 r)) (at + 2 * (2 * (k + 1))) (samplesBytes 16 (drop (2 * (k + 1)) ws)) ≡ whole
 pack-pair ws at l whole held k r h word known done =
     let next : 2 * (k + 1) ≡ 2 * k + 2 = omega arith in
+    let pair = getD held (2 * k) 0 ∷ getD held (2 * k + 1) 0 ∷ [] in
+    let sent : AllSent 16 ws (2 * k) pair = (known (2 * k) (omega arith), (known (2 * k + 1) (omega arith), tt)) in
     let both : bytes 4 r ≡ samplesBytes 16 (take 2 (drop (2 * k) ws))
-    = word ∙ sym (part-sent 16 ws (getD held (2 * k) 0 ∷ getD held (2 * k + 1) 0 ∷ []) (2 * k) (omega arith) (known (2 * k) (omega arith), (known (2 * k + 1) (omega arith), tt))) in
+    = word ∙ sym (part-sent 16 ws pair (2 * k) (omega arith) sent) in
     ap (λ (bs : List ℕ). sets (sets l (at + 2 * (2 * k)) bs) (at + 2 * (2 * (k + 1))) (samplesBytes 16 (drop (2 * (k + 1)) ws))) both
     ∙ rw next (pack-part 16 at 2 (2 * k) ws l whole (omega arith) done)

@@ -22,7 +22,10 @@ returns-4 c = rw (c .match .keys4)
 returns-5 : tie.Need-returns-5
 returns-5 c =
     let keys = c .before .match .rest in
-    rw (c .no-form .ensures, ne-eqb _ 0x85A4 (keys .0 .0 .0 .1), ne-eqb _ 0x8184 (keys .0 .0 .1), ne-eqb _ 0x8404 (keys .0 .1), ne-eqb _ 0x8204 (keys .1))
+    let three = keys .0 in
+    let two = three .0 in
+    let one = two .0 in
+    rw (c .no-form .ensures, ne-eqb _ 0x85A4 (one .1), ne-eqb _ 0x8184 (two .1), ne-eqb _ 0x8404 (three .1), ne-eqb _ 0x8204 (keys .1))
 
 pub form-of-header-spec : {M : Type 1} → statement M
 form-of-header-spec = tie.close (tie.spec no-form-requires returns returns-2 returns-3 returns-4 returns-5)

@@ -22,7 +22,10 @@ add-result : tie.Need-add-result
 add-result c = search needs
 
 returns : tie.Need-returns
-returns c = rw (c .before .byte-at .ensures .0, c .byte-at2 .ensures .0) (sym (field-two (now (c .before .before .before .args .packet)) (c .before .before .before .args .at)))
+returns c =
+    let low = c .before in
+    let a = low .before .before .args in
+    rw (low .byte-at .ensures .0, c .byte-at2 .ensures .0) (sym (field-two (now (a .packet)) (a .at)))
 
 pub two-at-spec : {M : Type 1} → statement M
 two-at-spec =

@@ -29,16 +29,24 @@ form-of-header-requires c κs = search needs
 
 returns-2 : tie.Need-returns-2
 returns-2 c =
-    let l = c .before .before in
-    whole-there (now (l .before .before .before .before .args .packet)) _ _ _ (l .before .two-at .ensures) (l .length-in .ensures) (c .before .if2 .taken) (c .form-of-header .ensures)
+    let test = c .before in
+    let says = test .before in
+    let header = says .before in
+    let a = header .before .before .before .args in
+    whole-there (now (a .packet)) _ _ _ (header .two-at .ensures) (says .length-in .ensures)
+    (test .if2 .taken) (c .form-of-header .ensures)
 
 no-form-requires-2 : tie.Need-no-form-requires-2
 no-form-requires-2 c κs = search needs
 
 returns-3 : tie.Need-returns-3
 returns-3 c =
-    let l = c .before .before in
-    c .no-form2 .ensures ∙ whole-not (now (l .before .before .before .before .args .packet)) _ _ (l .before .two-at .ensures) (l .length-in .ensures) (c .before .if2 .left)
+    let test = c .before in
+    let says = test .before in
+    let header = says .before in
+    let a = header .before .before .before .args in
+    c .no-form2 .ensures
+    ∙ whole-not (now (a .packet)) _ _ (header .two-at .ensures) (says .length-in .ensures) (test .if2 .left)
 
 pub whole-spec : {M : Type 1} → statement M
 whole-spec =

@@ -43,7 +43,8 @@ loop-again c =
     let x = c .before in
     let l = x .before .before in (
       omega arith,
-      look-turn (now (l .before .args .samples)) (l .loop .i) (l .loop .joined) (c .upper .result) _ (x .before .loop-test .taken) (c .upper .ensures ∙ rw (toZ-ofZ (sfits-of (x .upper-arg .given)))) (l .loop .inv .1),
+      look-turn (now (l .before .args .samples)) (l .loop .i) (l .loop .joined) (c .upper .result) _ (x .before .loop-test .taken)
+          (c .upper .ensures ∙ rw (toZ-ofZ (sfits-of (x .upper-arg .given)))) (l .loop .inv .1),
     )
 
 returns : tie.Need-returns Inv-loop μ-loop
@@ -52,4 +53,16 @@ returns c =
     look-end (now (l .before .args .samples)) (l .loop .i) (l .loop .joined) _ (c .loop-test .left) (l .loop .inv .1)
 
 pub all-fit-spec : {M : Type 1} → statement M
-all-fit-spec = tie.close (tie.spec Inv-loop μ-loop loop-holds mul-upper shared-slice-copy-out-upper upper-requires add-i loop-less loop-again returns)
+all-fit-spec =
+    tie.close
+    (tie.spec
+    Inv-loop
+    μ-loop
+    loop-holds
+    mul-upper
+    shared-slice-copy-out-upper
+    upper-requires
+    add-i
+    loop-less
+    loop-again
+    returns)

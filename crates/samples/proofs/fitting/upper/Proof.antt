@@ -22,7 +22,8 @@ wide c = record { sfits = omega (arith, c .fits .x .sfits) }
 room : (c : tie.Start) → SFits w64 (pos (lifted 4_303_355_904 (c .args .x)))
 room c = record { sfits = omega (arith, lifted-below 4_303_355_904 (c .args .x) (small c)) }
 
-above : (c : tie.Start) → toZ w64 (ofZ w64 (toZ w64 (ofZ w64 (toZ w32 (ofZ w32 (c .args .x)))) +ℤ pos 4_303_355_904)) ≡ pos (lifted 4_303_355_904 (c .args .x))
+above : (c : tie.Start)
+    → toZ w64 (ofZ w64 (toZ w64 (ofZ w64 (toZ w32 (ofZ w32 (c .args .x)))) +ℤ pos 4_303_355_904)) ≡ pos (lifted 4_303_355_904 (c .args .x))
 above c = rw (toZ-ofZ (c .fits .x)) (lift-is w64 4_303_355_904 (c .args .x) (wide c) (small c) (room c))
 
 cast-above : tie.Need-cast-above

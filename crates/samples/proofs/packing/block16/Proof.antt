@@ -61,11 +61,12 @@ loop-less c = omega arith
 loop-again : tie.Need-loop-again Inv-loop μ-loop Inv-loop2 μ-loop2
 loop-again c =
     let l = c .before .before in
-    let a = l .before .before .args in (
+    let a = l .before .before .args in
+    let its = sym (part-at (now (a .samples)) (a .first) 16 (l .loop .i) (omega arith)) in (
       omega arith,
       simp length-set (l .loop .inv .1),
       hold-turn (Sent 16 (block (now (a .samples)) (a .first))) (l .loop .held) (l .loop .i) (c .code16 .result) (omega arith)
-          (c .code16 .ensures ∙ ap (λ (z : ℤ). coded 16 (narrowed 16 z)) (sym (part-at (now (a .samples)) (a .first) 16 (l .loop .i) (omega arith))))
+          (c .code16 .ensures ∙ ap (λ (z : ℤ). coded 16 (narrowed 16 z)) its)
           (l .loop .inv .2),
     )
 
@@ -118,7 +119,8 @@ loop2-less : tie.Need-loop2-less Inv-loop μ-loop Inv-loop2 μ-loop2
 loop2-less c = omega arith
 
 -- a block has 16 samples
-sixteen : (l : tie.At-loop Inv-loop μ-loop Inv-loop2 μ-loop2) → length (block (now (l .before .before .args .samples)) (l .before .before .args .first)) ≡ 16
+sixteen : (l : tie.At-loop Inv-loop μ-loop Inv-loop2 μ-loop2)
+    → (let a = l .before .before .args in length (block (now (a .samples)) (a .first)) ≡ 16)
 sixteen l = simp (length-take, length-drop) (omega arith)
 
 loop2-again : tie.Need-loop2-again Inv-loop μ-loop Inv-loop2 μ-loop2
@@ -131,8 +133,9 @@ loop2-again c =
       omega arith,
       p .put-word .kept .0 ∙ l2 .loop2 .inv .1,
       rw (p .put-word .ensures, here)
-          (pack-pair (block (now (a .samples)) (a .first)) (4 + 2 * a .first) (l2 .loop2 .packet) _ (l .loop .held) (l2 .loop2 .k) (p .before .pair .result)
-          (omega (arith, sixteen l)) (p .before .pair .ensures) (λ j h. l .loop .inv .2 j (omega (arith, sixteen l))) (l2 .loop2 .inv .2)),
+          (pack-pair (block (now (a .samples)) (a .first)) (4 + 2 * a .first) (l2 .loop2 .packet) _ (l .loop .held) (l2 .loop2 .k)
+          (p .before .pair .result) (omega (arith, sixteen l)) (p .before .pair .ensures)
+          (λ j h. l .loop .inv .2 j (omega (arith, sixteen l))) (l2 .loop2 .inv .2)),
     )
 
 same-length : tie.Need-same-length Inv-loop μ-loop Inv-loop2 μ-loop2
@@ -143,8 +146,9 @@ returns c =
     let l2 = c .before in
     let l = l2 .before .before in
     let a = l .before .before .args in
-    pack-end 16 (4 + 2 * a .first) (l2 .loop2 .packet) _ (block (now (a .samples)) (a .first)) (2 * l2 .loop2 .k) (omega (arith, sixteen l)) (l2 .loop2 .inv .2)
-    ∙ ap (λ (n : ℕ). sets (now (a .packet)) n (samplesBytes 16 (block (now (a .samples)) (a .first)))) (add-zero (4 + 2 * a .first))
+    let its = block (now (a .samples)) (a .first) in
+    pack-end 16 (4 + 2 * a .first) (l2 .loop2 .packet) _ its (2 * l2 .loop2 .k) (omega (arith, sixteen l)) (l2 .loop2 .inv .2)
+    ∙ ap (λ (n : ℕ). sets (now (a .packet)) n (samplesBytes 16 its)) (add-zero (4 + 2 * a .first))
 
 pub block16-spec : {M : Type 1} → statement M
 block16-spec =

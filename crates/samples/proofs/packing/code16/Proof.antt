@@ -25,9 +25,12 @@ abbrev sent : tie.After-above → ℤ
 sent c = narrowed 16 (sample c)
 
 small : (c : tie.After-above) → mag (sent c) < 32_768
-small c = sixteen-small (sample c) (sample-at (now (c .before .args .samples)) (c .before .args .at) (c .before .pre .0) (c .before .pre .1))
+small c =
+    let s = c .before in
+    sixteen-small (sample c) (sample-at (now (s .args .samples)) (s .args .at) (s .pre .0) (s .pre .1))
 
-above : (c : tie.After-above) → toZ w32 (ofZ w32 (toZ w32 (ofZ w32 (shrZ (toZ w32 (ofZ w32 (sample c))) 256)) +ℤ pos 32_768)) ≡ pos (lifted 32_768 (sent c))
+above : (c : tie.After-above)
+    → toZ w32 (ofZ w32 (toZ w32 (ofZ w32 (shrZ (toZ w32 (ofZ w32 (sample c))) 256)) +ℤ pos 32_768)) ≡ pos (lifted 32_768 (sent c))
 above c = rw (toZ-ofZ {z = sample c} (sfits-of (c .above .given))) (half-is 32_768 (sent c) (small c) (omega arith))
 
 mul-above : tie.Need-mul-above

@@ -10,7 +10,8 @@ use lib.ListN.{length}
 use Rattle.packets.specs.Forms.{listed, totalOf}
 use Rattle.packets.specs.Samples.{allSamples}
 use Rattle.packets.proofs.Forms.{is-listed-form}
-use Rattle.samples.proofs.Refusals.{other-width, room-for, eight-pairs, pack-unlisted, pack-count, pack-room, pack-outside, pack-done}
+use Rattle.samples.proofs.Refusals.{other-width, room-for, eight-pairs}
+use Rattle.samples.proofs.Refusals.{pack-unlisted, pack-count, pack-room, pack-outside, pack-done}
 use Rattle.samples.proofs.packing.pack.Statement.{statement}
 use Rattle.samples.proofs.packing.pack.Tie as tie
 
@@ -50,7 +51,8 @@ returns-3 c =
     pack-room (a .f) (now (a .samples)) (now (a .packet)) (form e) (t .before .if2 .left) (rw (total t) at (c .if3 .taken))
 
 -- past the third test there is room for the form's total
-room : (c : tie.Else3) → totalOf (c .before .before .before .before .before .before .before .args .f) ≤ length (now (c .before .before .before .before .before .before .before .args .packet))
+room : (c : tie.Else3)
+    → (let a = c .before .before .before .before .before .before .before .args in totalOf (a .f) ≤ length (now (a .packet)))
 room c = rw (total (c .before)) at (c .if3 .left)
 
 all-fit-requires : tie.Need-all-fit-requires
@@ -62,7 +64,8 @@ returns-4 c =
     let u = r .before .before in
     let e = u .before .before in
     let a = e .before .before .before .args in
-    pack-outside (a .f) (now (a .samples)) (now (a .packet)) (form e) (u .if2 .left) (room r) (sym (c .before .all-fit .ensures) ∙ not-true _ (c .if4 .taken))
+    pack-outside (a .f) (now (a .samples)) (now (a .packet)) (form e) (u .if2 .left) (room r)
+    (sym (c .before .all-fit .ensures) ∙ not-true _ (c .if4 .taken))
 
 -- past the fourth test all are samples
 all : (c : tie.Else4) → allSamples (now (c .before .before .before .before .before .before .before .before .before .args .samples)) ≡ true
@@ -120,7 +123,8 @@ returns-6 c =
     let u = r .before .before in
     let e = u .before .before in
     let a = e .before .before .before .args in
-    pack-done (a .f) (now (a .samples)) (now (a .packet)) (form e) (u .if2 .left) (room r) 16 _ (other-width (a .f) (form e) (t .if5 .left)) (all q) (p .pack16 .ensures)
+    let width = other-width (a .f) (form e) (t .if5 .left) in
+    pack-done (a .f) (now (a .samples)) (now (a .packet)) (form e) (u .if2 .left) (room r) 16 _ width (all q) (p .pack16 .ensures)
 
 pub pack-spec : {M : Type 1} → statement M
 pack-spec =

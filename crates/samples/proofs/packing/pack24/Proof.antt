@@ -63,8 +63,11 @@ add-put-four24 c = omega arith
 
 put-four24-requires : tie.Need-put-four24-requires Inv-loop μ-loop
 put-four24-requires c κs =
-    let d = c .before in
-    (omega arith, d .before .before .before .code24 .ensures .1, d .before .before .code242 .ensures .1, d .before .code243 .ensures .1, d .code244 .ensures .1)
+    let fourth = c .before in
+    let third = fourth .before in
+    let second = third .before in
+    let first = second .before in
+    (omega arith, first .code24 .ensures .1, second .code242 .ensures .1, third .code243 .ensures .1, fourth .code244 .ensures .1)
 
 add-i : tie.Need-add-i Inv-loop μ-loop
 add-i c = omega arith
@@ -75,14 +78,18 @@ loop-less c = omega arith
 loop-again : tie.Need-loop-again Inv-loop μ-loop
 loop-again c =
     let p = c .before .before in
-    let d = p .before .before in
-    let l = d .before .before .before .before .before in
+    let fourth = p .before .before in
+    let third = fourth .before in
+    let second = third .before in
+    let first = second .before in
+    let l = first .before .before in
     let zs = now (l .before .before .args .samples) in (
       omega arith,
       p .put-four24 .kept .0 ∙ l .loop .inv .1,
       rw (p .put-four24 .ensures)
           (pack-four zs (l .loop .packet) _ (l .loop .i) _ _ _ _ (omega arith)
-          (d .before .before .before .code24 .ensures .0) (d .before .before .code242 .ensures .0) (d .before .code243 .ensures .0) (d .code244 .ensures .0) (l .loop .inv .2)),
+          (first .code24 .ensures .0) (second .code242 .ensures .0) (third .code243 .ensures .0) (fourth .code244 .ensures .0)
+          (l .loop .inv .2)),
     )
 
 same-length : tie.Need-same-length Inv-loop μ-loop

@@ -58,7 +58,8 @@ returns c =
     let one = bytes 4 (a .a + 16_777_216 * (a .b % 256)) in
     let two = bytes 4 (a .b / 256 + 65_536 * (a .c % 65_536)) in
     let three = bytes 4 (a .c / 65_536 + 256 * a .d) in
-    sets-then dst (a .at) (one ++ two) three (sets-then dst (a .at) one two (first .put-word .ensures) (second .put-word2 .ensures)) (third .put-word3 .ensures)
+    let eight = sets-then dst (a .at) one two (first .put-word .ensures) (second .put-word2 .ensures) in
+    sets-then dst (a .at) (one ++ two) three eight (third .put-word3 .ensures)
     ∙ ap (sets dst (a .at)) (bytes-four (a .a) (a .b) (a .c) (a .d) (omega arith) (omega arith) (omega arith))
 
 pub put-four24-spec : {M : Type 1} → statement M

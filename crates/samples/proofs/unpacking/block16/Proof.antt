@@ -116,7 +116,8 @@ loop2-again c =
     let a = l .before .before .args in (
       omega arith,
       simp length-set (l2 .loop2 .inv .1),
-      hold-pair (now (a .packet)) (l2 .loop2 .held) (a .first) (l2 .loop2 .i) (c .word-at .result) (λ k. l .before .shared-slice-known .given k .fits) (omega arith) (omega arith) (c .word-at .ensures) (l2 .loop2 .inv .2),
+      hold-pair (now (a .packet)) (l2 .loop2 .held) (a .first) (l2 .loop2 .i) (c .word-at .result)
+          (λ k. l .before .shared-slice-known .given k .fits) (omega arith) (omega arith) (c .word-at .ensures) (l2 .loop2 .inv .2),
     )
 
 mul-k : tie.Need-mul-k Inv-loop2 μ-loop2 Inv-loop3 μ-loop3 Inv-loop μ-loop
@@ -200,7 +201,8 @@ returns : tie.Need-returns Inv-loop2 μ-loop2 Inv-loop3 μ-loop3 Inv-loop μ-loo
 returns c =
     let l = c .before in
     let a = l .before .before .args in
-    unpack-end 16 (drop 4 (now (a .packet))) (l .loop .out) _ (2 * a .first + 8 * l .loop .round) (2 * (a .first + 32)) (omega arith) (rw (add-zero (2 * a .first)) at (l .loop .inv .4))
+    unpack-end 16 (drop 4 (now (a .packet))) (l .loop .out) _ (2 * a .first + 8 * l .loop .round) (2 * (a .first + 32)) (omega arith)
+    (rw (add-zero (2 * a .first)) at (l .loop .inv .4))
 
 pub block16-spec : {M : Type 1} → statement M
 block16-spec =

@@ -41,7 +41,7 @@ returns-2 c =
     unpack-short (a .f) (now (a .packet)) (now (a .out)) (form (t .before)) (rw (total t) at (c .if2 .taken))
 
 -- past the second test the packet is long enough
-long : (c : tie.Else2) → totalOf (c .before .before .before .before .before .args .f) ≤ length (now (c .before .before .before .before .before .args .packet))
+long : (c : tie.Else2) → (let a = c .before .before .before .before .before .args in totalOf (a .f) ≤ length (now (a .packet)))
 long c = rw (total (c .before)) at (c .if2 .left)
 
 mul-if3 : tie.Need-mul-if3
@@ -103,8 +103,9 @@ returns-5 c =
     let e = t .before .before in
     let a = e .before .before .before .args in
     let width = other-width (a .f) (form e) (w .if4 .left) in
+    let all = whole-blocks (a .f) (form e) width in
     unpack-done (a .f) (now (a .packet)) (now (a .out)) 16 _ (form e) (long t) (r .if3 .left) width
-    (u .unpack16 .ensures ∙ ap (λ (n : ℕ). sets (now (a .out)) 0 (samplesFrom 16 (drop 4 (now (a .packet))) 0 n)) (whole-blocks (a .f) (form e) width))
+    (u .unpack16 .ensures ∙ ap (λ (n : ℕ). sets (now (a .out)) 0 (samplesFrom 16 (drop 4 (now (a .packet))) 0 n)) all)
 
 pub unpack-spec : {M : Type 1} → statement M
 unpack-spec =

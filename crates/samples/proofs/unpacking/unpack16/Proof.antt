@@ -15,7 +15,8 @@ abbrev Inv-loop : tie.InvT-loop
 Inv-loop packet out₀ blocks i₀ out i =
     (i ≤ blocks)
     × (length out ≡ length out₀)
-    × (sets out (64 * i) (samplesFrom 16 (drop 4 packet) (64 * i) (64 * blocks - 64 * i)) ≡ sets out₀ 0 (samplesFrom 16 (drop 4 packet) 0 (64 * blocks)))
+    × (sets out (64 * i) (samplesFrom 16 (drop 4 packet) (64 * i) (64 * blocks - 64 * i))
+    ≡ sets out₀ 0 (samplesFrom 16 (drop 4 packet) 0 (64 * blocks)))
 
 abbrev μ-loop : tie.MeasureT-loop
 μ-loop packet out₀ blocks i₀ out i = blocks - i
@@ -45,7 +46,8 @@ loop-again c =
       omega arith,
       b .block16 .kept .1 .0 ∙ l .loop .inv .1,
       rw (b .block16 .ensures, next)
-          (unpack-block 16 (drop 4 (now (a .packet))) (l .loop .out) _ (2 * (32 * l .loop .i)) (2 * (32 * l .loop .i + 32)) (64 * a .blocks) (omega arith) (omega arith) (rw here at (l .loop .inv .2))),
+          (unpack-block 16 (drop 4 (now (a .packet))) (l .loop .out) _
+          (2 * (32 * l .loop .i)) (2 * (32 * l .loop .i + 32)) (64 * a .blocks) (omega arith) (omega arith) (rw here at (l .loop .inv .2))),
     )
 
 same-length : tie.Need-same-length Inv-loop μ-loop

@@ -53,11 +53,14 @@ loop-again : tie.Need-loop-again Inv-loop μ-loop
 loop-again c =
     let w = c .before in
     let l = c .before .before .before in
-    let a = l .before .before .args in (
+    let a = l .before .before .args in
+    let sample =
+    sample-24 (now (a .packet)) (l .loop .i) (w .word-at .result) (λ k. l .before .shared-slice-known .given k .fits) (omega arith)
+    (w .word-at .ensures) in (
       omega arith,
       simp length-set (l .loop .inv .1),
       unpack-turn 24 (drop 4 (now (a .packet))) (l .loop .out) _ (l .loop .i) (a .n) _ (w .before .loop-test .taken)
-          (toZ-ofZ (sfits-of (c .sign24 .ok)) ∙ c .sign24 .ensures ∙ sample-24 (now (a .packet)) (l .loop .i) _ (λ k. l .before .shared-slice-known .given k .fits) (omega arith) (w .word-at .ensures))
+          (toZ-ofZ (sfits-of (c .sign24 .ok)) ∙ c .sign24 .ensures ∙ sample)
           (l .loop .inv .2),
     )
 
