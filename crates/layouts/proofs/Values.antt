@@ -16,9 +16,11 @@ use Rattle.layouts.specs.Layouts.{sizeOf, laid}
 pub value-last : (a : Layout) → drop (pick (a .echoed) 5 4) (laid a) ≡ bytes (a .width) (a .value)
 value-last a = go (a .echoed)
   where
+    parameters : Bool → List ℕ
+    parameters b = pick b (a .echo ∷ []) [] ++ bytes (a .width) (a .value)
+
     go : (b : Bool)
-        → drop (pick b 5 4) (bytes 2 (headerOf (a .kind) (sizeOf a)) ++ bytes 2 (a .item) ++ (pick b (a .echo ∷ []) [] ++ bytes (a .width) (a .value)))
-        ≡ bytes (a .width) (a .value)
+        → drop (pick b 5 4) (bytes 2 (headerOf (a .kind) (sizeOf a)) ++ bytes 2 (a .item) ++ parameters b) ≡ bytes (a .width) (a .value)
     go true = refl
     go false = refl
 

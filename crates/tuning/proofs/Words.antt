@@ -52,7 +52,8 @@ module _ (hz clock : ℕ) where
   unfolding wordOf
   word-first one c = rw (one, c)
 
-  pub word-second : inFirst hz ≡ false → inSecond hz ≡ true → isClock clock ≡ true → told (Is (quotient (160000000 - hz) clock)) ≡ wordTold hz clock
+  pub word-second : inFirst hz ≡ false → inSecond hz ≡ true → isClock clock ≡ true
+      → told (Is (quotient (160000000 - hz) clock)) ≡ wordTold hz clock
   unfolding wordOf
   word-second one two c = rw (one, two, c)
 

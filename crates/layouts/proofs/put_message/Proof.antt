@@ -53,15 +53,19 @@ put-requires : tie.Need-put-requires
 put-requires c κs = search needs
 
 same-length : tie.Need-same-length
-same-length c = c .before .before .put .kept .0 ∙ simp length-set (c .before .before .before .before .before .before .before .before .put-header-and-item .kept .0)
+same-length c =
+    let p = c .before .before in
+    let h = p .before .before .before .before .before .before in
+    p .put .kept .0 ∙ simp length-set (h .put-header-and-item .kept .0)
 
 returns-2 : tie.Need-returns-2
 returns-2 c =
     let p = c .before .before in
     let echo = p .before .before in
     let h = echo .before .before .before .before in
-    put-echoed (now (start h .args .dst)) (start h .args .a) (sized h .size-of .result) (headed h .header-of .result) (h .put-header-and-item .last .0) (p .put .last .0)
-    (sized h .size-of .ensures) (roomy h .if1 .left) (headed h .header-of .ensures) (h .put-header-and-item .ensures) (echo .if2 .taken) (p .put .ensures)
+    put-echoed (now (start h .args .dst)) (start h .args .a) (sized h .size-of .result) (headed h .header-of .result)
+    (h .put-header-and-item .last .0) (p .put .last .0) (sized h .size-of .ensures) (roomy h .if1 .left) (headed h .header-of .ensures)
+    (h .put-header-and-item .ensures) (echo .if2 .taken) (p .put .ensures)
 
 put-requires-2 : tie.Need-put-requires-2
 put-requires-2 c κs = search needs
@@ -74,8 +78,9 @@ returns-3 c =
     let p = c .before .before in
     let plain = p .before .before in
     let h = plain .before .before .before .before in
-    put-plain (now (start h .args .dst)) (start h .args .a) (sized h .size-of .result) (headed h .header-of .result) (h .put-header-and-item .last .0) (p .put2 .last .0)
-    (sized h .size-of .ensures) (roomy h .if1 .left) (headed h .header-of .ensures) (h .put-header-and-item .ensures) (plain .if2 .left) (p .put2 .ensures)
+    put-plain (now (start h .args .dst)) (start h .args .a) (sized h .size-of .result) (headed h .header-of .result)
+    (h .put-header-and-item .last .0) (p .put2 .last .0) (sized h .size-of .ensures) (roomy h .if1 .left) (headed h .header-of .ensures)
+    (h .put-header-and-item .ensures) (plain .if2 .left) (p .put2 .ensures)
 
 pub put-message-spec : {M : Type 1} → statement M
 put-message-spec =

@@ -32,7 +32,8 @@ returns-2 c =
     let second = c .before .before in
     let first = second .before .before .before .before in
     let a = first .before .before .before .before .args in
-    sets-then (a .dst .now) (a .at) (bandBytes 100000 34000000 0) (bandBytes 140000000 150000000 160000000) (first .put-band .ensures) (second .put-band2 .ensures)
+    sets-then (a .dst .now) (a .at) (bandBytes 100000 34000000 0) (bandBytes 140000000 150000000 160000000)
+    (first .put-band .ensures) (second .put-band2 .ensures)
 
 pub put-range-spec : {M : Type 1} → statement M
 put-range-spec =
