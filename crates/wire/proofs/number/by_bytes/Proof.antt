@@ -29,16 +29,20 @@ loop-holds c =
     let none : c .lesser2 .result - c .lesser2 .result ≡ 0 = omega arith in
     (search needs, rw none, rw none (omega arith))
 
+-- the call, from the loop
+abbrev start : tie.At-loop Inv-loop μ-loop → tie.Start Inv-loop μ-loop
+start c = c .before .before .before .before .before
+
 -- while a byte is left, the number has at most seven
 small : (c : tie.At-loop Inv-loop μ-loop) → 0 < c .loop .i → c .loop .number < 72057594037927936
 small c some = power-seven _ _ (omega arith) (c .loop .inv .2)
 
 -- what is read is a byte
 byte : (c : tie.After-shared-slice-known2 Inv-loop μ-loop)
-    → (let a = c .before .before .before .before .before .before .before .args in
+    → (let a = start (c .before .before) .args in
     getD (a .s .now) (a .at + (c .before .before .loop .i - 1)) 0 < 256)
 byte c =
-    let a = c .before .before .before .before .before .before .before .args in
+    let a = start (c .before .before) .args in
     omega (arith, c .shared-slice-known2 .given (a .at + (c .before .before .loop .i - 1)))
 
 sub-i : tie.Need-sub-i Inv-loop μ-loop
@@ -64,7 +68,7 @@ loop-less c = omega arith
 
 loop-again : tie.Need-loop-again Inv-loop μ-loop
 loop-again c =
-    let a = c .before .before .before .before .before .before .before .args in
+    let a = start (c .before .before) .args in
     let l = c .before .before .loop in
     let top = c .before .before .before .lesser2 .result in (
       omega arith,
@@ -74,7 +78,7 @@ loop-again c =
 
 returns : tie.Need-returns Inv-loop μ-loop
 returns c =
-    let a = c .before .before .before .before .before .before .args in
+    let a = start (c .before) .args in
     let l = c .before .loop in
     let top = c .before .before .lesser2 .result in
     field-read (a .s .now) (a .at) (min (a .n) 8) (l .i) top _ (omega arith) (omega arith) (l .inv .1)

@@ -29,6 +29,10 @@ loop-holds c =
     let a = c .before .before .before .args in
     (search needs, refl, rw (add-zero (a .at), sub-zero (a .n)))
 
+-- the call, from the loop
+abbrev start : tie.At-loop Inv-loop μ-loop → tie.Start Inv-loop μ-loop
+start c = c .before .before .before .before
+
 cast-dst : tie.Need-cast-dst Inv-loop μ-loop
 cast-dst c = omega arith
 
@@ -46,7 +50,7 @@ loop-less c = omega arith
 
 loop-again : tie.Need-loop-again Inv-loop μ-loop
 loop-again c =
-    let a = c .before .before .before .before .before .args in
+    let a = start (c .before) .args in
     let l = c .before .loop in
     (omega arith, simp length-set (l .inv .1), put-turn (l .dst) _ (a .at) (a .n) (l .i) (l .rest) (omega arith) (l .inv .2))
 
@@ -55,7 +59,7 @@ same-length c = omega arith
 
 returns : tie.Need-returns Inv-loop μ-loop
 returns c =
-    let a = c .before .before .before .before .before .args in
+    let a = start (c .before) .args in
     let l = c .before .loop in
     put-end (l .dst) _ (a .at) (a .n) (l .i) (l .rest) (omega arith) (l .inv .2)
 
