@@ -51,14 +51,14 @@ module _ (r : Reader) (h : r .heard ≡ true) where
   sound-within l = sym (heard-sound ∙ ap (λ (t : Bool). t && listed (r .form)) (le-leb (r .position) last l))
 
 module _ (r : Reader) (h : r .heard ≡ false) where
-  silent-sound : sound r ≡ (eqb (r .position) 0 && sameForm (r .form) noForm)
-  silent-sound = pick-false (r .heard) _ _ h
+  unheard-sound : sound r ≡ (eqb (r .position) 0 && sameForm (r .form) noForm)
+  unheard-sound = pick-false (r .heard) _ _ h
 
   pub sound-nowhere : r .position ≡ 0 → sameForm (r .form) noForm ≡ sound r
-  sound-nowhere z = sym (silent-sound ∙ ap (λ (t : Bool). t && sameForm (r .form) noForm) (eq-eqb (r .position) 0 z))
+  sound-nowhere z = sym (unheard-sound ∙ ap (λ (t : Bool). t && sameForm (r .form) noForm) (eq-eqb (r .position) 0 z))
 
   pub sound-somewhere : (r .position ≡ 0 → ⊥) → false ≡ sound r
-  sound-somewhere z = sym (silent-sound ∙ and-not-left _ _ (ne-eqb (r .position) 0 z))
+  sound-somewhere z = sym (unheard-sound ∙ and-not-left _ _ (ne-eqb (r .position) 0 z))
 
 -- "A reader that has heard a packet holds its position (at most 3,999,999,999) and a listed form"
 pub heard-within : (r : Reader) → sound r ≡ true → r .heard ≡ true → r .position ≤ last

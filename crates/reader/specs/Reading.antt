@@ -59,6 +59,11 @@ readingOf r packet =
     pick (eqb (readCode r packet) Code.done) (heardAt (positionAfter r (numberIn packet)) (wholeOf packet))
     (unheard (readCode r packet) r)
 
+-- The reader that slice after slice makes of one. A slice is anything that it is handed: a packet of any capture, or rubbish.
+abbrev pub afterSlices : Reader → List (List ℕ) → Reader
+afterSlices r [] = r
+afterSlices r (slice ∷ slices) = afterSlices (readingOf r slice .reader) slices
+
 -- "A call of its own answers with the sample bytes handed back as that part of the caller's packet, or with an empty part
 -- where the slice is 30."
 abbrev pub sampleBytesOf : List ℕ → List ℕ
