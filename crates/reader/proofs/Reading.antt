@@ -20,14 +20,23 @@ use Rattle.wire.proofs.Checks.{clear}
 
 -- a slice is a packet where the form found has pairs
 pub no-packet : (p : List ℕ) → wholeOf p .pairs ≡ 0 → isPacket p ≡ false
-no-packet p z = ⊎-elim (λ (e : wholeOf p ≡ noForm). rw e) (λ (w : Whole p (wholeOf p)). absurd (omega (arith, is-listed-form (wholeOf p) (w .form) .some))) (whole-is p)
+no-packet p z =
+    ⊎-elim (λ (e : wholeOf p ≡ noForm). rw e)
+    (λ (w : Whole p (wholeOf p)). absurd (omega (arith, is-listed-form (wholeOf p) (w .form) .some)))
+    (whole-is p)
 
 pub a-packet : (p : List ℕ) → (wholeOf p .pairs ≡ 0 → ⊥) → isPacket p ≡ true
-a-packet p z = ⊎-elim (λ (e : wholeOf p ≡ noForm). absurd (z (ap (λ (f : Form). f .pairs) e))) (λ (w : Whole p (wholeOf p)). w .form) (whole-is p)
+a-packet p z =
+    ⊎-elim (λ (e : wholeOf p ≡ noForm). absurd (z (ap (λ (f : Form). f .pairs) e)))
+    (λ (w : Whole p (wholeOf p)). w .form)
+    (whole-is p)
 
 -- a packet's form has at most 256 pairs
 pub pairs-few : (p : List ℕ) → wholeOf p .pairs < 257
-pairs-few p = ⊎-elim (λ (e : wholeOf p ≡ noForm). rw e (omega arith)) (λ (w : Whole p (wholeOf p)). omega (arith, is-listed-form (wholeOf p) (w .form) .few)) (whole-is p)
+pairs-few p =
+    ⊎-elim (λ (e : wholeOf p ≡ noForm). rw e (omega arith))
+    (λ (w : Whole p (wholeOf p)). omega (arith, is-listed-form (wholeOf p) (w .form) .few))
+    (whole-is p)
 
 -- the sample bytes are what stands after the first four, of which a packet has at least as many
 pub four-there : (p : List ℕ) → (wholeOf p .pairs ≡ 0 → ⊥) → 4 ≤ length p
@@ -107,7 +116,9 @@ module _ (r : Reader) (p : List ℕ) where
           unfolding readCode
           changed e = refusal 32 (omega arith) (rw (fine, a-packet p some, ne-eqb _ _ later, begun, e))
 
-          module _ (same : sameForm (wholeOf p) (r .form) ≡ true) (n : ℕ) (leads : n ≡ r .position + stepOf (numberAt (r .position)) (numberIn p)) where
+          module _
+              (same : sameForm (wholeOf p) (r .form) ≡ true) (n : ℕ)
+              (leads : n ≡ r .position + stepOf (numberAt (r .position)) (numberIn p)) where
             pub past : last < n → unheard 33 r ≡ readingOf r p
             unfolding readCode
             past l = refusal 33 (omega arith) (rw (fine, a-packet p some, ne-eqb _ _ later, begun, same, ← leads, lt-ltb last n l))

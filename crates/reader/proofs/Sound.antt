@@ -18,7 +18,8 @@ pub silent-sound : sound silent ≡ true
 silent-sound = refl
 
 -- none of the five refusals: the position is not past the last, and the packet's form is listed
-taken-sound : (r : Reader) (slice : List ℕ) → readCode r slice ≡ 1 → sound (heardAt (positionAfter r (numberIn slice)) (wholeOf slice) .reader) ≡ true
+taken-sound : (r : Reader) (slice : List ℕ) → readCode r slice ≡ 1
+    → sound (heardAt (positionAfter r (numberIn slice)) (wholeOf slice) .reader) ≡ true
 unfolding readCode
 taken-sound r slice one =
     let position = positionAfter r (numberIn slice) in
