@@ -17,7 +17,7 @@ use Rattle.reader.specs.Reading.{silent, sound, readingOf, heardAt, afterSlices
 use Rattle.reader.proofs.Sound.{silent-sound, slices-keep-sound}
 use Rattle.positions.specs.Captures.{Cuts, ends, cuts, feeds, Capture}
 use Rattle.positions.specs.Losses.{Fate, arrives, lost, arriving, bounded, allowedLosses, positionsFrom, answersBy}
-use Rattle.positions.specs.Demand.{said, takenAt, ExactPositions, NeverBroken, ExactAfterAnything, NoTwoAlike}
+use Rattle.positions.specs.Demand.{saidIn, takenAt, ExactPositions, NeverBroken, ExactAfterAnything, NoTwoAlike}
 use Rattle.positions.proofs.Steps.{position-is-exact}
 use Rattle.cutting.proofs.Formed.{valid-form}
 use Rattle.cutting.proofs.Packets.{packet-whole, packet-number}
@@ -88,14 +88,14 @@ pub from-start : {s : Station} {packets : List (List ℕ)} → Capture s packets
 from-start c = rw (c .fresh) at (cuts-numbered (c .running) (c .calls))
 
 -- what is said of packets that are heard so
-said-at : (f : Form) (ps : List ℕ) → map said (map (λ p. heardAt p f) ps) ≡ map (takenAt f) ps
+said-at : (f : Form) (ps : List ℕ) → map saidIn (map (λ p. heardAt p f) ps) ≡ map (takenAt f) ps
 said-at f [] = refl
 said-at f (p ∷ ps) = ap (λ l. takenAt f p ∷ l) (said-at f ps)
 
 pub exact-positions : ExactPositions
 exact-positions r g s packets c fates b =
     let f = formNow (s .settings) in
-    ap (map said) (exact f fates packets (from-start c) b r g) ∙ said-at f (arriving fates (positionsFrom 0 packets))
+    ap (map saidIn) (exact f fates packets (from-start c) b r g) ∙ said-at f (arriving fates (positionsFrom 0 packets))
 
 pub never-broken : NeverBroken
 never-broken slices = slices-keep-sound silent slices silent-sound

@@ -14,8 +14,8 @@ use Rattle.reader.specs.Reading.{silent}
 use Rattle.reader.proofs.Sound.{silent-sound}
 use Rattle.positions.specs.Captures.{Capture}
 use Rattle.positions.specs.Losses.{Fate, arrives, lost, arriving, bounded, allowedLosses, positionsFrom, WayToRead, answersBy}
-use Rattle.positions.specs.Demand.{Said, said, takenAt, GivesExactPositions}
-use Rattle.positions.specs.Wrong.{Follows, alwaysZero, neverMoving, oneTurnOnly, readBy}
+use Rattle.positions.specs.Demand.{Said, saidIn, takenAt, GivesExactPositions}
+use Rattle.positions.specs.Wrong.{PositionsBy, alwaysZero, neverMoving, oneTurnOnly, readBy}
 use Rattle.positions.proofs.Demand.{from-start, arriving-numbers}
 use Rattle.positions.proofs.Exist.{running, captures-exist}
 
@@ -47,14 +47,14 @@ said-taken f (p ∷ ps) = ap (λ l. p ∷ l) (said-taken f ps)
 -- of a capture the positions of those that arrive
 said-exact : (read : WayToRead) → GivesExactPositions read
     → (packets : List (List ℕ)) → Capture (running 0) packets → (fates : List Fate) → allowedLosses fates
-    → positionsSaid (map said (answersBy read silent (arriving fates packets))) ≡ arriving fates (positionsFrom 0 packets)
+    → positionsSaid (map saidIn (answersBy read silent (arriving fates packets))) ≡ arriving fates (positionsFrom 0 packets)
 said-exact read exact packets c fates b =
     ap positionsSaid (exact silent silent-sound (running 0) packets c fates b)
     ∙ said-taken (formNow (running 0 .settings)) (arriving fates (positionsFrom 0 packets))
 
 -- where what a reader says depends on the number alone
-said-by : (g : ℕ → ℕ) (read : WayToRead) → Follows (λ held number. g number) read → (r : Reader) (ps : List (List ℕ))
-    → positionsSaid (map said (answersBy read r ps)) ≡ map g (map numberIn ps)
+said-by : (g : ℕ → ℕ) (read : WayToRead) → PositionsBy (λ held number. g number) read → (r : Reader) (ps : List (List ℕ))
+    → positionsSaid (map saidIn (answersBy read r ps)) ≡ map g (map numberIn ps)
 said-by g read follows r [] = refl
 said-by g read follows r (p ∷ ps) = rw (follows r p, said-by g read follows (read r p .reader) ps)
 
@@ -72,7 +72,7 @@ each-stays g n (x ∷ xs) e (suc k) h =
     rw next (each-stays g (n + 1) xs tails k (omega arith))
 
 -- a reader that goes by the number alone says position k by k's number
-by-number : (g : ℕ → ℕ) (read : WayToRead) → Follows (λ held number. g number) read → GivesExactPositions read
+by-number : (g : ℕ → ℕ) (read : WayToRead) → PositionsBy (λ held number. g number) read → GivesExactPositions read
     → (packets : List (List ℕ)) → Capture (running 0) packets → (k : ℕ) → k < length packets → g (numberAt k) ≡ k
 by-number g read follows exact packets c k h =
     let start : 0 + k ≡ k = omega arith in
@@ -86,13 +86,13 @@ by-number g read follows exact packets c k h =
     rw start at (each-stays g 0 packets (rw (← all) (ap (map g) (sym numbers) ∙ says)) k h)
 
 -- "a reader that always says 0"
-pub always-zero-fails : (read : WayToRead) → Follows alwaysZero read → GivesExactPositions read → ⊥
+pub always-zero-fails : (read : WayToRead) → PositionsBy alwaysZero read → GivesExactPositions read → ⊥
 always-zero-fails read follows exact =
     let c = captures-exist 2 (omega arith) in
     omega (arith, by-number (λ n. 0) read follows exact (c .0) (c .1) 1 (omega (arith, c .2)))
 
 -- "or never moves": after the first packet it gives the second the position that it would give the third
-pub never-moving-fails : (read : WayToRead) → Follows neverMoving read → GivesExactPositions read → ⊥
+pub never-moving-fails : (read : WayToRead) → PositionsBy neverMoving read → GivesExactPositions read → ⊥
 never-moving-fails read follows exact = let c = captures-exist 3 (omega arith) in three (c .0) (c .1) (c .2)
   where
     three : (packets : List (List ℕ)) → Capture (running 0) packets → length packets ≡ 3 → ⊥
@@ -107,11 +107,11 @@ never-moving-fails read follows exact = let c = captures-exist 3 (omega arith) i
         omega (arith, follows (read silent p .reader) q, follows (read silent p .reader) x, one, two)
 
 -- "a reader right for one turn only (demand 3, position 65,536)"
-pub one-turn-only-fails : (read : WayToRead) → Follows oneTurnOnly read → GivesExactPositions read → ⊥
+pub one-turn-only-fails : (read : WayToRead) → PositionsBy oneTurnOnly read → GivesExactPositions read → ⊥
 one-turn-only-fails read follows exact =
     let c = captures-exist 65_537 (omega arith) in
     omega (arith, by-number (λ n. n) read follows exact (c .0) (c .1) 65_536 (omega (arith, c .2)))
 
 -- there are such readers
-pub rules-followed : (rule : ℕ → ℕ → ℕ) → Follows rule (readBy rule)
+pub rules-followed : (rule : ℕ → ℕ → ℕ) → PositionsBy rule (readBy rule)
 rules-followed rule r packet = refl

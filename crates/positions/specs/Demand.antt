@@ -24,8 +24,8 @@ pub record Said : Type 0 where
   pub position : ℕ
   pub sample : ℕ
 
-abbrev pub said : Heard → Said
-said h = record { code = h .code; position = h .position; sample = h .sample }
+abbrev pub saidIn : Heard → Said
+saidIn h = record { code = h .code; position = h .position; sample = h .sample }
 
 -- A packet of a form is taken (code 1) at a position, and its first sample's position is "packet position times I/Q pairs".
 abbrev pub takenAt : Form → ℕ → Said
@@ -37,7 +37,7 @@ abbrev pub ExactFrom : WayToRead → Reader → Type 0
 ExactFrom read r =
     (s : Station) (packets : List (List ℕ)) → Capture s packets
     → (fates : List Fate) → allowedLosses fates
-    → map said (answersBy read r (arriving fates packets))
+    → map saidIn (answersBy read r (arriving fates packets))
     ≡ map (takenAt (formNow (s .settings))) (arriving fates (positionsFrom 0 packets))
 
 -- from any reader that is not broken

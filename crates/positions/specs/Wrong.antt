@@ -10,8 +10,8 @@ use Rattle.reader.specs.Reading.{heardAt}
 use Rattle.positions.specs.Losses.{WayToRead}
 
 -- the position that it gives a packet is a rule's, by the position that it holds and the number that stands in the packet
-abbrev pub Follows : (ℕ → ℕ → ℕ) → WayToRead → Type 0
-Follows rule read = (r : Reader) (packet : List ℕ) → read r packet .position ≡ rule (r .position) (numberIn packet)
+abbrev pub PositionsBy : (ℕ → ℕ → ℕ) → WayToRead → Type 0
+PositionsBy rule read = (r : Reader) (packet : List ℕ) → read r packet .position ≡ rule (r .position) (numberIn packet)
 
 abbrev pub alwaysZero : ℕ → ℕ → ℕ
 alwaysZero held number = 0

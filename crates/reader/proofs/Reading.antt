@@ -81,12 +81,12 @@ module _ (r : Reader) (p : List ℕ) where
   refusal c other e = rw (e, ne-eqb c 1 other)
 
   -- none of the five refusals
-  pub taken : sound r ≡ true → isPacket p ≡ true → not (eqb (numberIn p) 0) && not (r .heard) ≡ false
+  pub packet-taken : sound r ≡ true → isPacket p ≡ true → not (eqb (numberIn p) 0) && not (r .heard) ≡ false
       → not (eqb (numberIn p) 0) && not (sameForm (wholeOf p) (r .form)) ≡ false
       → ltb last (positionAfter r (numberIn p)) ≡ false
       → readingOf r p ≡ heardAt (positionAfter r (numberIn p)) (wholeOf p)
   unfolding readCode readingOf
-  taken a b c d e =
+  packet-taken a b c d e =
       let one : readCode r p ≡ 1 = clear (readChecks r p) 1 (ap not a, (ap not b, (c, (d, (e, tt))))) in
       rw (eq-eqb (readCode r p) 1 one)
 
@@ -104,7 +104,7 @@ module _ (r : Reader) (p : List ℕ) where
       first z =
           let zeroth : eqb (numberIn p) 0 ≡ true = eq-eqb _ _ z in
           let there : positionAfter r (numberIn p) ≡ 0 = rw zeroth in
-          sym (taken fine (a-packet p some) (rw zeroth) (rw zeroth) (rw there) ∙ rw there)
+          sym (packet-taken fine (a-packet p some) (rw zeroth) (rw zeroth) (rw there) ∙ rw there)
 
       module _ (later : numberIn p ≡ 0 → ⊥) where
         pub unbegun : r .heard ≡ false → unheard 31 r ≡ readingOf r p
@@ -127,4 +127,4 @@ module _ (r : Reader) (p : List ℕ) where
             next l =
                 let nonzero : eqb (numberIn p) 0 ≡ false = ne-eqb _ _ later in
                 let there : positionAfter r (numberIn p) ≡ n = rw nonzero (sym leads) in
-                sym (taken fine (a-packet p some) (rw (nonzero, begun)) (rw (nonzero, same)) (rw there (le-ltb last n l)) ∙ rw there)
+                sym (packet-taken fine (a-packet p some) (rw (nonzero, begun)) (rw (nonzero, same)) (rw there (le-ltb last n l)) ∙ rw there)
