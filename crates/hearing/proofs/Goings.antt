@@ -26,7 +26,10 @@ goes-skip f t piece at k room s sane =
     let skips : reaching at f t (xs ++ drop k (drop at piece)) ≡ reaching (at + k) f (skipped t k) (drop k (drop at piece))
     = rw counted at (reach-skip xs (drop k (drop at piece)) at f t (rw counted s)) in
     record {
-      same = sym (ap (reaching at f t) (sym (take-append-drop k (drop at piece))) ∙ skips ∙ ap (reaching (at + k) f (skipped t k)) (drop-drop k at piece));
+      same =
+          sym (ap (reaching (at + k) f (skipped t k)) (drop-drop k at piece))
+          ∙ sym skips
+          ∙ ap (reaching at f t) (take-append-drop k (drop at piece));
       inside = room;
       sane = record { room = omega (arith, sane .room); heard = sane .heard; captures = sane .captures; position = sane .position };
     }
@@ -49,16 +52,19 @@ goes-byte f t piece at h sane =
     }
 
 -- where a line is due, that is where all leads
-pub goes-due : (f : Form) (t : Tally) (piece : List ℕ) (at : ℕ) (r : Reach) → Goes f t piece at r → (r .code ≡ 0 → ⊥) → r ≡ reaching at f t (drop at piece)
+pub goes-due : (f : Form) (t : Tally) (piece : List ℕ) (at : ℕ) (r : Reach) → Goes f t piece at r → (r .code ≡ 0 → ⊥)
+    → r ≡ reaching at f t (drop at piece)
 unfolding goesOn
 goes-due f t piece at r g due = rw (ne-eqb (r .code) 0 due) at (g .same)
 
-pub goes-on : (f : Form) (t : Tally) (piece : List ℕ) (at : ℕ) (r : Reach) → Goes f t piece at r → r .code ≡ 0 → reaching (r .at) f (r .tally) (drop (r .at) piece) ≡ reaching at f t (drop at piece)
+pub goes-on : (f : Form) (t : Tally) (piece : List ℕ) (at : ℕ) (r : Reach) → Goes f t piece at r → r .code ≡ 0
+    → reaching (r .at) f (r .tally) (drop (r .at) piece) ≡ reaching at f t (drop at piece)
 unfolding goesOn
 goes-on f t piece at r g none = rw none at (g .same)
 
 -- the piece is used up
-pub used-up : (f : Form) (t : Tally) (piece : List ℕ) (at : ℕ) → length piece ≤ at → record { at = at; code = 0; tally = t } ≡ reaching at f t (drop at piece)
+pub used-up : (f : Form) (t : Tally) (piece : List ℕ) (at : ℕ) → length piece ≤ at
+    → record { at = at; code = 0; tally = t } ≡ reaching at f t (drop at piece)
 unfolding reaching
 used-up f t piece at h = rw (drop-of-length-le piece h)
 
@@ -69,11 +75,13 @@ unfolding taking
 taken-some t b = omega arith
 
 -- a packet has its code, and is left before its effect
-pub settled-due : (n : ℕ) (f : Form) (t : Tally) → (settled n f t .code ≡ 0 → ⊥) → settled n f t ≡ record { at = n; code = heardCode f t; tally = t }
+pub settled-due : (n : ℕ) (f : Form) (t : Tally) → (settled n f t .code ≡ 0 → ⊥)
+    → settled n f t ≡ record { at = n; code = heardCode f t; tally = t }
 unfolding settled
 settled-due n f t due = by (eqb (heardCode f t) 0) (eqb (heardCode f t) 1 && not (closes t)) refl refl
   where
-    by : (waits quiet : Bool) → eqb (heardCode f t) 0 ≡ waits → (eqb (heardCode f t) 1 && not (closes t)) ≡ quiet → settled n f t ≡ record { at = n; code = heardCode f t; tally = t }
+    by : (waits quiet : Bool) → eqb (heardCode f t) 0 ≡ waits → (eqb (heardCode f t) 1 && not (closes t)) ≡ quiet
+        → settled n f t ≡ record { at = n; code = heardCode f t; tally = t }
     by true quiet p q = absurd (due (rw p))
     by false true p q = absurd (due (rw (p, q)))
     by false false p q = rw (p, q)
@@ -86,12 +94,15 @@ pub record Is-due (f : Form) (r : Reach) : Type 0 where
 pub reach-due : (bs : List ℕ) (n : ℕ) (f : Form) (t : Tally) → (reaching n f t bs .code ≡ 0 → ⊥) → Is-due f (reaching n f t bs)
 unfolding reaching
 reach-due [] n f t due = absurd (due refl)
-reach-due (b ∷ bs) n f t due = by (eqb (settled (n + 1) f (taking t b) .code) 0) refl (reach-due bs (n + 1) f (settled (n + 1) f (taking t b) .tally))
+reach-due (b ∷ bs) n f t due =
+    by (eqb (settled (n + 1) f (taking t b) .code) 0) refl (reach-due bs (n + 1) f (settled (n + 1) f (taking t b) .tally))
   where
     later : Tally
     later = settled (n + 1) f (taking t b) .tally
 
-    by : (none : Bool) → eqb (settled (n + 1) f (taking t b) .code) 0 ≡ none → ((reaching (n + 1) f later bs .code ≡ 0 → ⊥) → Is-due f (reaching (n + 1) f later bs)) → Is-due f (reaching n f t (b ∷ bs))
+    by : (none : Bool) → eqb (settled (n + 1) f (taking t b) .code) 0 ≡ none
+        → ((reaching (n + 1) f later bs .code ≡ 0 → ⊥) → Is-due f (reaching (n + 1) f later bs))
+        → Is-due f (reaching n f t (b ∷ bs))
     by true e ih = rw e (ih (λ z. due (rw e z)))
     by false e ih =
         let here = settled-due (n + 1) f (taking t b) (λ z. eqb-false _ _ e z) in

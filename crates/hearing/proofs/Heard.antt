@@ -26,8 +26,10 @@ codeBy few ok short same lone past =
     (check 0 few ∷ check 30 (not ok) ∷ check 0 short ∷ check 32 (not same) ∷ check 31 lone ∷ check 33 past ∷ [])
     1
 
-pub heard-by : (f : Form) (t : Tally) {few ok short same lone past : Bool} → ltb (t .taken) 2 ≡ few → listed (formNow t) ≡ ok → ltb (t .taken) (totalOf (formNow t)) ≡ short
-    → sameForm (formNow t) f ≡ same → lacksFirst t ≡ lone → ltb last (positionNow t) ≡ past → heardCode f t ≡ codeBy few ok short same lone past
+pub heard-by : (f : Form) (t : Tally) {few ok short same lone past : Bool}
+    → ltb (t .taken) 2 ≡ few → listed (formNow t) ≡ ok → ltb (t .taken) (totalOf (formNow t)) ≡ short
+    → sameForm (formNow t) f ≡ same → lacksFirst t ≡ lone → ltb last (positionNow t) ≡ past
+    → heardCode f t ≡ codeBy few ok short same lone past
 unfolding heardCode
 heard-by f t a b c d e g = cc
 
@@ -36,7 +38,8 @@ reachBy n code close t =
     pick (eqb code 0) (record { at = n; code = 0; tally = t })
     (pick (eqb code 1 && not close) (record { at = n; code = 0; tally = accepting t }) (record { at = n; code = code; tally = t }))
 
-pub settled-by : (n : ℕ) (f : Form) (t : Tally) {code : ℕ} {close : Bool} → heardCode f t ≡ code → closes t ≡ close → settled n f t ≡ reachBy n code close t
+pub settled-by : (n : ℕ) (f : Form) (t : Tally) {code : ℕ} {close : Bool} → heardCode f t ≡ code → closes t ≡ close
+    → settled n f t ≡ reachBy n code close t
 unfolding settled
 settled-by n f t p q = cc
 
@@ -89,10 +92,13 @@ accepted-fits f t e = ltb-false _ _ (absent (heardChecks f t) 1 refl e .1 .1 .1 
 pub sane-accepting : (rest : ℕ) (t : Tally) → Sane rest t → 0 < t .taken → positionNow t ≤ last → Sane rest (accepting t)
 unfolding accepting
 sane-accepting rest t s some fits =
+    let within : ℕ → Type 0 = λ n. n ≤ t .begins + t .taken in
     record {
       room = omega (arith, s .room);
-      heard = pick-keeps (λ (n : ℕ). n ≤ t .begins + t .taken) (eqb (t .number) 0) 1 (t .heard + 1) (λ e. omega arith) (λ e. omega (arith, s .heard));
-      captures = pick-keeps (λ (n : ℕ). n ≤ t .begins + t .taken) (eqb (t .number) 0) (t .captures + 1) (t .captures) (λ e. omega (arith, s .captures)) (λ e. omega (arith, s .captures));
+      heard = pick-keeps within (eqb (t .number) 0) 1 (t .heard + 1) (λ e. omega arith) (λ e. omega (arith, s .heard));
+      captures =
+          pick-keeps within (eqb (t .number) 0) (t .captures + 1) (t .captures)
+          (λ e. omega (arith, s .captures)) (λ e. omega (arith, s .captures));
       position = fits;
     }
 

@@ -18,7 +18,8 @@ use Rattle.hearing.specs.Inside.{Sane}
 use Rattle.hearing.proofs.Heard.{sane-taking, sane-settled, sane-less}
 use Rattle.hearing.proofs.Goings.{taken-some}
 
-pub range-by : (t : Tally) {a b c d : Bool} → leb (t .begins + t .taken) farthest ≡ a → leb (t .heard) (t .begins) ≡ b → leb (t .captures) (t .begins) ≡ c → leb (t .position) last ≡ d
+pub range-by : (t : Tally) {a b c d : Bool} → leb (t .begins + t .taken) farthest ≡ a → leb (t .heard) (t .begins) ≡ b
+    → leb (t .captures) (t .begins) ≡ c → leb (t .position) last ≡ d
     → inRange t ≡ a && b && c && d
 range-by t p q r s = rw (p, q, r, s)
 
@@ -51,10 +52,12 @@ reach-sane (b ∷ bs) n rest f t s =
 
 -- ---- what hearing a piece answers
 
-pub hearing-broken : (f : Form) (t : Tally) (piece : List ℕ) → inRange t && listed f ≡ false → hearingOf f t piece ≡ outcome (record { at = 0; code = 21; tally = t })
+pub hearing-broken : (f : Form) (t : Tally) (piece : List ℕ) → inRange t && listed f ≡ false
+    → hearingOf f t piece ≡ outcome (record { at = 0; code = 21; tally = t })
 unfolding hearingOf
 hearing-broken f t piece e = rw e
 
-pub hearing-is : (f : Form) (t : Tally) (piece : List ℕ) → inRange t ≡ true → listed f ≡ true → hearingOf f t piece ≡ outcome (reaching 0 f t piece)
+pub hearing-is : (f : Form) (t : Tally) (piece : List ℕ) → inRange t ≡ true → listed f ≡ true
+    → hearingOf f t piece ≡ outcome (reaching 0 f t piece)
 unfolding hearingOf
 hearing-is f t piece p q = rw (and-both (inRange t) (listed f) p q)

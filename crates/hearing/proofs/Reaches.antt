@@ -31,7 +31,8 @@ settled-at n f t =
     pick-keeps (λ (r : Reach). r .at ≡ n) (eqb (heardCode f t) 0) _ _ (λ e. refl)
     (λ e. pick-keeps (λ (r : Reach). r .at ≡ n) (eqb (heardCode f t) 1 && not (closes t)) _ _ (λ d. refl) (λ d. refl))
 
-pub reach-cons : (n : ℕ) (f : Form) (t : Tally) (b : ℕ) (bs : List ℕ) → reaching n f t (b ∷ bs) ≡ goesOn f (settled (n + 1) f (taking t b)) bs
+pub reach-cons : (n : ℕ) (f : Form) (t : Tally) (b : ℕ) (bs : List ℕ)
+    → reaching n f t (b ∷ bs) ≡ goesOn f (settled (n + 1) f (taking t b)) bs
 unfolding reaching goesOn
 reach-cons n f t b bs = rw (settled-at (n + 1) f (taking t b))
 
@@ -41,7 +42,8 @@ reach-byte f t piece at h =
     rw (drop-cons piece at 0 h) (rw (← add-one at) (sym (reach-cons at f t (getD piece at 0) (drop (at + 1) piece))))
 
 -- a byte after which more is waited for
-pub reach-wait : (n : ℕ) (f : Form) (t : Tally) (b : ℕ) (bs : List ℕ) → heardCode f (taking t b) ≡ 0 → reaching n f t (b ∷ bs) ≡ reaching (n + 1) f (taking t b) bs
+pub reach-wait : (n : ℕ) (f : Form) (t : Tally) (b : ℕ) (bs : List ℕ) → heardCode f (taking t b) ≡ 0
+    → reaching n f t (b ∷ bs) ≡ reaching (n + 1) f (taking t b) bs
 unfolding reaching
 reach-wait n f t b bs w = rw (settled-by (n + 1) f (taking t b) w refl)
 
@@ -53,16 +55,21 @@ heard-waits f t some ok short = heard-by f t (le-ltb _ _ some) ok (lt-ltb _ _ sh
 
 pub taking-sample : (t : Tally) (b : ℕ) → 4 ≤ t .taken → taking t b ≡ skipped t 1
 unfolding taking
-taking-sample t b past =
-    rw (ne-eqb (t .taken) 0 (λ e. omega arith), ne-eqb (t .taken) (0 + 1) (λ e. omega arith), ne-eqb (t .taken) 2 (λ e. omega arith), ne-eqb (t .taken) (2 + 1) (λ e. omega arith))
+taking-sample t b past = rw (other 0 (omega arith), other (0 + 1) (omega arith), other 2 (omega arith), other (2 + 1) (omega arith))
+  where
+    other : (place : ℕ) → place < 4 → eqb (t .taken) place ≡ false
+    other place early = ne-eqb (t .taken) place (λ e. omega arith)
 
-pub reach-skip : (xs ys : List ℕ) (n : ℕ) (f : Form) (t : Tally) → Samples t (length xs) → reaching n f t (xs ++ ys) ≡ reaching (n + length xs) f (skipped t (length xs)) ys
+pub reach-skip : (xs ys : List ℕ) (n : ℕ) (f : Form) (t : Tally) → Samples t (length xs)
+    → reaching n f t (xs ++ ys) ≡ reaching (n + length xs) f (skipped t (length xs)) ys
 reach-skip [] ys n f t s = rw (add-zero n, add-zero (t .taken))
 reach-skip (x ∷ xs) ys n f t s =
     let one : taking t x ≡ skipped t 1 = taking-sample t x (s .past) in
-    let waits : heardCode f (taking t x) ≡ 0 = rw one (heard-waits f (skipped t 1) (omega (arith, s .past)) (s .form) (omega (arith, s .short))) in
+    let past : 4 ≤ t .taken = s .past in
+    let short : t .taken + suc (length xs) < totalOf (formNow t) = s .short in
+    let waits : heardCode f (taking t x) ≡ 0 = rw one (heard-waits f (skipped t 1) (omega arith) (s .form) (omega arith)) in
     let rest : reaching (n + 1) f (skipped t 1) (xs ++ ys) ≡ reaching (n + 1 + length xs) f (skipped (skipped t 1) (length xs)) ys
-    = reach-skip xs ys (n + 1) f (skipped t 1) (record { past = omega (arith, s .past); form = s .form; short = omega (arith, s .short) }) in
+    = reach-skip xs ys (n + 1) f (skipped t 1) (record { past = omega arith; form = s .form; short = omega arith }) in
     let count : n + 1 + length xs ≡ n + suc (length xs) = omega arith in
     let bytes : t .taken + 1 + length xs ≡ t .taken + suc (length xs) = omega arith in
     reach-wait n f t x (xs ++ ys) waits ∙ ap (λ (u : Tally). reaching (n + 1) f u (xs ++ ys)) one ∙ rest ∙ rw (count, bytes)
@@ -83,27 +90,34 @@ tallied t taken header number =
     }
 
 -- the first four bytes of a packet whose header is listed
-pub reach-front : (n : ℕ) (f : Form) (t : Tally) (a b c d : ℕ) (rest : List ℕ) → t .taken ≡ 0 → listed (formWithHeader (lowHigh a b)) ≡ true → 4 < totalOf (formWithHeader (lowHigh a b))
+pub reach-front : (n : ℕ) (f : Form) (t : Tally) (a b c d : ℕ) (rest : List ℕ) → t .taken ≡ 0
+    → listed (formWithHeader (lowHigh a b)) ≡ true → 4 < totalOf (formWithHeader (lowHigh a b))
     → reaching n f t (a ∷ b ∷ c ∷ d ∷ rest) ≡ reaching (n + 4) f (tallied t 4 (lowHigh a b) (lowHigh c d)) rest
 unfolding taking
 reach-front n f t a b c d rest none ok long =
-    let start : t ≡ tallied t 0 (t .header) (t .number) = ap (λ (k : ℕ). tallied t k (t .header) (t .number)) none in
-    let zero′ : heardCode f (taking (tallied t 0 (t .header) (t .number)) a) ≡ 0 = heard-by f (tallied t 1 a (t .number)) refl refl refl refl refl refl in
-    let one : heardCode f (taking (tallied t 1 a (t .number)) b) ≡ 0 = heard-waits f (tallied t 2 (lowHigh a b) (t .number)) (omega arith) ok (omega arith) in
-    let two : heardCode f (taking (tallied t 2 (lowHigh a b) (t .number)) c) ≡ 0 = heard-waits f (tallied t 3 (lowHigh a b) c) (omega arith) ok (omega arith) in
-    let three : heardCode f (taking (tallied t 3 (lowHigh a b) c) d) ≡ 0 = heard-waits f (tallied t 4 (lowHigh a b) (lowHigh c d)) (omega arith) ok (omega arith) in
+    let none-in : Tally = tallied t 0 (t .header) (t .number) in
+    let one-in : Tally = tallied t 1 a (t .number) in
+    let two-in : Tally = tallied t 2 (lowHigh a b) (t .number) in
+    let three-in : Tally = tallied t 3 (lowHigh a b) c in
+    let four-in : Tally = tallied t 4 (lowHigh a b) (lowHigh c d) in
+    let start : t ≡ none-in = ap (λ (k : ℕ). tallied t k (t .header) (t .number)) none in
+    let first : heardCode f (taking none-in a) ≡ 0 = heard-by f one-in refl refl refl refl refl refl in
+    let second : heardCode f (taking one-in b) ≡ 0 = heard-waits f two-in (omega arith) ok (omega arith) in
+    let third : heardCode f (taking two-in c) ≡ 0 = heard-waits f three-in (omega arith) ok (omega arith) in
+    let fourth : heardCode f (taking three-in d) ≡ 0 = heard-waits f four-in (omega arith) ok (omega arith) in
     let count : n + 1 + 1 + 1 + 1 ≡ n + 4 = omega arith in
     ap (λ (u : Tally). reaching n f u (a ∷ b ∷ c ∷ d ∷ rest)) start
-    ∙ reach-wait n f (tallied t 0 (t .header) (t .number)) a (b ∷ c ∷ d ∷ rest) zero′
-    ∙ reach-wait (n + 1) f (tallied t 1 a (t .number)) b (c ∷ d ∷ rest) one
-    ∙ reach-wait (n + 1 + 1) f (tallied t 2 (lowHigh a b) (t .number)) c (d ∷ rest) two
-    ∙ reach-wait (n + 1 + 1 + 1) f (tallied t 3 (lowHigh a b) c) d rest three
-    ∙ ap (λ (k : ℕ). reaching k f (tallied t 4 (lowHigh a b) (lowHigh c d)) rest) count
+    ∙ reach-wait n f none-in a (b ∷ c ∷ d ∷ rest) first
+    ∙ reach-wait (n + 1) f one-in b (c ∷ d ∷ rest) second
+    ∙ reach-wait (n + 1 + 1) f two-in c (d ∷ rest) third
+    ∙ reach-wait (n + 1 + 1 + 1) f three-in d rest fourth
+    ∙ ap (λ (k : ℕ). reaching k f four-in rest) count
 
 -- all bytes of a packet whose header is listed: the last one decides
-pub reach-whole : (n : ℕ) (f : Form) (t : Tally) (a b c d : ℕ) (xs : List ℕ) (z : ℕ) (ys : List ℕ) → t .taken ≡ 0 → listed (formWithHeader (lowHigh a b)) ≡ true
-    → length xs + 5 ≡ totalOf (formWithHeader (lowHigh a b))
-    → reaching n f t (a ∷ b ∷ c ∷ d ∷ (xs ++ z ∷ ys)) ≡ goesOn f (settled (n + (length xs + 5)) f (tallied t (length xs + 5) (lowHigh a b) (lowHigh c d))) ys
+pub reach-whole : (n : ℕ) (f : Form) (t : Tally) (a b c d : ℕ) (xs : List ℕ) (z : ℕ) (ys : List ℕ) → t .taken ≡ 0
+    → listed (formWithHeader (lowHigh a b)) ≡ true → length xs + 5 ≡ totalOf (formWithHeader (lowHigh a b))
+    → reaching n f t (a ∷ b ∷ c ∷ d ∷ (xs ++ z ∷ ys))
+    ≡ goesOn f (settled (n + (length xs + 5)) f (tallied t (length xs + 5) (lowHigh a b) (lowHigh c d))) ys
 reach-whole n f t a b c d xs z ys none ok long =
     let front : Tally = tallied t 4 (lowHigh a b) (lowHigh c d) in
     let past : Samples front (length xs) = record { past = omega arith; form = ok; short = omega arith } in
@@ -121,19 +135,24 @@ reach-whole n f t a b c d xs z ys none ok long =
 drop-next : (p : List ℕ) (i j : ℕ) → i + 1 ≡ j → i < length p → drop i p ≡ getD p i 0 ∷ drop j p
 drop-next p i j e h = drop-cons p i 0 h ∙ ap (λ (k : ℕ). getD p i 0 ∷ drop k p) (sym (add-one i) ∙ e)
 
+-- the same bytes behind one
+behind : (b : ℕ) {xs ys : List ℕ} → xs ≡ ys → b ∷ xs ≡ b ∷ ys
+behind b e = ap (λ (l : List ℕ). b ∷ l) e
+
 -- a packet of k + 5 bytes: its first four, k samples' bytes, and its last
 pub packet-parts : (p : List ℕ) (at k : ℕ) → at + (k + 5) ≤ length p
-    → drop at p ≡ getD p at 0 ∷ getD p (at + 1) 0 ∷ getD p (at + 2) 0 ∷ getD p (at + 3) 0 ∷ (take k (drop (at + 4) p) ++ getD p (at + 4 + k) 0 ∷ drop (at + (k + 5)) p)
+    → drop at p
+    ≡ getD p at 0 ∷ getD p (at + 1) 0 ∷ getD p (at + 2) 0 ∷ getD p (at + 3) 0
+    ∷ (take k (drop (at + 4) p) ++ getD p (at + 4 + k) 0 ∷ drop (at + (k + 5)) p)
 packet-parts p at k room =
     let one : drop (at + 1) p ≡ getD p (at + 1) 0 ∷ drop (at + 2) p = drop-next p (at + 1) (at + 2) (omega arith) (omega arith) in
     let two : drop (at + 2) p ≡ getD p (at + 2) 0 ∷ drop (at + 3) p = drop-next p (at + 2) (at + 3) (omega arith) (omega arith) in
     let three : drop (at + 3) p ≡ getD p (at + 3) 0 ∷ drop (at + 4) p = drop-next p (at + 3) (at + 4) (omega arith) (omega arith) in
-    let last : drop (at + 4 + k) p ≡ getD p (at + 4 + k) 0 ∷ drop (at + (k + 5)) p = drop-next p (at + 4 + k) (at + (k + 5)) (omega arith) (omega arith) in
+    let last : drop (at + 4 + k) p ≡ getD p (at + 4 + k) 0 ∷ drop (at + (k + 5)) p
+    = drop-next p (at + 4 + k) (at + (k + 5)) (omega arith) (omega arith) in
     let samples : drop (at + 4) p ≡ take k (drop (at + 4) p) ++ (getD p (at + 4 + k) 0 ∷ drop (at + (k + 5)) p)
     = sym (take-append-drop k (drop (at + 4) p)) ∙ ap (λ (l : List ℕ). take k (drop (at + 4) p) ++ l) (drop-drop k (at + 4) p ∙ last) in
-    drop-next p at (at + 1) refl (omega arith)
-    ∙ ap (λ (l : List ℕ). getD p at 0 ∷ l)
-    (one ∙ ap (λ (l : List ℕ). getD p (at + 1) 0 ∷ l) (two ∙ ap (λ (l : List ℕ). getD p (at + 2) 0 ∷ l) (three ∙ ap (λ (l : List ℕ). getD p (at + 3) 0 ∷ l) samples)))
+    drop-next p at (at + 1) refl (omega arith) ∙ behind _ (one ∙ behind _ (two ∙ behind _ (three ∙ behind _ samples)))
 
 same-self : (f : Form) → sameForm f f ≡ true
 same-self f = rw (eq-eqb (f .bits) (f .bits) refl, eq-eqb (f .pairs) (f .pairs) refl)
@@ -144,30 +163,7 @@ form-with-own f l = same-is _ _ (of-listed (λ g. sameForm (formWithHeader (head
 pub total-least : (f : Form) → listed f ≡ true → 388 ≤ totalOf f
 total-least f l = leb-true _ _ (of-listed (λ g. leb 388 (totalOf g)) refl f l)
 
--- an accepted packet with a number above 0, in the open capture
-module _ (f : Form) (t : Tally) (ok : listed f ≡ true) (form : formNow t ≡ f) (whole : t .taken ≡ totalOf f) (some : 0 < t .heard) (above : 0 < t .number)
-    (q : ℕ) (here : q ≡ t .position + stepOf (numberAt (t .position)) (t .number)) (fits : q ≤ last) where
-  numbered : eqb (t .number) 0 ≡ false
-  numbered = ne-eqb (t .number) 0 (λ e. omega arith)
-
-  goes-to : positionNow t ≡ q
-  goes-to = rw numbered (sym here)
-
-  pub quiet-code : heardCode f t ≡ 1
-  quiet-code =
-      heard-by f t (le-ltb (t .taken) 2 (omega (arith, whole, total-least f ok))) (ap listed form ∙ ok) (le-ltb (t .taken) (totalOf (formNow t)) (omega (arith, whole, ap totalOf form)))
-      (ap (λ (g : Form). sameForm g f) form ∙ same-self f)
-      (and-not-right (not (eqb (t .number) 0)) (eqb (t .heard) 0) (ne-eqb (t .heard) 0 (λ e. omega arith)))
-      (le-ltb last (positionNow t) (omega (arith, goes-to, fits)))
-
-  pub quiet-accepting : accepting t ≡ record { begins = t .begins + t .taken; taken = 0; header = 0; number = 0; captures = t .captures; heard = t .heard + 1; position = q }
-  unfolding accepting
-  quiet-accepting = rw (numbered, here)
-
-  pub quiet-settled : (n : ℕ) → settled n f t ≡ record { at = n; code = 0; tally = accepting t }
-  quiet-settled n = settled-by n f t quiet-code (and-not-left (eqb (t .number) 0) (not (eqb (t .heard) 0)) numbered)
-
--- the tally after such a packet, of a form, at a position
+-- the tally after a packet of so many bytes with a number above 0, in the open capture, at a position
 abbrev pub followed : Tally → ℕ → ℕ → Tally
 followed t total q =
     record {
@@ -180,6 +176,32 @@ followed t total q =
       position = q;
     }
 
+-- such a packet is accepted, and brings no line
+module _
+    (f : Form) (t : Tally) (ok : listed f ≡ true) (form : formNow t ≡ f) (whole : t .taken ≡ totalOf f)
+    (some : 0 < t .heard) (above : 0 < t .number)
+    (q : ℕ) (here : q ≡ t .position + stepOf (numberAt (t .position)) (t .number)) (fits : q ≤ last) where
+  numbered : eqb (t .number) 0 ≡ false
+  numbered = ne-eqb (t .number) 0 (λ e. omega arith)
+
+  goes-to : positionNow t ≡ q
+  goes-to = rw numbered (sym here)
+
+  pub quiet-code : heardCode f t ≡ 1
+  quiet-code =
+      heard-by f t (le-ltb (t .taken) 2 (omega (arith, whole, total-least f ok))) (ap listed form ∙ ok)
+      (le-ltb (t .taken) (totalOf (formNow t)) (omega (arith, whole, ap totalOf form)))
+      (ap (λ (g : Form). sameForm g f) form ∙ same-self f)
+      (and-not-right (not (eqb (t .number) 0)) (eqb (t .heard) 0) (ne-eqb (t .heard) 0 (λ e. omega arith)))
+      (le-ltb last (positionNow t) (omega (arith, goes-to, fits)))
+
+  pub quiet-accepting : accepting t ≡ followed t (t .taken) q
+  unfolding accepting
+  quiet-accepting = rw (numbered, here)
+
+  pub quiet-settled : (n : ℕ) → settled n f t ≡ record { at = n; code = 0; tally = accepting t }
+  quiet-settled n = settled-by n f t quiet-code (and-not-left (eqb (t .number) 0) (not (eqb (t .heard) 0)) numbered)
+
 follows-of : (f : Form) (t : Tally) (piece : List ℕ) (at k q : ℕ) → listed f ≡ true → t .taken ≡ 0 → 0 < t .heard → k + 5 ≡ totalOf f
     → Follows piece at (headerOf typeData (totalOf f)) (k + 5) (numberAt (t .position)) (t .position) q
     → reaching at f t (drop at piece) ≡ reaching (at + (k + 5)) f (followed t (k + 5) q) (drop (at + (k + 5)) piece)
@@ -190,17 +212,20 @@ follows-of f t piece at k q ok none some long x =
     let ys : List ℕ = drop (at + (k + 5)) piece in
     let counted : length xs ≡ k = length-take-le k (drop (at + 4) piece) (simp length-drop (omega (arith, x .room))) in
     let third : at + 3 ≡ at + 2 + 1 = omega arith in
-    let number : lowHigh (getD piece (at + 2) 0) (getD piece (at + 3) 0) ≡ twoAt piece (at + 2) = ap (λ (i : ℕ). lowHigh (getD piece (at + 2) 0) (getD piece i 0)) third in
+    let number : lowHigh (getD piece (at + 2) 0) (getD piece (at + 3) 0) ≡ twoAt piece (at + 2)
+    = ap (λ (i : ℕ). lowHigh (getD piece (at + 2) 0) (getD piece i 0)) third in
     let form : formWithHeader (twoAt piece at) ≡ f = ap formWithHeader (x .header) ∙ form-with-own f ok in
     let size : length xs + 5 ≡ totalOf (formWithHeader (twoAt piece at)) = omega (arith, counted, long, ap totalOf form) in
     let packet : Tally = tallied t (k + 5) (twoAt piece at) (twoAt piece (at + 2)) in
     ap (reaching at f t) (packet-parts piece at k (x .room))
-    ∙ reach-whole at f t (getD piece at 0) (getD piece (at + 1) 0) (getD piece (at + 2) 0) (getD piece (at + 3) 0) xs z ys none (ap listed form ∙ ok) size
+    ∙ reach-whole at f t (getD piece at 0) (getD piece (at + 1) 0) (getD piece (at + 2) 0) (getD piece (at + 3) 0) xs z ys
+    none (ap listed form ∙ ok) size
     ∙ rw (counted, number) refl
     ∙ ap (λ (r : Reach). goesOn f r ys) (quiet-settled f packet ok form long some (x .above) q (x .here) (x .fits) (at + (k + 5)))
     ∙ ap (λ (u : Tally). reaching (at + (k + 5)) f u ys) (quiet-accepting f packet ok form long some (x .above) q (x .here) (x .fits))
 
-pub reach-follows : (f : Form) (t : Tally) (piece : List ℕ) (at total q : ℕ) → listed f ≡ true → t .taken ≡ 0 → 0 < t .heard → total ≡ totalOf f
+pub reach-follows : (f : Form) (t : Tally) (piece : List ℕ) (at total q : ℕ) → listed f ≡ true → t .taken ≡ 0 → 0 < t .heard
+    → total ≡ totalOf f
     → Follows piece at (headerOf typeData (totalOf f)) total (numberAt (t .position)) (t .position) q
     → reaching at f t (drop at piece) ≡ reaching (at + total) f (followed t total q) (drop (at + total) piece)
 reach-follows f t piece at total q ok none some is x =

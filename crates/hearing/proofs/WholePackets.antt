@@ -12,6 +12,7 @@ use Rattle.packets.specs.Forms.{totalOf, listed, formWithHeader}
 use Rattle.packets.specs.Numbers.{numberAt, stepOf, last}
 use Rattle.packets.proofs.Numbers.{step-above, step-not-above}
 use Rattle.hearing.specs.declared.Tally.{Tally}
+use Rattle.hearing.specs.declared.Reach.{Reach}
 use Rattle.hearing.specs.Hearing.{reaching}
 use Rattle.hearing.specs.Inside.{goesOn, Sane, Goes, Between, Follows, twoAt}
 use Rattle.hearing.proofs.Reaches.{followed, reach-follows, form-with-own, total-least}
@@ -30,7 +31,8 @@ number-step (suc p) n some small = elim (decLt (p % 65_535 + 1) n) [ yes l ↦ u
 
     over : n ≤ p % 65_535 + 1 → numberAt (suc p + stepOf (p % 65_535 + 1) n) ≡ n
     over l =
-        let go : suc p + stepOf (p % 65_535 + 1) n ≡ suc (p + (n + 65_535 - (p % 65_535 + 1))) = omega (arith, step-not-above (p % 65_535 + 1) n l) in
+        let go : suc p + stepOf (p % 65_535 + 1) n ≡ suc (p + (n + 65_535 - (p % 65_535 + 1)))
+        = omega (arith, step-not-above (p % 65_535 + 1) n l) in
         rw go (omega arith)
 
 -- the tally between two of them
@@ -59,14 +61,19 @@ pub record Onward (t : Tally) (piece : List ℕ) (from total front at heard posi
   pub allowed : position ≤ last
   pub numbered : number ≡ numberAt position
   pub follows : 0 < next → Follows piece at front total number position next
-  pub same : reaching at (formWithHeader front) (tallyAt t from at heard position) (drop at piece) ≡ reaching from (formWithHeader front) t (drop from piece)
+  pub same :
+      reaching at (formWithHeader front) (tallyAt t from at heard position) (drop at piece)
+      ≡ reaching from (formWithHeader front) t (drop from piece)
 
-module _ (f : Form) (t : Tally) (piece : List ℕ) (from total front : ℕ) (ok : listed f ≡ true) (long : total ≡ totalOf f) (is-front : front ≡ headerOf typeData (totalOf f)) where
+module _
+    (f : Form) (t : Tally) (piece : List ℕ) (from total front : ℕ)
+    (ok : listed f ≡ true) (long : total ≡ totalOf f) (is-front : front ≡ headerOf typeData (totalOf f)) where
   pub form-is : formWithHeader front ≡ f
   form-is = ap formWithHeader is-front ∙ form-with-own f ok
 
   pub onward-start : (number next : ℕ) → Between t → Sane (length piece - from) t → from ≤ length piece → number ≡ numberAt (t .position)
-      → (0 < next → Follows piece from front total number (t .position) next) → Onward t piece from total front from (t .heard) (t .position) number next
+      → (0 < next → Follows piece from front total number (t .position) next)
+      → Onward t piece from total front from (t .heard) (t .position) number next
   onward-start number next b s inside numbered follows =
       let none : t .begins + (from - from) ≡ t .begins = omega arith in
       record {
@@ -82,16 +89,19 @@ module _ (f : Form) (t : Tally) (piece : List ℕ) (from total front : ℕ) (ok 
             (same-tally t none (sym (b .taken)) (sym (b .header)) (sym (b .number)));
       }
 
-  pub onward-turn : (at heard position number next after last′ : ℕ) → Onward t piece from total front at heard position number next → 0 < next
+  pub onward-turn : (at heard position number next after last′ : ℕ)
+      → Onward t piece from total front at heard position number next → 0 < next
       → after ≡ twoAt piece (at + 2) → after ≤ 65_535 → (0 < last′ → Follows piece (at + total) front total after next last′)
       → Onward t piece from total front (at + total) (heard + 1) next after last′
   onward-turn at heard position number next after last′ r some is small follows =
       let x = r .follows some in
       let least = total-least f ok in
       let go : next ≡ position + stepOf (numberAt position) after = x .here ∙ rw (r .numbered, is) in
-      let packet : Follows piece at (headerOf typeData (totalOf f)) total (numberAt position) position next = rw (is-front, r .numbered) at x in
+      let packet : Follows piece at (headerOf typeData (totalOf f)) total (numberAt position) position next
+      = rw (is-front, r .numbered) at x in
       let now : Tally = tallyAt t from at heard position in
-      let step : reaching at (formWithHeader front) now (drop at piece) ≡ reaching (at + total) (formWithHeader front) (followed now total next) (drop (at + total) piece)
+      let ahead : Tally → Reach = λ u. reaching (at + total) (formWithHeader front) u (drop (at + total) piece) in
+      let step : reaching at (formWithHeader front) now (drop at piece) ≡ ahead (followed now total next)
       = rw form-is (reach-follows f now piece at total next ok refl (r .some) long packet) in
       let on : t .begins + (at - from) + total ≡ t .begins + (at + total - from) = omega (arith, r .low) in
       record {
@@ -102,10 +112,11 @@ module _ (f : Form) (t : Tally) (piece : List ℕ) (from total front : ℕ) (ok 
         allowed = x .fits;
         numbered = sym (ap numberAt go ∙ number-step position after (omega (arith, is, x .above)) small);
         follows = follows;
-        same = ap (λ (k : ℕ). reaching (at + total) (formWithHeader front) (record { begins = k; taken = 0; header = 0; number = 0; captures = t .captures; heard = heard + 1; position = next }) (drop (at + total) piece)) (sym on) ∙ sym step ∙ r .same;
+        same = ap ahead (same-tally (followed now total next) (sym on) refl refl refl) ∙ sym step ∙ r .same;
       }
 
-  pub onward-end : (at heard position number next : ℕ) → Onward t piece from total front at heard position number next → Sane (length piece - from) t
+  pub onward-end : (at heard position number next : ℕ)
+      → Onward t piece from total front at heard position number next → Sane (length piece - from) t
       → Goes f t piece from (record { at = at; code = 0; tally = tallyAt t from at heard position })
   unfolding goesOn
   onward-end at heard position number next r s =

@@ -45,12 +45,14 @@ Starts i = (s : Settings) (p : List ℕ) → s .running ≡ false → i .rule .s
 -- idle stops the box, and run while running changes nothing
 state-leaves : Leaves state
 state-leaves s p r l =
-    state-ways (λ t. t .running ≡ true → nextOf t ≡ nextOf s) (runByte p) (modeByte p) s (λ i a. never a) (λ i on a. refl) (λ i off a. never (sym off ∙ r))
+    state-ways (λ t. t .running ≡ true → nextOf t ≡ nextOf s) (runByte p) (modeByte p) s
+    (λ i a. never a) (λ i on a. refl) (λ i off a. never (sym off ∙ r))
 
 -- "Starting from idle sets the packet count to 0."
 state-starts : Starts state
 state-starts s p r =
-    state-ways (λ t. t .running ≡ true → t .count ≡ 0) (runByte p) (modeByte p) s (λ i a. never a) (λ i on a. never (sym r ∙ on)) (λ i off a. refl)
+    state-ways (λ t. t .running ≡ true → t .count ≡ 0) (runByte p) (modeByte p) s
+    (λ i a. never a) (λ i on a. never (sym r ∙ on)) (λ i off a. refl)
 
 -- name, serial, interface, versions and status; state; frequency, gain and clock; rate and packet size, which are locked
 rows-leave : (code : ℕ) → Leaves (rowOf code)
@@ -87,18 +89,21 @@ rows-start =
     then tt)
 
 -- an accepted set was not locked
-unlocked : (s : Settings) (m : Message) → codeOf s m ≡ 1 → m .type ≡ typeSet → s .running ≡ true → row m .rule .locked s (parameters m) ≡ false
+unlocked : (s : Settings) (m : Message) → codeOf s m ≡ 1 → m .type ≡ typeSet → s .running ≡ true
+    → row m .rule .locked s (parameters m) ≡ false
 unlocked s m e t r =
     and-rest (eqb (m .type) typeSet && s .running) (row m .rule .locked s (parameters m)) (is-free s m e)
     (and-both (eqb (m .type) typeSet) (s .running) (eq-eqb _ _ t) r)
 
 -- one message
-message-leaves : (s : Settings) (m : Message) → s .running ≡ true → settingsAfter s m .running ≡ true → nextOf (settingsAfter s m) ≡ nextOf s
+message-leaves : (s : Settings) (m : Message) → s .running ≡ true → settingsAfter s m .running ≡ true
+    → nextOf (settingsAfter s m) ≡ nextOf s
 message-leaves s m r =
     after-ways (λ t. t .running ≡ true → nextOf t ≡ nextOf s) s m
     (λ e t. rows-leave (itemIn m) s (parameters m) r (unlocked s m e t r)) (λ a. refl)
 
-message-starts : (s : Settings) (m : Message) → s .running ≡ false → settingsAfter s m .running ≡ true → settingsAfter s m .count ≡ 0
+message-starts : (s : Settings) (m : Message) → s .running ≡ false → settingsAfter s m .running ≡ true
+    → settingsAfter s m .count ≡ 0
 message-starts s m r =
     after-ways (λ t. t .running ≡ true → t .count ≡ 0) s m (λ e t. rows-start (itemIn m) s (parameters m) r) (λ a. never (sym r ∙ a))
 

@@ -13,10 +13,11 @@ use Rattle.station.specs.declared.Station.{Station}
 use Rattle.station.specs.Feeding.{feedingOf}
 use Rattle.cutting.specs.Cutting.{Cutting, formNow, cuttingOf}
 use Rattle.reader.specs.declared.Reader.{Reader}
-use Rattle.reader.specs.Reading.{sound, readingOf, heardAt}
+use Rattle.reader.specs.Reading.{silent, sound, readingOf, heardAt, afterSlices}
+use Rattle.reader.proofs.Sound.{silent-sound, slices-keep-sound}
 use Rattle.positions.specs.Captures.{Cuts, ends, cuts, feeds, Capture}
-use Rattle.positions.specs.Losses.{Fate, arrives, lost, left, bounded, allowed, positionsFrom, answersBy}
-use Rattle.positions.specs.Demand.{said, takenAt, ExactPositions, NoTwoAlike}
+use Rattle.positions.specs.Losses.{Fate, arrives, lost, arriving, bounded, allowedLosses, positionsFrom, answersBy}
+use Rattle.positions.specs.Demand.{saidIn, takenAt, ExactPositions, NeverBroken, ExactAfterAnything, NoTwoAlike}
 use Rattle.positions.proofs.Steps.{position-is-exact}
 use Rattle.cutting.proofs.Formed.{valid-form}
 use Rattle.cutting.proofs.Packets.{packet-whole, packet-number}
@@ -43,29 +44,32 @@ cut-at s samples room e =
       below = is .0 .below;
     })
 
-cuts-numbered : {s : Station} {packets : List (List ℕ)} → s .settings .running ≡ true → Cuts s packets → Numbered (formNow (s .settings)) (s .settings .count) packets
+cuts-numbered : {s : Station} {packets : List (List ℕ)} → s .settings .running ≡ true → Cuts s packets
+    → Numbered (formNow (s .settings)) (s .settings .count) packets
 cuts-numbered r ends = tt
 cuts-numbered {s} r (cuts {packets = ps} samples room e later) =
     let is = cut-is s samples room e in
     let kept : cuttingOf s samples room .cut .station .settings .running ≡ true = rw (is .1) r in (
       cut-at s samples room e,
-      subst (λ (x : Cutting). Numbered (formNow (x .cut .station .settings)) (x .cut .station .settings .count) ps) (is .1) (cuts-numbered kept later),
+      subst (λ (x : Cutting). Numbered (formNow (x .cut .station .settings)) (x .cut .station .settings .count) ps) (is .1)
+          (cuts-numbered kept later),
     )
 cuts-numbered {s} r (feeds {packets = ps} host room on later) =
     subst (λ (x : Next). Numbered (x .form) (x .position) ps) (feeding-leaves s host room r on) (cuts-numbered on later)
 
 -- after position m, with k lost since
 exact-after : (f : Form) (fs : List Fate) (ps : List (List ℕ)) (m k n : ℕ) → n ≡ m + k + 1 → Numbered f n ps → bounded k fs
-    → answersBy readingOf (hasHeard f m) (left fs ps) ≡ map (λ p. heardAt p f) (left fs (positionsFrom n ps))
+    → answersBy readingOf (hasHeard f m) (arriving fs ps) ≡ map (λ p. heardAt p f) (arriving fs (positionsFrom n ps))
 exact-after f [] ps m k n e all b = refl
 exact-after f (arrives ∷ fs) [] m k n e all b = refl
 exact-after f (arrives ∷ fs) (p ∷ ps) m k n e all b =
-    rw (reads-next f p m n (all .0) (omega arith) (omega arith)) (ap (λ l. heardAt n f ∷ l) (exact-after f fs ps n 0 (n + 1) (omega arith) (all .1) (b .1)))
+    rw (reads-next f p m n (all .0) (omega arith) (omega arith))
+    (ap (λ l. heardAt n f ∷ l) (exact-after f fs ps n 0 (n + 1) (omega arith) (all .1) (b .1)))
 exact-after f (lost ∷ fs) [] m k n e all b = refl
 exact-after f (lost ∷ fs) (p ∷ ps) m k n e all b = exact-after f fs ps m (k + 1) (n + 1) (omega arith) (all .1) b
 
-exact : (f : Form) (fs : List Fate) (ps : List (List ℕ)) → Numbered f 0 ps → allowed fs → (r : Reader) → sound r ≡ true
-    → answersBy readingOf r (left fs ps) ≡ map (λ p. heardAt p f) (left fs (positionsFrom 0 ps))
+exact : (f : Form) (fs : List Fate) (ps : List (List ℕ)) → Numbered f 0 ps → allowedLosses fs → (r : Reader) → sound r ≡ true
+    → answersBy readingOf r (arriving fs ps) ≡ map (λ p. heardAt p f) (arriving fs (positionsFrom 0 ps))
 exact f [] ps all b r s = refl
 exact f (arrives ∷ fs) [] all b r s = refl
 exact f (arrives ∷ fs) (p ∷ ps) all b r s =
@@ -84,14 +88,20 @@ pub from-start : {s : Station} {packets : List (List ℕ)} → Capture s packets
 from-start c = rw (c .fresh) at (cuts-numbered (c .running) (c .calls))
 
 -- what is said of packets that are heard so
-said-at : (f : Form) (ps : List ℕ) → map said (map (λ p. heardAt p f) ps) ≡ map (takenAt f) ps
+said-at : (f : Form) (ps : List ℕ) → map saidIn (map (λ p. heardAt p f) ps) ≡ map (takenAt f) ps
 said-at f [] = refl
 said-at f (p ∷ ps) = ap (λ l. takenAt f p ∷ l) (said-at f ps)
 
 pub exact-positions : ExactPositions
-exact-positions s packets c fates b r g =
+exact-positions r g s packets c fates b =
     let f = formNow (s .settings) in
-    ap (map said) (exact f fates packets (from-start c) b r g) ∙ said-at f (left fates (positionsFrom 0 packets))
+    ap (map saidIn) (exact f fates packets (from-start c) b r g) ∙ said-at f (arriving fates (positionsFrom 0 packets))
+
+pub never-broken : NeverBroken
+never-broken slices = slices-keep-sound silent slices silent-sound
+
+pub exact-after-anything : ExactAfterAnything
+exact-after-anything before = exact-positions (afterSlices silent before) (never-broken before)
 
 -- Positions after m that rise by at most 65,535 at a time: up to 65,534 lost between two.
 abbrev pub Rising : ℕ → List ℕ → Type 0
@@ -111,59 +121,63 @@ same-positions m (p ∷ ps) (q ∷ qs) a b e =
     let rest : ps ≡ qs = same-positions p ps qs (a .2) (rw (← here) at (b .2)) numbers in
     cc
 
--- what is left of the positions rises so
-left-rises : (fs : List Fate) (ps : List (List ℕ)) (m k n : ℕ) → n ≡ m + k + 1 → bounded k fs → Rising m (left fs (positionsFrom n ps))
-left-rises [] ps m k n e b = tt
-left-rises (arrives ∷ fs) [] m k n e b = tt
-left-rises (arrives ∷ fs) (p ∷ ps) m k n e b = (omega arith, omega arith, left-rises fs ps n 0 (n + 1) (omega arith) (b .1))
-left-rises (lost ∷ fs) [] m k n e b = tt
-left-rises (lost ∷ fs) (p ∷ ps) m k n e b = left-rises fs ps m (k + 1) (n + 1) (omega arith) b
+-- the positions that arrive rise so
+arriving-rises : (fs : List Fate) (ps : List (List ℕ)) (m k n : ℕ) → n ≡ m + k + 1 → bounded k fs
+    → Rising m (arriving fs (positionsFrom n ps))
+arriving-rises [] ps m k n e b = tt
+arriving-rises (arrives ∷ fs) [] m k n e b = tt
+arriving-rises (arrives ∷ fs) (p ∷ ps) m k n e b = (omega arith, omega arith, arriving-rises fs ps n 0 (n + 1) (omega arith) (b .1))
+arriving-rises (lost ∷ fs) [] m k n e b = tt
+arriving-rises (lost ∷ fs) (p ∷ ps) m k n e b = arriving-rises fs ps m (k + 1) (n + 1) (omega arith) b
 
--- the numbers that are left are those of the positions that are left
-pub left-numbers : (f : Form) (fs : List Fate) (ps : List (List ℕ)) (n : ℕ) → Numbered f n ps → map numberIn (left fs ps) ≡ map numberAt (left fs (positionsFrom n ps))
-left-numbers f [] ps n all = refl
-left-numbers f (arrives ∷ fs) [] n all = refl
-left-numbers f (arrives ∷ fs) (p ∷ ps) n all = rw (all .0 .number) (ap (λ l. numberAt n ∷ l) (left-numbers f fs ps (n + 1) (all .1)))
-left-numbers f (lost ∷ fs) [] n all = refl
-left-numbers f (lost ∷ fs) (p ∷ ps) n all = left-numbers f fs ps (n + 1) (all .1)
+-- the numbers that arrive are those of the positions that arrive
+pub arriving-numbers : (f : Form) (fs : List Fate) (ps : List (List ℕ)) (n : ℕ) → Numbered f n ps
+    → map numberIn (arriving fs ps) ≡ map numberAt (arriving fs (positionsFrom n ps))
+arriving-numbers f [] ps n all = refl
+arriving-numbers f (arrives ∷ fs) [] n all = refl
+arriving-numbers f (arrives ∷ fs) (p ∷ ps) n all =
+    rw (all .0 .number) (ap (λ l. numberAt n ∷ l) (arriving-numbers f fs ps (n + 1) (all .1)))
+arriving-numbers f (lost ∷ fs) [] n all = refl
+arriving-numbers f (lost ∷ fs) (p ∷ ps) n all = arriving-numbers f fs ps (n + 1) (all .1)
 
--- what is left of the positions from n on lies there
-left-lies : (fs : List Fate) (ps : List (List ℕ)) (n q : ℕ) (qs : List ℕ) → q ∷ qs ≡ left fs (positionsFrom n ps) → n ≤ q
-left-lies [] ps n q qs e = absurd (let z : _≡_ {A = ℕ} 0 1 = cc in omega arith)
-left-lies (arrives ∷ fs) [] n q qs e = absurd (let z : _≡_ {A = ℕ} 0 1 = cc in omega arith)
-left-lies (arrives ∷ fs) (p ∷ ps) n q qs e = let here : q ≡ n = cc in omega arith
-left-lies (lost ∷ fs) [] n q qs e = absurd (let z : _≡_ {A = ℕ} 0 1 = cc in omega arith)
-left-lies (lost ∷ fs) (p ∷ ps) n q qs e = omega (arith, left-lies fs ps (n + 1) q qs e)
+-- what arrives of the positions from n on lies there
+arriving-lies : (fs : List Fate) (ps : List (List ℕ)) (n q : ℕ) (qs : List ℕ) → q ∷ qs ≡ arriving fs (positionsFrom n ps) → n ≤ q
+arriving-lies [] ps n q qs e = absurd (let z : _≡_ {A = ℕ} 0 1 = cc in omega arith)
+arriving-lies (arrives ∷ fs) [] n q qs e = absurd (let z : _≡_ {A = ℕ} 0 1 = cc in omega arith)
+arriving-lies (arrives ∷ fs) (p ∷ ps) n q qs e = let here : q ≡ n = cc in omega arith
+arriving-lies (lost ∷ fs) [] n q qs e = absurd (let z : _≡_ {A = ℕ} 0 1 = cc in omega arith)
+arriving-lies (lost ∷ fs) (p ∷ ps) n q qs e = omega (arith, arriving-lies fs ps (n + 1) q qs e)
 
--- the same positions left: the same fates
+-- the same positions arrive: the same fates
 same-fates : (fs gs : List Fate) (ps : List (List ℕ)) (n : ℕ) → length fs ≡ length ps → length gs ≡ length ps
-    → left fs (positionsFrom n ps) ≡ left gs (positionsFrom n ps) → fs ≡ gs
+    → arriving fs (positionsFrom n ps) ≡ arriving gs (positionsFrom n ps) → fs ≡ gs
 same-fates [] [] ps n a b e = refl
 same-fates [] (g ∷ gs) ps n a b e = absurd (omega arith)
 same-fates (f ∷ fs) [] ps n a b e = absurd (omega arith)
 same-fates (f ∷ fs) (g ∷ gs) [] n a b e = absurd (omega arith)
 same-fates (arrives ∷ fs) (arrives ∷ gs) (p ∷ ps) n a b e =
-    let tails : left fs (positionsFrom (n + 1) ps) ≡ left gs (positionsFrom (n + 1) ps) = cc in
+    let tails : arriving fs (positionsFrom (n + 1) ps) ≡ arriving gs (positionsFrom (n + 1) ps) = cc in
     ap (λ l. arrives ∷ l) (same-fates fs gs ps (n + 1) (omega arith) (omega arith) tails)
-same-fates (arrives ∷ fs) (lost ∷ gs) (p ∷ ps) n a b e = absurd (omega (arith, left-lies gs ps (n + 1) n _ e))
-same-fates (lost ∷ fs) (arrives ∷ gs) (p ∷ ps) n a b e = absurd (omega (arith, left-lies fs ps (n + 1) n _ (sym e)))
+same-fates (arrives ∷ fs) (lost ∷ gs) (p ∷ ps) n a b e = absurd (omega (arith, arriving-lies gs ps (n + 1) n _ e))
+same-fates (lost ∷ fs) (arrives ∷ gs) (p ∷ ps) n a b e = absurd (omega (arith, arriving-lies fs ps (n + 1) n _ (sym e)))
 same-fates (lost ∷ fs) (lost ∷ gs) (p ∷ ps) n a b e = ap (λ l. lost ∷ l) (same-fates fs gs ps (n + 1) (omega arith) (omega arith) e)
 
-same-left : (f : Form) (fs gs : List Fate) (ps : List (List ℕ)) → Numbered f 0 ps → length fs ≡ length gs → allowed fs → allowed gs
-    → map numberIn (left fs ps) ≡ map numberIn (left gs ps) → left fs (positionsFrom 0 ps) ≡ left gs (positionsFrom 0 ps)
-same-left f [] [] ps all l a b e = refl
-same-left f [] (g ∷ gs) ps all l a b e = absurd (omega arith)
-same-left f (arrives ∷ fs) [] ps all l a b e = absurd (omega arith)
-same-left f (arrives ∷ fs) (arrives ∷ gs) [] all l a b e = refl
-same-left f (arrives ∷ fs) (arrives ∷ gs) (p ∷ ps) all l a b e =
-    let tails : map numberIn (left fs ps) ≡ map numberIn (left gs ps) = cc in
-    let numbers : map numberAt (left fs (positionsFrom 1 ps)) ≡ map numberAt (left gs (positionsFrom 1 ps)) =
-    sym (left-numbers f fs ps 1 (all .1)) ∙ tails ∙ left-numbers f gs ps 1 (all .1) in
-    ap (λ l. 0 ∷ l) (same-positions 0 _ _ (left-rises fs ps 0 0 1 refl a) (left-rises gs ps 0 0 1 refl b) numbers)
-same-left f (arrives ∷ fs) (lost ∷ gs) ps all l a b e = absurd b
-same-left f (lost ∷ fs) gs ps all l a b e = absurd a
+same-arriving : (f : Form) (fs gs : List Fate) (ps : List (List ℕ)) → Numbered f 0 ps → length fs ≡ length gs
+    → allowedLosses fs → allowedLosses gs
+    → map numberIn (arriving fs ps) ≡ map numberIn (arriving gs ps) → arriving fs (positionsFrom 0 ps) ≡ arriving gs (positionsFrom 0 ps)
+same-arriving f [] [] ps all l a b e = refl
+same-arriving f [] (g ∷ gs) ps all l a b e = absurd (omega arith)
+same-arriving f (arrives ∷ fs) [] ps all l a b e = absurd (omega arith)
+same-arriving f (arrives ∷ fs) (arrives ∷ gs) [] all l a b e = refl
+same-arriving f (arrives ∷ fs) (arrives ∷ gs) (p ∷ ps) all l a b e =
+    let tails : map numberIn (arriving fs ps) ≡ map numberIn (arriving gs ps) = cc in
+    let numbers : map numberAt (arriving fs (positionsFrom 1 ps)) ≡ map numberAt (arriving gs (positionsFrom 1 ps)) =
+    sym (arriving-numbers f fs ps 1 (all .1)) ∙ tails ∙ arriving-numbers f gs ps 1 (all .1) in
+    ap (λ l. 0 ∷ l) (same-positions 0 _ _ (arriving-rises fs ps 0 0 1 refl a) (arriving-rises gs ps 0 0 1 refl b) numbers)
+same-arriving f (arrives ∷ fs) (lost ∷ gs) ps all l a b e = absurd b
+same-arriving f (lost ∷ fs) gs ps all l a b e = absurd a
 
 pub no-two-alike : NoTwoAlike
 no-two-alike s packets c fates others la lb a b e =
     same-fates fates others packets 0 la lb
-    (same-left (formNow (s .settings)) fates others packets (from-start c) (la ∙ sym lb) a b e)
+    (same-arriving (formNow (s .settings)) fates others packets (from-start c) (la ∙ sym lb) a b e)

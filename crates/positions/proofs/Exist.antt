@@ -49,8 +49,12 @@ goes-on (suc n) k h =
       ap suc (rest .2),
     )
 
--- the host's message "run" at 24 bits makes the box of no packets from a fresh one
-pub starts-running : feedingOf (freshStation (replicate 8 0x30)) (0x08 ∷ 0x00 ∷ 0x18 ∷ 0x00 ∷ 0x80 ∷ 0x02 ∷ 0x80 ∷ 0x00 ∷ []) 64 .fed .station ≡ running 0
+-- the host's message "run" at 24 bits
+abbrev pub runMessage : List ℕ
+runMessage = 0x08 ∷ 0x00 ∷ 0x18 ∷ 0x00 ∷ 0x80 ∷ 0x02 ∷ 0x80 ∷ 0x00 ∷ []
+
+-- makes the box of no packets from a fresh one
+pub starts-running : feedingOf (freshStation (replicate 8 0x30)) runMessage 64 .fed .station ≡ running 0
 unfolding feedingOf valid inRange couldBeLeft taking listed rowOf codeOf replyOf settingsAfter
 starts-running = refl
 

@@ -12,7 +12,7 @@ use Rattle.packets.specs.Numbers.{numberAt, numberIn, stepOf, most, last}
 use Rattle.packets.proofs.Numbers.{number-zero}
 use Rattle.reader.specs.declared.Reader.{Reader}
 use Rattle.reader.specs.Reading.{sound, positionAfter, readingOf, heardAt}
-use Rattle.reader.proofs.Reading.{taken}
+use Rattle.reader.proofs.Reading.{packet-taken}
 use Rattle.positions.proofs.Steps.{position-is-exact, repeated-is-a-turn}
 
 -- the packet at position n of a capture of form f
@@ -34,7 +34,7 @@ pub reads-first : (f : Form) (packet : List ℕ) (r : Reader) → At f 0 packet 
 reads-first f packet r a s =
     let zeroth : eqb (numberIn packet) 0 ≡ true = eq-eqb (numberIn packet) 0 (a .number) in
     let there : positionAfter r (numberIn packet) ≡ 0 = rw zeroth in
-    taken r packet s (rw (a .form) (a .fine)) (rw zeroth) (rw zeroth) (rw there)
+    packet-taken r packet s (rw (a .form) (a .fine)) (rw zeroth) (rw zeroth) (rw there)
     ∙ rw (there, a .form)
 
 -- A later packet of the same form is taken where its step leads, if that is not past the last position.
@@ -44,12 +44,17 @@ reads-at f packet m p n a above before within there =
     let later : eqb (numberIn packet) 0 ≡ false = ne-eqb (numberIn packet) 0 (λ z. omega (arith, number-zero p (sym (a .number) ∙ z))) in
     let leads : positionAfter (hasHeard f m) (numberIn packet) ≡ n = rw (later, a .number) there in
     let same : sameForm (wholeOf packet) f ≡ true = rw (a .form) (sameForm-refl f) in
-    taken (hasHeard f m) packet (rw (le-leb m last before) (a .fine)) (rw (a .form) (a .fine)) (rw later) (rw (later, same)) (rw leads (le-ltb last n within))
+    packet-taken (hasHeard f m) packet (rw (le-leb m last before) (a .fine)) (rw (a .form) (a .fine)) (rw later) (rw (later, same))
+    (rw leads (le-ltb last n within))
     ∙ rw (leads, a .form)
 
-pub reads-next : (f : Form) (packet : List ℕ) (m n : ℕ) → At f n packet → m < n → n ≤ m + 65_535 → readingOf (hasHeard f m) packet ≡ heardAt n f
-reads-next f packet m n a h l = let below = a .below in reads-at f packet m n n a (omega arith) (omega arith) (omega arith) (position-is-exact m n h l)
+pub reads-next : (f : Form) (packet : List ℕ) (m n : ℕ) → At f n packet → m < n → n ≤ m + 65_535
+    → readingOf (hasHeard f m) packet ≡ heardAt n f
+reads-next f packet m n a h l =
+    let below = a .below in
+    reads-at f packet m n n a (omega arith) (omega arith) (omega arith) (position-is-exact m n h l)
 
 -- "A repeated number reads as a full turn; hence the premise "once each"."
-pub reads-twice : (f : Form) (packet : List ℕ) (n : ℕ) → At f n packet → 0 < n → n + 65_535 ≤ last → readingOf (hasHeard f n) packet ≡ heardAt (n + 65_535) f
+pub reads-twice : (f : Form) (packet : List ℕ) (n : ℕ) → At f n packet → 0 < n → n + 65_535 ≤ last
+    → readingOf (hasHeard f n) packet ≡ heardAt (n + 65_535) f
 reads-twice f packet n a h l = reads-at f packet n n (n + 65_535) a h (omega arith) l (ap (λ k. n + k) (repeated-is-a-turn (numberAt n)))

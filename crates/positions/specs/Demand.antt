@@ -13,9 +13,9 @@ use Rattle.station.specs.declared.Station.{Station}
 use Rattle.cutting.specs.Cutting.{formNow}
 use Rattle.reader.specs.declared.Reader.{Reader}
 use Rattle.reader.specs.declared.Heard.{Heard}
-use Rattle.reader.specs.Reading.{sound, readingOf}
+use Rattle.reader.specs.Reading.{silent, sound, readingOf, afterSlices}
 use Rattle.positions.specs.Captures.{Capture}
-use Rattle.positions.specs.Losses.{Fate, arrives, lost, left, allowed, positionsFrom, Reading, answersBy}
+use Rattle.positions.specs.Losses.{Fate, arrives, lost, arriving, allowedLosses, positionsFrom, WayToRead, answersBy}
 
 -- What a reading says of a packet: its code, and "The answer is the packet's position and its first sample's position". What a
 -- reader keeps for the next packet is its own affair.
@@ -24,33 +24,46 @@ pub record Said : Type 0 where
   pub position : ℕ
   pub sample : ℕ
 
-abbrev pub said : Heard → Said
-said h = record { code = h .code; position = h .position; sample = h .sample }
+abbrev pub saidIn : Heard → Said
+saidIn h = record { code = h .code; position = h .position; sample = h .sample }
 
 -- A packet of a form is taken (code 1) at a position, and its first sample's position is "packet position times I/Q pairs".
 abbrev pub takenAt : Form → ℕ → Said
 takenAt f p = record { code = Code.done; position = p; sample = p * f .pairs }
 
--- "the harvester gives every packet its exact sample position", of a way to read, whichever it is: from any reader that is
--- not broken each packet that arrives is taken at the position at which it was cut.
-abbrev pub GivesExactPositions : Reading → Type 0
-GivesExactPositions read =
+-- "the harvester gives every packet its exact sample position", of a way to read, whichever it is, from a reader on: each packet
+-- that arrives is taken at the position at which it was cut.
+abbrev pub ExactFrom : WayToRead → Reader → Type 0
+ExactFrom read r =
     (s : Station) (packets : List (List ℕ)) → Capture s packets
-    → (fates : List Fate) → allowed fates
-    → (r : Reader) → sound r ≡ true
-    → map said (answersBy read r (left fates packets)) ≡ map (takenAt (formNow (s .settings))) (left fates (positionsFrom 0 packets))
+    → (fates : List Fate) → allowedLosses fates
+    → map saidIn (answersBy read r (arriving fates packets))
+    ≡ map (takenAt (formNow (s .settings))) (arriving fates (positionsFrom 0 packets))
+
+-- from any reader that is not broken
+abbrev pub GivesExactPositions : WayToRead → Type 0
+GivesExactPositions read = (r : Reader) → sound r ≡ true → ExactFrom read r
 
 -- the same of the harvester
 abbrev pub ExactPositions : Type 0
 ExactPositions = GivesExactPositions readingOf
+
+-- The harvester never breaks its reader: after any slices whatever, from a silent one on, it is sound.
+abbrev pub NeverBroken : Type 0
+NeverBroken = (slices : List (List ℕ)) → sound (afterSlices silent slices) ≡ true
+
+-- So it need not be asked that the reader is not broken: whatever was heard before, rubbish, packets of earlier captures, a
+-- capture that broke off, the packets of this one are taken at exactly their positions.
+abbrev pub ExactAfterAnything : Type 0
+ExactAfterAnything = (before : List (List ℕ)) → ExactFrom readingOf (afterSlices silent before)
 
 -- "two different choices of what was lost never leave the same list of numbers"
 abbrev pub NoTwoAlike : Type 0
 NoTwoAlike =
     (s : Station) (packets : List (List ℕ)) → Capture s packets
     → (fates others : List Fate) → length fates ≡ length packets → length others ≡ length packets
-    → allowed fates → allowed others
-    → map numberIn (left fates packets) ≡ map numberIn (left others packets)
+    → allowedLosses fates → allowedLosses others
+    → map numberIn (arriving fates packets) ≡ map numberIn (arriving others packets)
     → fates ≡ others
 
 -- One packet more, and it fails: the first two arrive and the n after them are lost, or n are lost between the first and the
@@ -65,4 +78,4 @@ laterArrives n = arrives ∷ replicate n lost ++ arrives ∷ []
 abbrev pub BoundIsSharp : Type 0
 BoundIsSharp =
     (s : Station) (packets : List (List ℕ)) → Capture s packets → length packets ≡ 65_537
-    → map numberIn (left (nextArrives 65_535) packets) ≡ map numberIn (left (laterArrives 65_535) packets)
+    → map numberIn (arriving (nextArrives 65_535) packets) ≡ map numberIn (arriving (laterArrives 65_535) packets)

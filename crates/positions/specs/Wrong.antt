@@ -7,11 +7,11 @@ use Rattle.packets.specs.Forms.{wholeOf}
 use Rattle.packets.specs.Numbers.{numberIn}
 use Rattle.reader.specs.declared.Reader.{Reader}
 use Rattle.reader.specs.Reading.{heardAt}
-use Rattle.positions.specs.Losses.{Reading}
+use Rattle.positions.specs.Losses.{WayToRead}
 
 -- the position that it gives a packet is a rule's, by the position that it holds and the number that stands in the packet
-abbrev pub Follows : (ℕ → ℕ → ℕ) → Reading → Type 0
-Follows rule read = (r : Reader) (packet : List ℕ) → read r packet .position ≡ rule (r .position) (numberIn packet)
+abbrev pub PositionsBy : (ℕ → ℕ → ℕ) → WayToRead → Type 0
+PositionsBy rule read = (r : Reader) (packet : List ℕ) → read r packet .position ≡ rule (r .position) (numberIn packet)
 
 abbrev pub alwaysZero : ℕ → ℕ → ℕ
 alwaysZero held number = 0
@@ -24,5 +24,5 @@ abbrev pub oneTurnOnly : ℕ → ℕ → ℕ
 oneTurnOnly held number = number
 
 -- the reader of a rule, which takes every packet
-abbrev pub readBy : (ℕ → ℕ → ℕ) → Reading
+abbrev pub readBy : (ℕ → ℕ → ℕ) → WayToRead
 readBy rule r packet = heardAt (rule (r .position) (numberIn packet)) (wholeOf packet)

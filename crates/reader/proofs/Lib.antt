@@ -1,3 +1,4 @@
 pub mod Reading
 pub mod Steps
 pub mod Unpacking
+pub mod Sound

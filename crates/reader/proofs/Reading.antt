@@ -20,14 +20,23 @@ use Rattle.wire.proofs.Checks.{clear}
 
 -- a slice is a packet where the form found has pairs
 pub no-packet : (p : List ℕ) → wholeOf p .pairs ≡ 0 → isPacket p ≡ false
-no-packet p z = ⊎-elim (λ (e : wholeOf p ≡ noForm). rw e) (λ (w : Whole p (wholeOf p)). absurd (omega (arith, is-listed-form (wholeOf p) (w .form) .some))) (whole-is p)
+no-packet p z =
+    ⊎-elim (λ (e : wholeOf p ≡ noForm). rw e)
+    (λ (w : Whole p (wholeOf p)). absurd (omega (arith, is-listed-form (wholeOf p) (w .form) .some)))
+    (whole-is p)
 
 pub a-packet : (p : List ℕ) → (wholeOf p .pairs ≡ 0 → ⊥) → isPacket p ≡ true
-a-packet p z = ⊎-elim (λ (e : wholeOf p ≡ noForm). absurd (z (ap (λ (f : Form). f .pairs) e))) (λ (w : Whole p (wholeOf p)). w .form) (whole-is p)
+a-packet p z =
+    ⊎-elim (λ (e : wholeOf p ≡ noForm). absurd (z (ap (λ (f : Form). f .pairs) e)))
+    (λ (w : Whole p (wholeOf p)). w .form)
+    (whole-is p)
 
 -- a packet's form has at most 256 pairs
 pub pairs-few : (p : List ℕ) → wholeOf p .pairs < 257
-pairs-few p = ⊎-elim (λ (e : wholeOf p ≡ noForm). rw e (omega arith)) (λ (w : Whole p (wholeOf p)). omega (arith, is-listed-form (wholeOf p) (w .form) .few)) (whole-is p)
+pairs-few p =
+    ⊎-elim (λ (e : wholeOf p ≡ noForm). rw e (omega arith))
+    (λ (w : Whole p (wholeOf p)). omega (arith, is-listed-form (wholeOf p) (w .form) .few))
+    (whole-is p)
 
 -- the sample bytes are what stands after the first four, of which a packet has at least as many
 pub four-there : (p : List ℕ) → (wholeOf p .pairs ≡ 0 → ⊥) → 4 ≤ length p
@@ -51,14 +60,14 @@ module _ (r : Reader) (h : r .heard ≡ true) where
   sound-within l = sym (heard-sound ∙ ap (λ (t : Bool). t && listed (r .form)) (le-leb (r .position) last l))
 
 module _ (r : Reader) (h : r .heard ≡ false) where
-  silent-sound : sound r ≡ (eqb (r .position) 0 && sameForm (r .form) noForm)
-  silent-sound = pick-false (r .heard) _ _ h
+  unheard-sound : sound r ≡ (eqb (r .position) 0 && sameForm (r .form) noForm)
+  unheard-sound = pick-false (r .heard) _ _ h
 
   pub sound-nowhere : r .position ≡ 0 → sameForm (r .form) noForm ≡ sound r
-  sound-nowhere z = sym (silent-sound ∙ ap (λ (t : Bool). t && sameForm (r .form) noForm) (eq-eqb (r .position) 0 z))
+  sound-nowhere z = sym (unheard-sound ∙ ap (λ (t : Bool). t && sameForm (r .form) noForm) (eq-eqb (r .position) 0 z))
 
   pub sound-somewhere : (r .position ≡ 0 → ⊥) → false ≡ sound r
-  sound-somewhere z = sym (silent-sound ∙ and-not-left _ _ (ne-eqb (r .position) 0 z))
+  sound-somewhere z = sym (unheard-sound ∙ and-not-left _ _ (ne-eqb (r .position) 0 z))
 
 -- "A reader that has heard a packet holds its position (at most 3,999,999,999) and a listed form"
 pub heard-within : (r : Reader) → sound r ≡ true → r .heard ≡ true → r .position ≤ last
@@ -72,12 +81,12 @@ module _ (r : Reader) (p : List ℕ) where
   refusal c other e = rw (e, ne-eqb c 1 other)
 
   -- none of the five refusals
-  pub taken : sound r ≡ true → isPacket p ≡ true → not (eqb (numberIn p) 0) && not (r .heard) ≡ false
+  pub packet-taken : sound r ≡ true → isPacket p ≡ true → not (eqb (numberIn p) 0) && not (r .heard) ≡ false
       → not (eqb (numberIn p) 0) && not (sameForm (wholeOf p) (r .form)) ≡ false
       → ltb last (positionAfter r (numberIn p)) ≡ false
       → readingOf r p ≡ heardAt (positionAfter r (numberIn p)) (wholeOf p)
   unfolding readCode readingOf
-  taken a b c d e =
+  packet-taken a b c d e =
       let one : readCode r p ≡ 1 = clear (readChecks r p) 1 (ap not a, (ap not b, (c, (d, (e, tt))))) in
       rw (eq-eqb (readCode r p) 1 one)
 
@@ -95,7 +104,7 @@ module _ (r : Reader) (p : List ℕ) where
       first z =
           let zeroth : eqb (numberIn p) 0 ≡ true = eq-eqb _ _ z in
           let there : positionAfter r (numberIn p) ≡ 0 = rw zeroth in
-          sym (taken fine (a-packet p some) (rw zeroth) (rw zeroth) (rw there) ∙ rw there)
+          sym (packet-taken fine (a-packet p some) (rw zeroth) (rw zeroth) (rw there) ∙ rw there)
 
       module _ (later : numberIn p ≡ 0 → ⊥) where
         pub unbegun : r .heard ≡ false → unheard 31 r ≡ readingOf r p
@@ -107,7 +116,9 @@ module _ (r : Reader) (p : List ℕ) where
           unfolding readCode
           changed e = refusal 32 (omega arith) (rw (fine, a-packet p some, ne-eqb _ _ later, begun, e))
 
-          module _ (same : sameForm (wholeOf p) (r .form) ≡ true) (n : ℕ) (leads : n ≡ r .position + stepOf (numberAt (r .position)) (numberIn p)) where
+          module _
+              (same : sameForm (wholeOf p) (r .form) ≡ true) (n : ℕ)
+              (leads : n ≡ r .position + stepOf (numberAt (r .position)) (numberIn p)) where
             pub past : last < n → unheard 33 r ≡ readingOf r p
             unfolding readCode
             past l = refusal 33 (omega arith) (rw (fine, a-packet p some, ne-eqb _ _ later, begun, same, ← leads, lt-ltb last n l))
@@ -116,4 +127,4 @@ module _ (r : Reader) (p : List ℕ) where
             next l =
                 let nonzero : eqb (numberIn p) 0 ≡ false = ne-eqb _ _ later in
                 let there : positionAfter r (numberIn p) ≡ n = rw nonzero (sym leads) in
-                sym (taken fine (a-packet p some) (rw (nonzero, begun)) (rw (nonzero, same)) (rw there (le-ltb last n l)) ∙ rw there)
+                sym (packet-taken fine (a-packet p some) (rw (nonzero, begun)) (rw (nonzero, same)) (rw there (le-ltb last n l)) ∙ rw there)

@@ -11,7 +11,7 @@ use Rattle.wire.proofs.Laws.{and-both}
 use Rattle.packets.specs.Forms.{listed, wholeOf, totalOf}
 use Rattle.packets.proofs.Forms.{packet-is}
 use Rattle.samples.specs.Packing.{mayUnpack, unpackedOf as writtenOf}
-use Rattle.reader.specs.Reading.{unpackCode, unpackingOf, unpackedOf, countIn}
+use Rattle.reader.specs.Reading.{unpackCode, unpackingOf, unpackedOf, sampleCountIn}
 use Rattle.reader.proofs.Reading.{no-packet, a-packet}
 
 module _ (p : List ℕ) (room : ℕ) where
@@ -26,33 +26,33 @@ module _ (p : List ℕ) (room : ℕ) where
 
   module _ (some : wholeOf p .pairs ≡ 0 → ⊥) where
     -- a whole packet is long enough, so only the room counts
-    by-room : mayUnpack (wholeOf p) (length p) room ≡ leb (countIn p) room
+    by-room : mayUnpack (wholeOf p) (length p) room ≡ leb (sampleCountIn p) room
     by-room =
         let w = packet-is p (a-packet p some) in
         let long : totalOf (wholeOf p) ≤ length p = le-of-eq (sym (w .long)) in
-        ap (λ (t : Bool). t && leb (countIn p) room)
+        ap (λ (t : Bool). t && leb (sampleCountIn p) room)
         (and-both (listed (wholeOf p)) (leb (totalOf (wholeOf p)) (length p)) (w .form) (le-leb (totalOf (wholeOf p)) (length p) long))
 
     module _ (short : mayUnpack (wholeOf p) (length p) room ≡ false) where
-      too-short : room < countIn p
-      too-short = leb-false (countIn p) room (sym by-room ∙ short)
+      too-short : room < sampleCountIn p
+      too-short = leb-false (sampleCountIn p) room (sym by-room ∙ short)
 
       pub unpack-short : record { code = 20; count = 0 } ≡ unpackingOf p room
       unfolding unpackingOf unpackCode
-      unpack-short = rw (a-packet p some, lt-ltb room (countIn p) too-short)
+      unpack-short = rw (a-packet p some, lt-ltb room (sampleCountIn p) too-short)
 
       pub writes-short : writtenOf (wholeOf p) p room ≡ unpackedOf p room
       unfolding unpackedOf unpackCode
-      writes-short = rw (short, a-packet p some, lt-ltb room (countIn p) too-short)
+      writes-short = rw (short, a-packet p some, lt-ltb room (sampleCountIn p) too-short)
 
     module _ (fits : mayUnpack (wholeOf p) (length p) room ≡ true) where
-      enough : countIn p ≤ room
-      enough = leb-true (countIn p) room (sym by-room ∙ fits)
+      enough : sampleCountIn p ≤ room
+      enough = leb-true (sampleCountIn p) room (sym by-room ∙ fits)
 
-      pub unpack-all : record { code = 1; count = countIn p } ≡ unpackingOf p room
+      pub unpack-all : record { code = 1; count = sampleCountIn p } ≡ unpackingOf p room
       unfolding unpackingOf unpackCode
-      unpack-all = rw (a-packet p some, le-ltb room (countIn p) enough)
+      unpack-all = rw (a-packet p some, le-ltb room (sampleCountIn p) enough)
 
       pub writes-all : writtenOf (wholeOf p) p room ≡ unpackedOf p room
       unfolding unpackedOf unpackCode
-      writes-all = rw (fits, a-packet p some, le-ltb room (countIn p) enough)
+      writes-all = rw (fits, a-packet p some, le-ltb room (sampleCountIn p) enough)

@@ -59,17 +59,22 @@ readingOf r packet =
     pick (eqb (readCode r packet) Code.done) (heardAt (positionAfter r (numberIn packet)) (wholeOf packet))
     (unheard (readCode r packet) r)
 
+-- The reader that slice after slice makes of one. A slice is anything that it is handed: a packet of any capture, or rubbish.
+abbrev pub afterSlices : Reader → List (List ℕ) → Reader
+afterSlices r [] = r
+afterSlices r (slice ∷ slices) = afterSlices (readingOf r slice .reader) slices
+
 -- "A call of its own answers with the sample bytes handed back as that part of the caller's packet, or with an empty part
 -- where the slice is 30."
 abbrev pub sampleBytesOf : List ℕ → List ℕ
 sampleBytesOf packet = pick (isPacket packet) (drop 4 packet) []
 
 -- "Unpacking takes a packet and writes its I and Q in turn as signed numbers of the width sent; it refuses with 30, then 20."
-abbrev pub countIn : List ℕ → ℕ
-countIn packet = 2 * wholeOf packet .pairs
+abbrev pub sampleCountIn : List ℕ → ℕ
+sampleCountIn packet = 2 * wholeOf packet .pairs
 
 abbrev pub unpackChecks : List ℕ → ℕ → List Check
-unpackChecks packet room = check Code.notAPacket (not (isPacket packet)) ∷ check Code.noRoom (ltb room (countIn packet)) ∷ []
+unpackChecks packet room = check Code.notAPacket (not (isPacket packet)) ∷ check Code.noRoom (ltb room (sampleCountIn packet)) ∷ []
 
 unfoldable pub unpackCode : List ℕ → ℕ → ℕ
 unpackCode packet room = firstOf (unpackChecks packet room) Code.done
@@ -77,10 +82,10 @@ unpackCode packet room = firstOf (unpackChecks packet room) Code.done
 -- its answer: the code, and how many numbers it writes, which is none where it refuses
 unfoldable pub unpackingOf : List ℕ → ℕ → Unpacked
 unpackingOf packet room =
-    record { code = unpackCode packet room; count = pick (eqb (unpackCode packet room) Code.done) (countIn packet) 0 }
+    record { code = unpackCode packet room; count = pick (eqb (unpackCode packet room) Code.done) (sampleCountIn packet) 0 }
 
 -- the numbers that unpacking writes at the start of the lent slice: all of the packet's or none, by the column "Written" of the
 -- table of codes
 unfoldable pub unpackedOf : List ℕ → ℕ → List ℤ
 unpackedOf packet room =
-    othersWrite (unpackCode packet room) (samplesFrom (wholeOf packet .bits) (drop 4 packet) 0 (countIn packet))
+    othersWrite (unpackCode packet room) (samplesFrom (wholeOf packet .bits) (drop 4 packet) 0 (sampleCountIn packet))

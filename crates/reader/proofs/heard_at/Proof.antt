@@ -6,7 +6,10 @@ use Rattle.reader.proofs.heard_at.Statement.{statement}
 use Rattle.reader.proofs.heard_at.Tie as tie
 
 mul-sample : tie.Need-mul-sample
-mul-sample c = omega (arith, mul-le-mul {n₁ = c .before .args .position} {m₁ = c .before .args .form .pairs} {n₂ = 4_000_000_000} {m₂ = 257} (omega arith) (omega arith))
+mul-sample c =
+    let a = c .before .args in
+    let bound = mul-le-mul {n₁ = a .position} {m₁ = a .form .pairs} {n₂ = 4_000_000_000} {m₂ = 257} (omega arith) (omega arith) in
+    omega arith
 
 returns : tie.Need-returns
 returns c = search needs

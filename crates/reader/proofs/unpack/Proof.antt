@@ -1,6 +1,8 @@
 -- What is no packet has no form, and a whole packet is refused by `samples` only for want of room.
-use Prim.Native.Nat.{_*_}
+use Prim.Native.Nat.{ℕ, _*_}
 use mathlib.Core.Path.{_≡_, sym, ap, _∙_}
+use mathlib.Core.List.{List}
+use lib.IntN.{ℤ}
 use native.Mathlib.Omega.{arith}
 use borrow.Author.Needs.{needs}
 use borrow.Author.Tests.{not-true, not-false}
@@ -14,30 +16,46 @@ use Rattle.reader.proofs.Unpacking.{unpack-none, writes-none, unpack-sh
 use Rattle.reader.proofs.unpack.Statement.{statement}
 use Rattle.reader.proofs.unpack.Tie as tie
 
--- where the function starts, from where it has called `samples`
-abbrev start : tie.After-unpack → tie.Start
-start c = c .before .before .before .before .before .before
+-- where the form has been looked up: the packet, and what was lent for its numbers
+abbrev packet : tie.After-struct-known → List ℕ
+packet c = c .before .before .before .args .packet .now
 
-whole : (c : tie.After-unpack) → c .before .before .before .before .whole .result ≡ wholeOf (start c .args .packet .now)
-whole c = c .before .before .before .before .whole .ensures
+abbrev out : tie.After-struct-known → List ℤ
+out c = c .before .before .before .args .out .now
 
-some : (c : tie.After-unpack) → wholeOf (start c .args .packet .now) .pairs ≡ 0 → ⊥
-some c z = c .before .before .if1 .left (ap (λ (f : Form). f .pairs) (whole c) ∙ z)
+abbrev room : tie.After-struct-known → ℕ
+room c = length (out c)
 
-asked : (c : tie.After-unpack) → mayUnpack (wholeOf (start c .args .packet .now)) (length (start c .args .packet .now)) (length (start c .args .out .now)) ≡ c .unpack .result
-asked c = sym (c .unpack .ensures .0 ∙ ap (λ (f : Form). mayUnpack f (length (start c .args .packet .now)) (length (start c .args .out .now))) (whole c))
+whole : (c : tie.After-struct-known) → c .before .whole .result ≡ wholeOf (packet c)
+whole c = c .before .whole .ensures
 
-wrote : (c : tie.After-unpack) → c .unpack .last .1 .1 .0 ≡ sets (start c .args .out .now) 0 (writtenOf (wholeOf (start c .args .packet .now)) (start c .args .packet .now) (length (start c .args .out .now)))
-wrote c = c .unpack .ensures .1 ∙ ap (λ (f : Form). sets (start c .args .out .now) 0 (writtenOf f (start c .args .packet .now) (length (start c .args .out .now)))) (whole c)
+-- the same place, from where `samples` has been called
+abbrev formed : tie.After-unpack → tie.After-struct-known
+formed c = c .before .before .before
+
+some : (c : tie.After-unpack) → wholeOf (packet (formed c)) .pairs ≡ 0 → ⊥
+some c z = c .before .before .if1 .left (ap (λ (f : Form). f .pairs) (whole (formed c)) ∙ z)
+
+asked : (c : tie.After-unpack) → mayUnpack (wholeOf (packet (formed c))) (length (packet (formed c))) (room (formed c)) ≡ c .unpack .result
+asked c =
+    let k = formed c in
+    sym (c .unpack .ensures .0 ∙ ap (λ (f : Form). mayUnpack f (length (packet k)) (room k)) (whole k))
+
+wrote : (c : tie.After-unpack)
+    → c .unpack .last .1 .1 .0
+    ≡ sets (out (formed c)) 0 (writtenOf (wholeOf (packet (formed c))) (packet (formed c)) (room (formed c)))
+wrote c =
+    let k = formed c in
+    c .unpack .ensures .1 ∙ ap (λ (f : Form). sets (out k) 0 (writtenOf f (packet k) (room k))) (whole k)
 
 whole-requires : tie.Need-whole-requires
 whole-requires c κs = search needs
 
 returns : tie.Need-returns
 returns c =
-    let s = c .before .before .before .before in
-    let none : wholeOf (s .args .packet .now) .pairs ≡ 0 = sym (ap (λ (f : Form). f .pairs) (c .before .before .whole .ensures)) ∙ c .if1 .taken in
-    (unpack-none (s .args .packet .now) (length (s .args .out .now)) none, ap (sets (s .args .out .now) 0) (writes-none (s .args .packet .now) (length (s .args .out .now)) none))
+    let k = c .before in
+    let none = sym (ap (λ (f : Form). f .pairs) (whole k)) ∙ c .if1 .taken in
+    (unpack-none (packet k) (room k) none, ap (sets (out k) 0) (writes-none (packet k) (room k) none))
 
 unpack-requires : tie.Need-unpack-requires
 unpack-requires c κs = search needs
@@ -49,10 +67,12 @@ returns-2 : tie.Need-returns-2
 returns-2 c =
     let u = c .before .before in
     let short = asked u ∙ not-true _ (c .if2 .taken) in
-    (unpack-short _ _ (some u) short, wrote u ∙ ap (sets (start u .args .out .now) 0) (writes-short _ _ (some u) short))
+    (unpack-short _ _ (some u) short, wrote u ∙ ap (sets (out (formed u)) 0) (writes-short _ _ (some u) short))
 
 mul-count : tie.Need-mul-count
-mul-count c = let u = c .before .before in omega (arith, ap (λ (f : Form). f .pairs) (whole u), pairs-few (start u .args .packet .now))
+mul-count c =
+    let k = formed (c .before .before) in
+    omega (arith, ap (λ (f : Form). f .pairs) (whole k), pairs-few (packet k))
 
 same-length-2 : tie.Need-same-length-2
 same-length-2 c = search needs
@@ -60,8 +80,10 @@ same-length-2 c = search needs
 returns-3 : tie.Need-returns-3
 returns-3 c =
     let u = c .before .before in
-    let fits = asked u ∙ not-false _ (c .if2 .left) in
-    (ap (λ (f : Form). record { code = 1; count = 2 * f .pairs }) (whole u) ∙ unpack-all _ _ (some u) fits, wrote u ∙ ap (sets (start u .args .out .now) 0) (writes-all _ _ (some u) fits))
+    let fits = asked u ∙ not-false _ (c .if2 .left) in (
+      ap (λ (f : Form). record { code = 1; count = 2 * f .pairs }) (whole (formed u)) ∙ unpack-all _ _ (some u) fits,
+      wrote u ∙ ap (sets (out (formed u)) 0) (writes-all _ _ (some u) fits),
+    )
 
 pub unpack-spec : {M : Type 1} → statement M
 unpack-spec =

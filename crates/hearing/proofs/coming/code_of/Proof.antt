@@ -1,14 +1,15 @@
 -- Each return has the code of the tests that led there.
 use borrow.Author.Needs.{needs}
 use mathlib.Core.Path.{_≡_, refl, sym, ap, _∙_}
-use mathlib.Core.Bool.{true, false}
+use mathlib.Core.Bool.{Bool, true, false}
 use lib.Dec.{ltb}
 use borrow.Author.Tests.{not-true, not-false, lt-ltb, le-ltb}
 use Rattle.packets.specs.declared.Form.{Form}
 use Rattle.packets.specs.Forms.{listed, sameForm, totalOf}
 use Rattle.hearing.specs.declared.Tally.{Tally}
-use Rattle.hearing.specs.Hearing.{formNow, lacksFirst}
-use Rattle.hearing.proofs.Heard.{heard-by, total-is}
+use Rattle.packets.specs.Numbers.{last}
+use Rattle.hearing.specs.Hearing.{formNow, positionNow, lacksFirst, heardCode}
+use Rattle.hearing.proofs.Heard.{codeBy, heard-by, total-is}
 use Rattle.hearing.proofs.coming.code_of.Statement.{statement}
 use Rattle.hearing.proofs.coming.code_of.Tie as tie
 
@@ -41,10 +42,13 @@ whole c = le-ltb _ _ (rw (total (c .before .before)) at (c .if3 .left))
 abbrev listing : tie.After-same-form → tie.After-is-listed
 listing c = second (c .before) .before
 
-alike : (c : tie.After-same-form) → sameForm (formNow (tally (listing c))) (first (listing c) .before .before .args .f) ≡ c .same-form .result
+abbrev wanted : tie.After-is-listed → Form
+wanted c = first c .before .before .args .f
+
+alike : (c : tie.After-same-form) → sameForm (formNow (tally (listing c))) (wanted (listing c)) ≡ c .same-form .result
 alike c =
-    ap (λ (x : Form). sameForm x (first (listing c) .before .before .args .f)) (sym (listing c .before .form-of-header .ensures))
-    ∙ sym (c .same-form .ensures)
+    let n = listing c in
+    ap (λ (x : Form). sameForm x (wanted n)) (sym (n .before .form-of-header .ensures)) ∙ sym (c .same-form .ensures)
 
 abbrev fourth : tie.After-lacks-first → tie.Else4
 fourth c = c .before
@@ -54,6 +58,16 @@ alone c = sym (c .lacks-first .ensures)
 
 abbrev fifth : tie.After-position-now → tie.Else5
 fifth c = c .before
+
+-- the code by what the last two tests come to
+past-four : (c : tie.After-lacks-first) {lone past : Bool}
+    → (let n = listing (fourth c .before) in
+    lacksFirst (tally n) ≡ lone → ltb last (positionNow (tally n)) ≡ past
+    → codeBy false true false true lone past ≡ heardCode (wanted n) (tally n))
+past-four c p q =
+    let s = fourth c .before in
+    let third = s .before in
+    sym (heard-by _ _ (enough (first (listing s))) (known (second third)) (whole third) (alike s ∙ not-false _ (fourth c .if4 .left)) p q)
 
 returns : tie.Need-returns
 returns c = sym (heard-by _ _ (lt-ltb _ _ (c .if1 .taken)) refl refl refl refl refl)
@@ -73,7 +87,8 @@ total-of-requires c κs = search needs
 returns-3 : tie.Need-returns-3
 returns-3 c =
     let n = c .before .before in
-    sym (heard-by _ _ (enough (first (n .before .before))) (known (n .before)) (lt-ltb _ _ (rw (total n) at (c .if3 .taken))) refl refl refl)
+    let short = lt-ltb _ _ (rw (total n) at (c .if3 .taken)) in
+    sym (heard-by _ _ (enough (first (n .before .before))) (known (n .before)) short refl refl refl)
 
 same-form-requires : tie.Need-same-form-requires
 same-form-requires c κs = search needs
@@ -88,11 +103,7 @@ lacks-first-requires : tie.Need-lacks-first-requires
 lacks-first-requires c κs = search needs
 
 returns-5 : tie.Need-returns-5
-returns-5 c =
-    let l = c .before in
-    let s = fourth l .before in
-    let third = s .before in
-    sym (heard-by _ _ (enough (first (listing s))) (known (second third)) (whole third) (alike s ∙ not-false _ (fourth l .if4 .left)) (alone l ∙ c .if5 .taken) refl)
+returns-5 c = past-four (c .before) (alone (c .before) ∙ c .if5 .taken) refl
 
 position-now-requires : tie.Need-position-now-requires
 position-now-requires c κs = search needs
@@ -101,19 +112,13 @@ returns-6 : tie.Need-returns-6
 returns-6 c =
     let p = c .before in
     let l = fifth p .before in
-    let s = fourth l .before in
-    let third = s .before in
-    sym (heard-by _ _ (enough (first (listing s))) (known (second third)) (whole third) (alike s ∙ not-false _ (fourth l .if4 .left)) (alone l ∙ fifth p .if5 .left)
-    (lt-ltb _ _ (rw (p .position-now .ensures) at (c .if6 .taken))))
+    past-four l (alone l ∙ fifth p .if5 .left) (lt-ltb _ _ (rw (p .position-now .ensures) at (c .if6 .taken)))
 
 returns-7 : tie.Need-returns-7
 returns-7 c =
     let p = c .before in
     let l = fifth p .before in
-    let s = fourth l .before in
-    let third = s .before in
-    sym (heard-by _ _ (enough (first (listing s))) (known (second third)) (whole third) (alike s ∙ not-false _ (fourth l .if4 .left)) (alone l ∙ fifth p .if5 .left)
-    (le-ltb _ _ (rw (p .position-now .ensures) at (c .if6 .left))))
+    past-four l (alone l ∙ fifth p .if5 .left) (le-ltb _ _ (rw (p .position-now .ensures) at (c .if6 .left)))
 
 pub code-of-spec : {M : Type 1} → statement M
 code-of-spec =

@@ -1,7 +1,7 @@
 -- Number 0 is at position 0, any other a step further.
 use borrow.Author.Needs.{needs}
 use borrow.Author.Tests.{eq-eqb, ne-eqb}
-use Prim.Native.Nat.{ℕ, _+_}
+use Prim.Native.Nat.{ℕ, _+_, _≤_}
 use mathlib.Core.Path.{ap, _∙_}
 use native.Mathlib.Omega.{arith}
 use Rattle.packets.specs.Numbers.{stepOf}
@@ -24,7 +24,8 @@ add-result c =
     let s = c .before in
     let n = s .before in
     let a = n .before .before .before .args in
-    omega (arith, s .step .ensures, step-small (n .number-at-position .result) (a .t .number) (omega (arith, n .number-at-position .ensures, number-le (a .t .position))) (omega arith))
+    let small : n .number-at-position .result ≤ 65_535 = omega (arith, n .number-at-position .ensures, number-le (a .t .position)) in
+    omega (arith, s .step .ensures, step-small (n .number-at-position .result) (a .t .number) small (omega arith))
 
 returns-2 : tie.Need-returns-2
 returns-2 c =

@@ -8,7 +8,8 @@ use Rattle.hearing.proofs.Heard.{settled-by}
 use Rattle.hearing.proofs.coming.settle.Statement.{statement}
 use Rattle.hearing.proofs.coming.settle.Tie as tie
 
-one : (c : tie.Then2) → heardCode (c .before .before .before .args .f) (c .before .before .before .args .t) ≡ 1
+-- the packet is accepted
+one : (c : tie.Then2) → (let a = c .before .before .before .args in heardCode (a .f) (a .t) ≡ 1)
 one c = sym (c .before .before .code-of .ensures) ∙ c .if2 .taken
 
 code-of-requires : tie.Need-code-of-requires
@@ -29,8 +30,9 @@ accept-requires c κs = search needs
 returns-3 : tie.Need-returns-3
 returns-3 c =
     let e = c .before in
-    ap (λ (x : Tally). record { at = e .before .before .before .before .before .args .n; code = 0; tally = x }) (c .accept .ensures)
-    ∙ sym (settled-by _ _ _ (one (e .before .before)) (sym (e .before .closes .ensures) ∙ e .if3 .left))
+    let o = e .before .before in
+    ap (λ (x : Tally). record { at = o .before .before .before .args .n; code = 0; tally = x }) (c .accept .ensures)
+    ∙ sym (settled-by _ _ _ (one o) (sym (e .before .closes .ensures) ∙ e .if3 .left))
 
 returns-4 : tie.Need-returns-4
 returns-4 c =

@@ -2,6 +2,7 @@
 use borrow.Author.Needs.{needs}
 use Prim.Native.Nat.{ℕ, _+_, _/_, _%_, _<_}
 use mathlib.Core.Path.{_≡_, sym, ap, _∙_}
+use mathlib.Core.List.{List}
 use native.Mathlib.Omega.{arith}
 use denote.Ref.{now}
 use lib.ListN.{getD}
@@ -10,6 +11,19 @@ use Rattle.hearing.specs.Inside.{twoAt}
 use Rattle.hearing.proofs.Heard.{step-small, word-header, word-number}
 use Rattle.hearing.proofs.pieces.follow.Statement.{statement}
 use Rattle.hearing.proofs.pieces.follow.Tie as tie
+
+-- where the packet's first four bytes are read: its number is in them
+abbrev start : tie.After-word → tie.Start
+start c = c .before .before .before
+
+abbrev piece : tie.After-word → List ℕ
+piece c = now (start c .args .piece)
+
+small : (c : tie.After-word) (k : ℕ) → getD (piece c) k 0 < 256
+small c k = omega (arith, c .before .before .shared-slice-known .given k)
+
+number : (c : tie.After-word) → c .word .result / 65536 ≡ twoAt (piece c) (start c .args .at + 2)
+number c = ap (λ (n : ℕ). n / 65536) (c .word .ensures) ∙ word-number (piece c) (start c .args .at) (small c)
 
 sub-if1 : tie.Need-sub-if1
 sub-if1 c = search needs
@@ -34,8 +48,8 @@ step-requires c κs = search needs
 
 add-next : tie.Need-add-next
 add-next c =
-    let a = c .before .before .before .before .before .before .args in
-    omega (arith, c .step .ensures, step-small (a .«before») (c .before .before .before .word .result / 65536) (omega arith) (omega arith))
+    let w = c .before .before .before in
+    omega (arith, c .step .ensures, step-small (start w .args .«before») (w .word .result / 65536) (omega arith) (omega arith))
 
 returns-4 : tie.Need-returns-4
 returns-4 c = search needs
@@ -46,15 +60,12 @@ returns-5 c =
     let third = s .before in
     let second = third .before in
     let w = second .before in
-    let first = w .before in
-    let a = first .before .before .args in
-    let small : (k : ℕ) → getD (now (a .piece)) k 0 < 256 = λ k. omega (arith, first .before .shared-slice-known .given k) in
-    let number : w .word .result / 65536 ≡ twoAt (now (a .piece)) (a .at + 2) = ap (λ (n : ℕ). n / 65536) (w .word .ensures) ∙ word-number (now (a .piece)) (a .at) small in
+    let a = start w .args in
     λ some. record {
-      room = omega (arith, first .if1 .left, first .before .before .pre);
-      header = sym (word-header (now (a .piece)) (a .at) small) ∙ ap (λ (n : ℕ). n % 65536) (sym (w .word .ensures)) ∙ second .if2 .left;
-      above = omega (arith, number, third .if3 .left);
-      here = ap (λ (n : ℕ). a .position + n) (s .step .ensures ∙ ap (stepOf (a .«before»)) number);
+      room = omega (arith, w .before .if1 .left, start w .pre);
+      header = sym (word-header (piece w) (a .at) (small w)) ∙ ap (λ (n : ℕ). n % 65536) (sym (w .word .ensures)) ∙ second .if2 .left;
+      above = omega (arith, number w, third .if3 .left);
+      here = ap (λ (n : ℕ). a .position + n) (s .step .ensures ∙ ap (stepOf (a .«before»)) (number w));
       fits = c .if4 .left;
     }
 

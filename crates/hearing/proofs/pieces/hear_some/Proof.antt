@@ -15,10 +15,18 @@ use Rattle.hearing.specs.Inside.{Sane, Goes}
 use Rattle.hearing.proofs.pieces.hear_some.Statement.{statement}
 use Rattle.hearing.proofs.pieces.hear_some.Tie as tie
 
+-- where no whole packet was taken, and it is known how many bytes can be skipped
+abbrev start : tie.After-skippable → tie.Start
+start c = c .before .before .before .before .before
+
+-- where one byte is taken
+abbrev unskipped : tie.After-take-byte → tie.After-skippable
+unskipped c = c .before .before .before
+
 taken : (c : tie.After-take-byte) → 0 < c .take-byte .result .taken
 unfolding taking
 taken c =
-    let t = c .before .before .before .before .before .before .before .before .args .t in
+    let t = start (unskipped c) .args .t in
     let one : c .take-byte .result .taken ≡ t .taken + 1 = ap (λ (u : Tally). u .taken) (c .take-byte .ensures) in
     omega (arith, one)
 
@@ -43,11 +51,13 @@ skip-requires c κs = search needs
 returns-2 : tie.Need-returns-2
 returns-2 c =
     let k = c .before .before in
-    let s = k .before .before .before .before .before in
+    let s = start k in
     let a = s .args in
-    let n = k .skippable .result in (
-      subst (λ (u : Tally). Goes (a .f) (a .t) (now (a .piece)) (a .at) (record { at = a .at + n; code = 0; tally = u })) (sym (c .skip .ensures))
-          (goes-skip (a .f) (a .t) (now (a .piece)) (a .at) n (omega arith) (k .skippable .ensures .1 (c .before .if2 .taken)) (s .pre .2)),
+    let n = k .skippable .result in
+    let samples = k .skippable .ensures .1 (c .before .if2 .taken) in (
+      subst (λ (u : Tally). Goes (a .f) (a .t) (now (a .piece)) (a .at) (record { at = a .at + n; code = 0; tally = u }))
+          (sym (c .skip .ensures))
+          (goes-skip (a .f) (a .t) (now (a .piece)) (a .at) n (omega arith) samples (s .pre .2)),
       omega arith,
     )
 
@@ -62,19 +72,20 @@ take-byte-requires c κs = search needs
 
 settle-requires : tie.Need-settle-requires
 settle-requires c κs =
-    let s = c .before .before .before .before .before .before .before .before in
+    let s = start (unskipped c) in
     let a = s .args in
     (subst (Sane 0) (sym (c .take-byte .ensures)) (sane-taking 0 (a .t) _ (sane-less 1 (omega arith) (s .pre .2))), taken c)
 
 returns-3 : tie.Need-returns-3
 returns-3 c =
     let byte = c .before in
-    let s = byte .before .before .before .before .before .before .before .before in
+    let s = start (unskipped byte) in
     let a = s .args in
     let came : c .settle .result ≡ settled (a .at + 1) (a .f) (taking (a .t) (getD (now (a .piece)) (a .at) 0))
     = c .settle .ensures ∙ ap (settled (a .at + 1) (a .f)) (byte .take-byte .ensures) in
     let there : c .settle .result .at ≡ a .at + 1 = ap (λ (r : Reach). r .at) came ∙ settled-at (a .at + 1) (a .f) _ in
-    (subst (Goes (a .f) (a .t) (now (a .piece)) (a .at)) (sym came) (goes-byte (a .f) (a .t) (now (a .piece)) (a .at) (s .pre .1) (s .pre .2)), omega (arith, there))
+    let goes = goes-byte (a .f) (a .t) (now (a .piece)) (a .at) (s .pre .1) (s .pre .2) in
+    (subst (Goes (a .f) (a .t) (now (a .piece)) (a .at)) (sym came) goes, omega (arith, there))
 
 pub hear-some-spec : {M : Type 1} → statement M
 hear-some-spec =

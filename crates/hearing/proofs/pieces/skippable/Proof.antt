@@ -4,17 +4,29 @@ use Prim.Native.Nat.{ℕ, _+_, _<_}
 use mathlib.Core.Path.{sym, ap, _∙_}
 use native.Mathlib.Omega.{arith}
 use Rattle.packets.specs.Forms.{listed, totalOf}
+use Rattle.hearing.specs.declared.Tally.{Tally}
 use Rattle.hearing.specs.Inside.{Samples}
 use Rattle.hearing.proofs.Heard.{total-some}
 use Rattle.hearing.proofs.pieces.skippable.Statement.{statement}
 use Rattle.hearing.proofs.pieces.skippable.Tie as tie
 
-within : (c : tie.Else2) (k : ℕ) → c .before .before .before .before .before .before .args .t .taken + k < c .before .before .total-of .result → Samples (c .before .before .before .before .before .before .args .t) k
+-- where the packet's total is known to lie ahead
+abbrev totalled : tie.Else2 → tie.After-total-of
+totalled c = c .before .before
+
+abbrev tally : tie.Else2 → Tally
+tally c = totalled c .before .before .before .before .args .t
+
+within : (c : tie.Else2) (k : ℕ) → tally c .taken + k < totalled c .total-of .result → Samples (tally c) k
 within c k short =
-    let total = c .before .before in
+    let total = totalled c in
     let some = total-some (total .before .form-of-header .result) (total .total-of .result) (total .total-of .ensures) (omega arith) in
     let form = total .before .form-of-header .ensures in
-    record { past = total .before .before .if1 .left; form = ap listed (sym form) ∙ some .0; short = omega (arith, short, some .1, ap totalOf form) }
+    record {
+      past = total .before .before .if1 .left;
+      form = ap listed (sym form) ∙ some .0;
+      short = omega (arith, short, some .1, ap totalOf form);
+    }
 
 returns : tie.Need-returns
 returns c = (omega arith, λ some. absurd (omega arith))

@@ -23,39 +23,51 @@ Inv-loop t piece from total header at₀ heard₀ position₀ before₀ next₀ 
 abbrev μ-loop : tie.MeasureT-loop
 μ-loop t piece from total header at₀ heard₀ position₀ before₀ next₀ at heard position before next = length piece - at
 
-between : (c : tie.Else1 Inv-loop μ-loop) → Between (c .before .before .before .args .t)
+-- ---- what is known after each call, and the places before it
+
+-- the packet begins between packets
+abbrev start : tie.Else1 Inv-loop μ-loop → tie.Start Inv-loop μ-loop
+start c = c .before .before .before
+
+between : (c : tie.Else1 Inv-loop μ-loop) → Between (start c .args .t)
 between c = c .before .is-between .ensures (not-false _ (c .if1 .left))
 
-total : (c : tie.After-total-of Inv-loop μ-loop) → c .total-of .result ≡ totalOf (c .before .before .before .before .args .f)
-total c = total-is _ _ _ (c .total-of .ensures) refl (c .before .before .before .before .pre .0)
+-- its total
+abbrev given : tie.After-total-of Inv-loop μ-loop → tie.Start Inv-loop μ-loop
+given c = start (c .before)
+
+total : (c : tie.After-total-of Inv-loop μ-loop) → c .total-of .result ≡ totalOf (given c .args .f)
+total c = total-is _ _ _ (c .total-of .ensures) refl (given c .pre .0)
 
 least : (c : tie.After-total-of Inv-loop μ-loop) → (388 ≤ c .total-of .result) × (c .total-of .result < 8192)
 least c =
-    let f = c .before .before .before .before .args .f in
-    let ok = c .before .before .before .before .pre .0 in
+    let f = given c .args .f in
+    let ok = given c .pre .0 in
     (omega (arith, total c, total-least f ok), omega (arith, total c, is-listed-form f ok .short))
 
-header : (c : tie.After-header-of Inv-loop μ-loop) → c .header-of .result ≡ headerOf typeData (totalOf (c .before .before .before .before .before .args .f))
+-- its header
+header : (c : tie.After-header-of Inv-loop μ-loop) → c .header-of .result ≡ headerOf typeData (totalOf (given (c .before) .args .f))
 header c = c .header-of .ensures ∙ ap (headerOf typeData) (total (c .before))
 
--- the calls before the loop
+-- the same places from the loop on
 abbrev headed : tie.At-loop Inv-loop μ-loop → tie.After-header-of Inv-loop μ-loop
 headed l = l .before .before .before
 
 abbrev totalled : tie.At-loop Inv-loop μ-loop → tie.After-total-of Inv-loop μ-loop
 totalled l = headed l .before
 
-abbrev start : tie.At-loop Inv-loop μ-loop → tie.Start Inv-loop μ-loop
-start l = totalled l .before .before .before .before
+abbrev called : tie.At-loop Inv-loop μ-loop → tie.Start Inv-loop μ-loop
+called l = given (totalled l)
 
 -- the number of the packet that follows
 number : (c : tie.After-word Inv-loop μ-loop)
     → (let l = c .before .before in
-    c .word .result / 65536 ≡ twoAt (now (start l .args .piece)) (l .loop .at + 2))
+    c .word .result / 65536 ≡ twoAt (now (called l .args .piece)) (l .loop .at + 2))
 number c =
     let l = c .before .before in
-    let k = l .before .before .before .before .before .before .before in
-    ap (λ (n : ℕ). n / 65536) (c .word .ensures) ∙ word-number (now (k .before .args .piece)) (l .loop .at) (λ i. omega (arith, k .shared-slice-known .given i))
+    let known = totalled l .before .before .before .shared-slice-known .given in
+    ap (λ (n : ℕ). n / 65536) (c .word .ensures)
+    ∙ word-number (now (called l .args .piece)) (l .loop .at) (λ i. omega (arith, known i))
 
 is-between-requires : tie.Need-is-between-requires Inv-loop μ-loop
 is-between-requires c κs = tt
@@ -84,14 +96,16 @@ number-at-position-requires c κs = tt
 follow-requires : tie.Need-follow-requires Inv-loop μ-loop
 follow-requires c κs =
     let d = c .before .before in
-    let pre = d .before .before .before .before .pre in
+    let pre = given d .pre in
     (pre .1, omega (arith, least d .0), pre .2 .position)
 
 loop-holds : tie.Need-loop-holds Inv-loop μ-loop
 loop-holds c =
-    let d = c .before .before .before in
-    let pre = d .before .before .before .before .pre in
-    onward-start _ _ _ _ _ _ (pre .0) (total d) (header (c .before .before)) _ _ (between (d .before)) (pre .2) (pre .1) (c .before .number-at-position .ensures) (c .follow .ensures)
+    let h = c .before .before in
+    let d = h .before in
+    let pre = given d .pre in
+    onward-start _ _ _ _ _ _ (pre .0) (total d) (header h) _ _ (between (d .before)) (pre .2) (pre .1)
+    (c .before .number-at-position .ensures) (c .follow .ensures)
 
 word-requires : tie.Need-word-requires Inv-loop μ-loop
 word-requires c κs =
@@ -105,12 +119,12 @@ add-heard : tie.Need-add-heard Inv-loop μ-loop
 add-heard c =
     let l = c .before .before in
     let r = l .loop .inv in
-    omega (arith, r .few, r .low, r .follows (c .before .loop-test .taken) .room, least (totalled l) .0, start l .pre .2 .room)
+    omega (arith, r .few, r .low, r .follows (c .before .loop-test .taken) .room, least (totalled l) .0, called l .pre .2 .room)
 
 add-at : tie.Need-add-at Inv-loop μ-loop
 add-at c =
     let l = c .before .before in
-    omega (arith, l .loop .inv .follows (c .before .loop-test .taken) .room, start l .good)
+    omega (arith, l .loop .inv .follows (c .before .loop-test .taken) .room, called l .good)
 
 follow-requires-2 : tie.Need-follow-requires-2 Inv-loop μ-loop
 follow-requires-2 c κs =
@@ -128,8 +142,9 @@ loop-again : tie.Need-loop-again Inv-loop μ-loop
 loop-again c =
     let w = c .before in
     let l = w .before .before in
-    let s = start l in
-    onward-turn _ _ _ _ _ _ (s .pre .0) (total (totalled l)) (header (headed l)) _ _ _ _ _ _ _ (l .loop .inv) (w .before .loop-test .taken) (number w) (omega arith) (c .follow2 .ensures)
+    let s = called l in
+    onward-turn _ _ _ _ _ _ (s .pre .0) (total (totalled l)) (header (headed l)) _ _ _ _ _ _ _ (l .loop .inv)
+    (w .before .loop-test .taken) (number w) (omega arith) (c .follow2 .ensures)
 
 sub-t20 : tie.Need-sub-t20 Inv-loop μ-loop
 sub-t20 c = omega (arith, c .before .loop .inv .low)
@@ -138,12 +153,12 @@ add-t21 : tie.Need-add-t21 Inv-loop μ-loop
 add-t21 c =
     let l = c .before .before in
     let r = l .loop .inv in
-    omega (arith, r .low, r .inside, start l .pre .2 .room)
+    omega (arith, r .low, r .inside, called l .pre .2 .room)
 
 returns-2 : tie.Need-returns-2 Inv-loop μ-loop
 returns-2 c =
     let l = c .before .before in
-    let s = start l in
+    let s = called l in
     (onward-end _ _ _ _ _ _ (s .pre .0) (total (totalled l)) (header (headed l)) _ _ _ _ _ (l .loop .inv) (s .pre .2), l .loop .inv .low)
 
 pub whole-packets-spec : {M : Type 1} → statement M
