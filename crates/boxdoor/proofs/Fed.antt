@@ -12,7 +12,7 @@ use lib.Seq.{sets}
 use Rattle.wire.specs.Choice.{pick}
 use Rattle.wire.specs.Number.{bytes}
 use Rattle.wire.specs.Told.{Told}
-use Rattle.station.specs.declared.Began.{Began}
+use Rattle.station.specs.declared.FreshBox.{FreshBox}
 use Rattle.station.specs.declared.Fed.{Fed}
 use Rattle.station.specs.declared.FedHeld.{FedHeld}
 use Rattle.station.specs.declared.Station.{Station}
@@ -101,7 +101,7 @@ pub replied-broken : (state host reply : List ℕ) (room : ℕ) → (length stat
 unfolding repliedOver
 replied-broken state host reply room other = rw (ne-eqb (length state) 108 other)
 
-pub fresh-whole : (serial state after : List ℕ) (b : Began) → length state ≡ 108 → b ≡ freshBox serial → after ≡ stationBytes (b .station)
+pub fresh-whole : (serial state after : List ℕ) (b : FreshBox) → length state ≡ 108 → b ≡ freshBox serial → after ≡ stationBytes (b .station)
     → record { code = b .code; state = after } ≡ freshOver serial state
 unfolding freshOver
 fresh-whole serial state after b long p q = rw (q, p, eq-eqb (length state) 108 long)

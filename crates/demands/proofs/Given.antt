@@ -16,7 +16,7 @@ use Rattle.wire.proofs.Checks.{differ, given-exactly, not-given}
 use Rattle.wire.proofs.Laws.{and-left, and-right, and-both, true-not-false}
 use Rattle.items.specs.Answer.{Message, checks, codeOf}
 use Rattle.items.specs.declared.Settings.{Settings}
-use Rattle.items.specs.declared.Began.{Began}
+use Rattle.items.specs.declared.FreshSettings.{FreshSettings}
 use Rattle.items.specs.Settings.{isSerial, freshOf}
 use Rattle.framing.specs.Framing.{taken, finished}
 use Rattle.framing.proofs.Cutting.{told}
@@ -71,9 +71,10 @@ message-each s m = each (checks s m) 1 refl refl
 
 -- a serial is one, or the code is 26
 fresh-each : (serial : List ℕ) → (freshBox serial .code ≡ 26) ↔ (isSerial serial ≡ false)
-fresh-each serial = go (isSerial serial) (record { code = 1; settings = freshOf serial }) (record { code = 26; settings = freshOf (replicate 8 0x30) }) refl refl
+fresh-each serial =
+    go (isSerial serial) (record { code = 1; settings = freshOf serial }) (record { code = 26; settings = freshOf (replicate 8 0x30) }) refl refl
   where
-    go : (b : Bool) (x y : Began) → x .code ≡ 1 → y .code ≡ 26 → (pick {X = Began} b x y .code ≡ 26) ↔ (b ≡ false)
+    go : (b : Bool) (x y : FreshSettings) → x .code ≡ 1 → y .code ≡ 26 → (pick {X = FreshSettings} b x y .code ≡ 26) ↔ (b ≡ false)
     go true x y one none = (λ e. absurd (omega arith), λ e. absurd (true-not-false e))
     go false x y one none = (λ e. refl, λ e. none)
 
