@@ -52,15 +52,22 @@ apart-in : (before : List Check) (c : Check) (after : List Check) → distinct (
     → (differ (c .code) before ≡ true) × (differ (c .code) after ≡ true)
 apart-in [] c after d = (refl, and-left (differ (c .code) after) (distinct after) d)
 apart-in (b ∷ before) c after d =
-    let here = differ-later (b .code) before c after (and-left (differ (b .code) (before ++ c ∷ after)) (distinct (before ++ c ∷ after)) d) in
-    let rest = apart-in before c after (and-right (differ (b .code) (before ++ c ∷ after)) (distinct (before ++ c ∷ after)) d) in
+    let all = before ++ c ∷ after in
+    let here = differ-later (b .code) before c after (and-left (differ (b .code) all) (distinct all) d) in
+    let rest = apart-in before c after (and-right (differ (b .code) all) (distinct all) d) in
     (and-both (not (eqb (b .code) (c .code))) (differ (c .code) before) (other-way (c .code) (b .code) (here .0)) (rest .0), rest .1)
+
+-- a code that no check of the list has is not this one's
+other-code : (cs : List Check) (n : ℕ) (before : List Check) (c : Check) (after : List Check) → cs ≡ before ++ c ∷ after
+    → differ n cs ≡ true → c .code ≡ n → ⊥
+other-code cs n before c after e other =
+    let here = differ-later n before c after (subst (λ (l : List Check). differ n l ≡ true) e other) in
+    eqb-false (c .code) n (not-true (eqb (c .code) n) (here .0))
 
 each : (cs : List Check) (n : ℕ) → distinct cs ≡ true → differ n cs ≡ true → EachExactly cs (firstOf cs n)
 each cs n d other before c after e =
     subst (λ (l : List Check). (firstOf l n ≡ c .code) ↔ (Absent before × (c .holds ≡ true))) (sym e)
-    (given-exactly before c after n (parts .0) (parts .1)
-    (λ m. eqb-false (c .code) n (not-true (eqb (c .code) n) (differ-later n before c after (subst (λ (l : List Check). differ n l ≡ true) e other) .0)) (sym m)))
+    (given-exactly before c after n (parts .0) (parts .1) (λ m. other-code cs n before c after e other (sym m)))
   where
     parts : (differ (c .code) before ≡ true) × (differ (c .code) after ≡ true)
     parts = apart-in before c after (subst (λ (l : List Check). distinct l ≡ true) e d)
@@ -72,7 +79,8 @@ message-each s m = each (checks s m) 1 refl refl
 -- a serial is one, or the code is 26
 fresh-each : (serial : List ℕ) → (freshBox serial .code ≡ 26) ↔ (isSerial serial ≡ false)
 fresh-each serial =
-    go (isSerial serial) (record { code = 1; settings = freshOf serial }) (record { code = 26; settings = freshOf (replicate 8 0x30) }) refl refl
+    go (isSerial serial) (record { code = 1; settings = freshOf serial })
+    (record { code = 26; settings = freshOf (replicate 8 0x30) }) refl refl
   where
     go : (b : Bool) (x y : FreshSettings) → x .code ≡ 1 → y .code ≡ 26 → (pick {X = FreshSettings} b x y .code ≡ 26) ↔ (b ≡ false)
     go true x y one none = (λ e. absurd (omega arith), λ e. absurd (true-not-false e))
@@ -151,10 +159,11 @@ module _ (s : Station) (host : List ℕ) (room : ℕ) where
 
       -- a code that no check of a message has
       other : (n : ℕ) → differ n (checks (s .settings) (finishedBy s host)) ≡ true → c .code ≡ n → ⊥
-      other n d = eqb-false (c .code) n (not-true _ (differ-later n before c after (subst (λ (l : List Check). differ n l ≡ true) is d) .0))
+      other n d = other-code (checks (s .settings) (finishedBy s host)) n before c after is d
 
 head-each : (s : List ℕ) → HeadExactly s
-head-each s = by (ltb (length s) headLength) (eqb (field 0 3 s) (number mark)) (eqb (field 3 2 s) version) (allowed (headIn s)) refl refl refl refl
+head-each s =
+    by (ltb (length s) headLength) (eqb (field 0 3 s) (number mark)) (eqb (field 3 2 s) version) (allowed (headIn s)) refl refl refl refl
   where
     -- none of the three ways to be no head
     against : headLength ≤ length s → field 0 3 s ≡ number mark → (field 3 2 s ≡ version → allowed (headIn s) ≡ false → ⊥)
@@ -195,7 +204,10 @@ head-each s = by (ltb (length s) headLength) (eqb (field 0 3 s) (number mark)) (
     by false true true true p q r t =
         let code = code-by s p q r t in
         record {
-          notAHead = (λ e. absurd (omega arith), λ h. absurd (against (ltb-false _ _ p) (eqb-true _ _ q) (λ v a. true-not-false (sym t ∙ a)) h));
+          notAHead = (
+            λ e. absurd (omega arith),
+            λ h. absurd (against (ltb-false _ _ p) (eqb-true _ _ q) (λ v a. true-not-false (sym t ∙ a)) h),
+          );
           otherVersion = (λ e. absurd (omega arith), λ h. absurd (h .2 (eqb-true _ _ r)));
         }
 

@@ -20,7 +20,8 @@ use Rattle.wire.specs.Lists.{allBytes}
 use Rattle.wire.proofs.Lists.{bytes-take, bytes-drop, byte-at}
 use Rattle.items.specs.declared.Settings.{Settings}
 use Rattle.items.specs.Settings.{withRunning, withCount, withMode, isMode}
-use Rattle.items.specs.Items.{stateBytes, Offer, total, dash, Item, items, noItem, rowOf, runByte, modeByte, idle, run, frequency, gain, clock, rate, packetSize, state, status, listed}
+use Rattle.items.specs.Items.{stateBytes, Offer, total, dash, Item, items, noItem, rowOf, runByte, modeByte, idle, run, frequency, gain}
+use Rattle.items.specs.Items.{clock, rate, packetSize, state, status, listed}
 use Rattle.items.specs.Table.{offerFor, offered, isDash, isTotal}
 use Rattle.items.specs.Answer.{Message, itemIn, row, parameters, itemCode, codeOf, settingsAfter, replyOf}
 use Rattle.items.proofs.Classes.{fitting, unnamed}
@@ -106,7 +107,9 @@ Shows code i =
 state-shows : Shows 0x0018 state
 unfolding shownBy
 state-shows size long s p room b may free q =
-    state-ways (λ (t : Settings). state .rule .value t q ≡ pick (eqb (runByte p) idle) (stateBytes idle (s .mode)) (stateBytes run (modeByte p)))
+    state-ways
+    (λ (t : Settings).
+    state .rule .value t q ≡ pick (eqb (runByte p) idle) (stateBytes idle (s .mode)) (stateBytes run (modeByte p)))
     (runByte p) (modeByte p) s
     (λ i. rw i)
     (λ i w. rw (i, w, same-mode i w))
@@ -114,7 +117,8 @@ state-shows size long s p room b may free q =
   where
     runs : eqb (runByte p) idle ≡ false → eqb (runByte p) run ≡ true
     runs i =
-        and-left (eqb (runByte p) run) (eqb (getD p 0 0) 0x80) (and-left (eqb (runByte p) run && eqb (getD p 0 0) 0x80) (isMode (modeByte p)) (rw i at may))
+        let may-run = and-left (eqb (runByte p) run && eqb (getD p 0 0) 0x80) (isMode (modeByte p)) (rw i at may) in
+        and-left (eqb (runByte p) run) (eqb (getD p 0 0) 0x80) may-run
 
     same-mode : eqb (runByte p) idle ≡ false → s .running ≡ true → s .mode ≡ modeByte p
     same-mode i w = sym (eqb-true (modeByte p) (s .mode) (not-false (eqb (modeByte p) (s .mode)) (rw (w, runs i) at free)))
@@ -154,7 +158,8 @@ unfolding codeOf
 asked-alike s t q kind = rw kind
 
 -- and its reply shows the value that its item has
-pub asked-shows : (s : Settings) (q : Message) → q .type ≡ typeRequest → codeOf s q ≡ 1 → replyOf s q ≡ showing q (row q .rule .value s (parameters q))
+pub asked-shows : (s : Settings) (q : Message) → q .type ≡ typeRequest → codeOf s q ≡ 1
+    → replyOf s q ≡ showing q (row q .rule .value s (parameters q))
 asked-shows s q kind h =
     answers s q h (rw kind refl) ∙ ap (λ (t : Settings). showing q (row q .rule .value t (parameters q))) (asked-leaves s q kind)
 
@@ -292,7 +297,8 @@ pub obeyed : (s : Settings) (m : Message) → isTotal (offered (row m) (m .type)
     → itemCode (row m) (m .type) s (parameters m) ≡ 1 → codeOf s m ≡ 1
 obeyed s m t free =
     let o = offers-at (itemIn m) in
-    let f = total-fits (offered (row m) (m .type)) (m .size) (offer-fits (row m .set) (row m .request) (row m .range) (m .type) (o .0) (o .1) (o .2)) t in
+    let fits = offer-fits (row m .set) (row m .request) (row m .range) (m .type) (o .0) (o .1) (o .2) in
+    let f = total-fits (offered (row m) (m .type)) (m .size) fits t in
     let k = offer-kind (row m .set) (row m .request) (row m .range) (m .type) (m .size) t in
     by-item s m
     (sym (fitting (m .type) (m .size) k (f .0) (f .1) ∙ unnamed (m .type) (m .size) (getD (m .held) 2 0) k))
