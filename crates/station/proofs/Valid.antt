@@ -62,7 +62,8 @@ feeding-by s host room =
 pub feeding-answered : (s : Settings) (t : Store) (host : List ℕ) (room : ℕ) → valid (box s t) ≡ true
     → finished (taken t host .store) ≡ true → length (replyOf s (messageIn (taken t host .store))) ≤ room
     → feedingOf (box s t) host room ≡ answered s (taken t host)
-feeding-answered s t host room v f r = rw (feeding-by (box s t) host room, v, f, le-ltb room (length (replyOf s (messageIn (taken t host .store)))) r)
+feeding-answered s t host room v f r =
+    rw (feeding-by (box s t) host room, v, f, le-ltb room (length (replyOf s (messageIn (taken t host .store)))) r)
 
 pub feeding-waiting : (s : Settings) (t : Store) (host : List ℕ) (room : ℕ) → valid (box s t) ≡ true
     → finished (taken t host .store) ≡ false → feedingOf (box s t) host room ≡ waiting s (taken t host)

@@ -30,8 +30,8 @@ same-length c = search needs
 
 returns : tie.Need-returns
 returns c =
-    let f = c .before .before .before .before in
-    (together _ (f .feed-held .result) (f .feed-held .last .1 .0) (f .feed-held .ensures .0) (f .feed-held .ensures .1), f .feed-held .ensures .2)
+    let f = c .before .before .before .before .feed-held in
+    (together _ (f .result) (f .last .1 .0) (f .ensures .0) (f .ensures .1), f .ensures .2)
 
 pub feed-spec : {M : Type 1} → statement M
 feed-spec = tie.close (tie.spec slice-aggregate-feed-held feed-held-requires same-length returns)
