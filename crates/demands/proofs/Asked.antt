@@ -7,7 +7,7 @@ use borrow.Author.Tests.{lt-leb, not-false}
 use mathlib.Core.Path.{_≡_, refl, sym, ap, _∙_}
 use mathlib.Core.Bool.{true, false}
 use mathlib.Core.List.{List, [], _++_, append-nil}
-use mathlib.Core.Logic.{_⊎_, inl, inr, _↔_}
+use mathlib.Core.Logic.{_⊎_, inl, inr}
 use lib.Dec.{leb, lit≤}
 use lib.ListN.{length, replicate}
 use Rattle.wire.specs.Number.{bytes, field}

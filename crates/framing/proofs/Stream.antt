@@ -11,7 +11,7 @@ use lib.ListN.{length, drop, length-drop}
 use Rattle.wire.specs.Choice.{pick}
 use Rattle.framing.specs.declared.Store.{Store}
 use Rattle.framing.specs.Framing.{Taking, pushed, finished, couldBeLeft, taken}
-use Rattle.framing.specs.Stream.{Stream, answered, waiting, called, calling, handing, eating, eaten, listed}
+use Rattle.framing.specs.Stream.{Stream, answered, waiting, called, calling, handing, eating, eaten}
 use Rattle.wire.specs.Lists.{joined}
 use Rattle.framing.proofs.Cutting.{added, taking-none, taking-on, count-added, taken-left}
 use Rattle.framing.proofs.Leaving.{left-open, between-left, pushed-left}
@@ -82,13 +82,3 @@ module _ {X : Type 0} (answer : X → Store → X) where
   handing-eaten r (p ∷ ps) h =
       rw (calling-eaten (length p) r p h (le-refl (length p)))
       (handing-eaten (eaten answer r p) ps (eaten-left r p h) ∙ sym (eaten-append r p (joined ps)))
-
-  -- Two ways of cutting the same bytes lead to the same store, and the same messages were answered in the same order.
-  pub same-stream : (r : Stream X) (ps qs : List (List ℕ)) → couldBeLeft (r .store) ≡ true → joined ps ≡ joined qs
-      → handing answer r ps ≡ handing answer r qs
-  same-stream r ps qs h e = handing-eaten r ps h ∙ ap (eaten answer r) e ∙ sym (handing-eaten r qs h)
-
--- and so are the finished messages themselves, whatever is done with them
-pub same-messages : (s : Store) (ps qs : List (List ℕ)) → couldBeLeft s ≡ true → joined ps ≡ joined qs
-    → handing listed (waiting [] s) ps ≡ handing listed (waiting [] s) qs
-same-messages s ps qs h e = same-stream listed (waiting [] s) ps qs h e

@@ -1,7 +1,7 @@
 -- Which messages a stream of the host's bytes consists of, however it is cut into pieces. What becomes of a message is
 -- `answer`'s to say: it is handed each finished store in turn, and gives the next state of whoever answers.
 use Prim.Native.Nat.{ℕ, zero, suc}
-use mathlib.Core.List.{List, [], _∷_, _++_}
+use mathlib.Core.List.{List, [], _∷_}
 use lib.ListN.{length, drop}
 use Rattle.wire.specs.Choice.{pick}
 use Rattle.framing.specs.declared.Store.{Store}
@@ -44,7 +44,3 @@ module _ {X : Type 0} (answer : X → Store → X) where
   unfoldable pub eaten : Stream X → List ℕ → Stream X
   eaten r [] = r
   eaten r (b ∷ bs) = eaten (eating r b) bs
-
--- the finished messages themselves, in order: each is added to those before it
-abbrev pub listed : List Store → Store → List Store
-listed before s = before ++ s ∷ []

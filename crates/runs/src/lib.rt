@@ -3,8 +3,6 @@
 use station::Station;
 use wire::codes;
 ghost use mathlib.Core.Path.{_≡_};
-ghost use lib.ListN.{length};
-ghost use lib.Seq.{sets};
 ghost use Rattle.runs.specs.Cutting.{started, cutRun};
 ghost use Rattle.runs.specs.Reading.{readRun};
 

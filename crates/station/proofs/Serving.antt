@@ -9,20 +9,18 @@ use mathlib.Core.List.{List, [], _∷_, _++_}
 use lib.ListN.{length, drop}
 use Rattle.wire.specs.Choice.{pick}
 use Rattle.wire.specs.Lists.{joined as joinedBytes}
-use Rattle.framing.specs.Framing.{taken, finished, couldBeLeft}
+use Rattle.framing.specs.Framing.{taken, finished}
 use Rattle.framing.specs.Stream as stream
 use Rattle.framing.specs.Stream.{Stream}
-use Rattle.framing.proofs.Cutting.{told, taken-left}
-use Rattle.framing.proofs.Leaving.{between-left}
+use Rattle.framing.proofs.Cutting.{told}
 use Rattle.framing.proofs.Stream.{handing-eaten}
-use Rattle.items.specs.Settings.{inRange}
 use Rattle.station.specs.Station.{valid}
 use Rattle.station.specs.Feeding.{messageIn, feedingOf}
 use Rattle.station.specs.Serving.{Served, called, calling, Piece, serving, joined, roomy, CutsDoNotMatter, Come, answer, begun}
 use Rattle.station.specs.Serving.{come, ServedToTheEnd}
 use Rattle.station.proofs.Calls.{feeding-keeps}
 use Rattle.station.proofs.Short.{reply-short}
-use Rattle.station.proofs.Valid.{valid-settings, valid-store, valid-both, feeding-answered, feeding-waiting}
+use Rattle.station.proofs.Valid.{valid-settings, valid-store, feeding-answered, feeding-waiting}
 
 -- a valid box
 abbrev Good : Stream Come → Type 0

@@ -1,5 +1,5 @@
 -- The eight tests are the definition's, the serial's before the others.
-use mathlib.Core.Path.{_≡_, refl, _∙_, sym}
+use mathlib.Core.Path.{_≡_, _∙_, sym}
 use mathlib.Core.Bool.{and-true, and-false}
 use lib.ListN.{length}
 use borrow.Author.Needs.{needs}
