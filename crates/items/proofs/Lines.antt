@@ -22,7 +22,8 @@ pub set-or-asked-else : (kind set request : ℕ) → (kind ≡ 0 → ⊥) → (k
 set-or-asked-else kind set request h0 h1 = simp (ne-eqb kind 0 h0, ne-eqb kind 1 h1, pick-same)
 
 -- the one line that has a range
-pub else : (kind : ℕ) (set request range : Offer) → (kind ≡ 0 → ⊥) → (kind ≡ 1 → ⊥) → (kind ≡ 2 → ⊥) → told dash ≡ told (offerFor set request range kind)
+pub else : (kind : ℕ) (set request range : Offer) → (kind ≡ 0 → ⊥) → (kind ≡ 1 → ⊥) → (kind ≡ 2 → ⊥)
+    → told dash ≡ told (offerFor set request range kind)
 else kind set request range h0 h1 h2 = simp (ne-eqb kind 0 h0, ne-eqb kind 1 h1, ne-eqb kind 2 h2)
 
 -- "12, 14, 13" in their order, from what the table says
@@ -37,7 +38,8 @@ code-by item kind size = go (listed item) (offered (rowOf item) kind)
     by false = refl
 
     go : (l : Bool) (o : Offer)
-        → codeBy (pick l (told o) (record { code = 12; length = 0 })) size ≡ pick (not l) 12 (pick (isDash o) 14 (pick (not (isTotal o size)) 13 1))
+        → codeBy (pick l (told o) (record { code = 12; length = 0 })) size
+        ≡ pick (not l) 12 (pick (isDash o) 14 (pick (not (isTotal o size)) 13 1))
     go false o = refl
     go true (total n) = by (eqb size n)
     go true dash = refl

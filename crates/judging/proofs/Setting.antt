@@ -27,4 +27,6 @@ pub set-by : (i : Item) (s : Settings) (p : List ℕ) {r : Judged} {to : Setting
     → r ≡ setBy i s p
 set-by i s p {to = to} e channel value locked stored =
     e
-    ∙ rw (channel, value, locked) (left s to (i .rule .stored s p) (channelAllowed (i .echoed) typeSet (getD p 0 0)) (i .rule .settable p) (s .running && i .rule .locked s p) stored)
+    ∙ rw (channel, value, locked)
+    (left s to (i .rule .stored s p) (channelAllowed (i .echoed) typeSet (getD p 0 0)) (i .rule .settable p)
+    (s .running && i .rule .locked s p) stored)
