@@ -1,5 +1,5 @@
 -- Header, table and item decide in turn; what the first of them refuses keeps its code and every setting.
-use Prim.Native.Nat.{ℕ, _-_}
+use Prim.Native.Nat.{ℕ}
 use mathlib.Core.Path.{_≡_, sym, ap, _∙_}
 use mathlib.Core.List.{List}
 use denote.Ref.{now}
