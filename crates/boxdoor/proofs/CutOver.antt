@@ -19,7 +19,7 @@ use Rattle.station.specs.Station.{boxOf}
 use Rattle.cutting.specs.Cutting.{Cutting, cuttingOf, partsOf}
 use Rattle.cutting.proofs.Ways.{each-cut, cutting-holds}
 use Rattle.boxdoor.specs.States.{settingsIn, settingsBytes, stationBytes}
-use Rattle.boxdoor.specs.Cutting.{Answer, cutBy, cutOver, packetOver}
+use Rattle.boxdoor.specs.Cutting.{CutAnswer, cutBy, cutOver, packetOver}
 use Rattle.boxdoor.proofs.Parts.{length-part}
 use Rattle.boxdoor.proofs.Fields.{parts-stored}
 use Rattle.boxdoor.proofs.Lent.{Read, lentBox, lent-is, box-after}
@@ -43,7 +43,7 @@ module _ (state : List ℕ) (samples : List ℤ) (room : ℕ) (l : Lent state sa
   cut = cuttingOf lent samples room .cut
 
   -- what comes over, from what came back
-  abbrev written : CutHeld → Answer
+  abbrev written : CutHeld → CutAnswer
   written k = record { code = k .code; wrote = k .wrote; state = pick (ltb (k .code) 20) (stationBytes (cut .station)) state }
 
   answer : (after : List ℕ) → after ≡ pick (ltb (r .code) 20) (stationBytes (cut .station)) state

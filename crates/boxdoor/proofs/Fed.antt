@@ -23,7 +23,7 @@ use Rattle.station.proofs.Kept.{serial-long}
 use Rattle.station.proofs.Valid.{valid-settings, valid-store, feeding-broken}
 use Rattle.station.proofs.Calls.{refused-returns, feeding-keeps}
 use Rattle.boxdoor.specs.States.{stationIn, settingsBytes, stationBytes}
-use Rattle.boxdoor.specs.Feeding.{Answer, fedOver, feedOver, repliedOver, freshOver, Tuned, tuned, tunedOver}
+use Rattle.boxdoor.specs.Feeding.{FeedAnswer, fedOver, feedOver, repliedOver, freshOver, Tuned, tuned, tunedOver}
 use Rattle.boxdoor.proofs.Parts.{length-part}
 use Rattle.boxdoor.proofs.Fields.{parts-stored, held-put}
 use Rattle.boxdoor.proofs.Lent.{Read, lentBox, lent-is, box-after}
@@ -49,7 +49,7 @@ module _ (state host : List ℕ) (room : ℕ) (l : Lent state host room) where
   fed = feedingOf lent host room .fed
 
   -- what comes over, from what came back
-  abbrev written : FedHeld → Answer
+  abbrev written : FedHeld → FeedAnswer
   written k =
       record {
         code = k .code;

@@ -19,7 +19,7 @@ use Rattle.items.specs.declared.Settings.{Settings}
 use Rattle.items.specs.declared.FreshSettings.{FreshSettings}
 use Rattle.items.specs.Settings.{isSerial, freshOf}
 use Rattle.framing.specs.Framing.{taken, finished}
-use Rattle.framing.proofs.Cutting.{told}
+use Rattle.framing.proofs.Cutting.{finished-taking}
 use Rattle.station.specs.declared.Station.{Station}
 use Rattle.station.specs.Station.{valid, freshBox}
 use Rattle.station.proofs.Valid.{comes-below, feeding-by, feeding-waiting, feeding-answered, each-way}
@@ -122,7 +122,7 @@ module _ (s : Station) (host : List ℕ) (room : ℕ) where
   waits-each : (code ≡ 0) ↔ ((valid s ≡ true) × (finished (taken (s .store) host .store) ≡ false))
   waits-each = (
     each-way (λ f. f .fed .code ≡ 0 → (valid s ≡ true) × (finished (taken (s .store) host .store) ≡ false)) s host room
-        (λ v e. absurd (omega arith)) (λ v e. absurd (omega arith)) (λ v f e. (v, told 0 (s .store) host ∙ f))
+        (λ v e. absurd (omega arith)) (λ v e. absurd (omega arith)) (λ v f e. (v, finished-taking 0 (s .store) host ∙ f))
         (λ v f enough e. absurd (not-waiting (s .settings) (finishedBy s host) e)),
     λ h. ap (λ (f : Feeding). f .fed .code) (feeding-waiting (s .settings) (s .store) host room (h .0) (h .1)),
   )
@@ -136,7 +136,7 @@ module _ (s : Station) (host : List ℕ) (room : ℕ) where
   own-asked n not-0 not-20 not-21 =
       each-way (λ f. f .fed .code ≡ n → Answers s host room) s host room
       (λ v e. absurd (not-21 (sym e))) (λ v e. absurd (not-20 (sym e))) (λ v f e. absurd (not-0 (sym e)))
-      (λ v f enough e. record { sound = v; finishes = told 0 (s .store) host ∙ f; fits = enough })
+      (λ v f enough e. record { sound = v; finishes = finished-taking 0 (s .store) host ∙ f; fits = enough })
 
   own-each : (n : ℕ) → 1 ≤ n → n < 20 → (code ≡ n) ↔ (Answers s host room × (ownCode ≡ n))
   own-each n least low = (
@@ -218,7 +218,8 @@ codes-given-exactly =
       fresh = fresh-each;
       waits = waits-each;
       feeding = feed-each;
-      own = own-each;
+      own = own-given;
+      ownExactly = own-each;
       answered = answered-each;
       message = message-each;
       cutting = λ s samples room. each _ 1 refl refl;

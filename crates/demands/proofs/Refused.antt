@@ -15,7 +15,7 @@ use Rattle.wire.proofs.Laws.{pick-keeps}
 use Rattle.framing.specs.Framing.{taking, taken, finished, announced, couldBeLeft}
 use Rattle.items.specs.Settings.{inRange}
 use Rattle.station.specs.Station.{valid, freshStation}
-use Rattle.framing.proofs.Cutting.{told, count-all}
+use Rattle.framing.proofs.Cutting.{finished-taking, count-all}
 use Rattle.items.specs.declared.Settings.{Settings}
 use Rattle.items.specs.Answer.{Message, codeOf, settingsAfter, replyOf}
 use Rattle.items.proofs.Judging.{reply-by-code}
@@ -73,7 +73,7 @@ waits-for-the-end s host room v less =
     let t = taken (s .store) host in
     let open-still : finished (t .store) ≡ false = rw (lt-leb (announced (t .store .held)) (t .store .taken) less, and-false) refl in
     let is = feeding-waiting (s .settings) (s .store) host room v open-still in
-    rw is (refl, count-all 0 (s .store) host (sym (told 0 (s .store) host) ∙ open-still) ∙ zero-add (length host), refl)
+    rw is (refl, count-all 0 (s .store) host (sym (finished-taking 0 (s .store) host) ∙ open-still) ∙ zero-add (length host), refl)
 
 -- 64 bytes of a set of 65 are not answered yet
 pub naks-early-fails : WaitsForTheEnd naksAt64 → ⊥

@@ -28,7 +28,7 @@ use Rattle.items.proofs.Judging.{is-listed, has-length, has-value, is-free, aft
 use Rattle.items.proofs.States.{state-ways}
 use Rattle.items.proofs.Rows.{Each, _then_, found-at, row-code}
 use Rattle.station.proofs.Kept.{left-alone, accepted-set}
-use Rattle.demands.specs.Shown.{OthersUnchanged, shownBy, valueSet, Held, showing, touches, changes, afterAll, noneChanges}
+use Rattle.demands.specs.Shown.{OthersUnchanged, shownBy, valueSet, HeldWhole, showing, touches, changes, afterAll, noneChanges}
 
 -- ---- every other item is as it was
 
@@ -178,7 +178,7 @@ stores : (s : Settings) (m : Message) → codeOf s m ≡ 1 → m .type ≡ typeS
 stores s m h kind = accepted-set s m (and-both (eqb (codeOf s m) 1) (eqb (m .type) typeSet) (eq-eqb _ _ h) (eq-eqb _ _ kind))
 
 -- after it, its item has the value set
-pub has-value-set : (s : Settings) (m : Message) → codeOf s m ≡ 1 → m .type ≡ typeSet → Held m
+pub has-value-set : (s : Settings) (m : Message) → codeOf s m ≡ 1 → m .type ≡ typeSet → HeldWhole m
     → (q : List ℕ) → row m .rule .value (settingsAfter s m) q ≡ valueSet s m
 has-value-set s m h kind held q =
     rw (stores s m h kind)
@@ -187,7 +187,7 @@ has-value-set s m h kind held q =
     (rw kind at (is-free s m h)) q)
 
 -- "is echoed": the reply to an accepted set has the value set
-pub set-replies : (s : Settings) (m : Message) → codeOf s m ≡ 1 → m .type ≡ typeSet → Held m
+pub set-replies : (s : Settings) (m : Message) → codeOf s m ≡ 1 → m .type ≡ typeSet → HeldWhole m
     → replyOf s m ≡ showing m (valueSet s m)
 set-replies s m h kind held =
     answers s m h (rw kind refl) ∙ ap (showing m) (has-value-set s m h kind held (parameters m))
@@ -195,7 +195,7 @@ set-replies s m h kind held =
 -- "later requests show the setting": after an accepted set, and any messages that do not change what its item shows, an
 -- accepted request of the item shows the value set
 pub set-shows-later : (s : Settings) (m : Message) (ms : List Message) (q : Message)
-    → codeOf s m ≡ 1 → m .type ≡ typeSet → Held m
+    → codeOf s m ≡ 1 → m .type ≡ typeSet → HeldWhole m
     → noneChanges (itemIn m) (settingsAfter s m) ms
     → q .type ≡ typeRequest → itemIn q ≡ itemIn m → codeOf (afterAll (settingsAfter s m) ms) q ≡ 1
     → replyOf (afterAll (settingsAfter s m) ms) q ≡ showing q (valueSet s m)

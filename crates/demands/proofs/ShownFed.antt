@@ -31,7 +31,8 @@ use Rattle.cutting.specs.Cutting.{cuttingOf}
 use Rattle.cutting.proofs.Ways.{each-cut, cutting-keeps}
 use Rattle.demands.proofs.OneMessage.{tookAll, one-message, whole-answered}
 use Rattle.station.proofs.Calls.{feeding-keeps}
-use Rattle.demands.specs.Shown.{shownBy, valueSet, Held, showing, OneMessage, messageOf, resting, hasRoom, repliesWith, ShowsSets}
+use Rattle.demands.specs.Shown.{shownBy, valueSet, HeldWhole, showing, OneMessage, messageOf, resting, hasRoom, repliesWith}
+use Rattle.demands.specs.Shown.{ShowsSets}
 use Rattle.demands.specs.Shown.{finishedBy, naksAll, echoesOnly, Undisturbed, still, fed, cut, FedSetShowsLater, FedSameAnswer}
 use Rattle.demands.specs.Shown.{FedStateShowsInStatus}
 use Rattle.demands.proofs.Shown.{Same, message-leaves, asked-alike, asked-shows, answered-alike, has-value-set, set-replies}
@@ -68,7 +69,7 @@ module _ (m : List ℕ) (one : OneMessage m) (s : Settings) (low : messageOf m .
   most = omega (arith, long, size-small)
 
   -- it is held whole
-  pub held-whole : Held (messageOf m)
+  pub held-whole : HeldWhole (messageOf m)
   held-whole =
       let room : length (m ++ replicate (64 - length m) 0) ≡ 64 = simp (length-append, length-replicate) (omega (arith, most)) in
       record {

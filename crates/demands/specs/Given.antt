@@ -56,8 +56,11 @@ pub record GivenExactly : Type 0 where
       → (feedingOf s host room .fed .code ≡ Code.waiting)
       ↔ ((valid s ≡ true) × (finished (taken (s .store) host .store) ≡ false))
   pub feeding : (s : Station) (host : List ℕ) (room : ℕ) → EachExactly (feedChecks s host room) (feedingOf s host room .fed .code)
-  -- 1, 2 and 10 to 17, the message's own: a call that answers it gives its code, and no other call gives one of these
-  pub own : (s : Station) (host : List ℕ) (room code : ℕ) → 1 ≤ code → code < 20
+  -- a call that answers a message gives the message's own code
+  pub own : (s : Station) (host : List ℕ) (room : ℕ) → Answers s host room
+      → feedingOf s host room .fed .code ≡ codeOf (s .settings) (finishedBy s host)
+  -- and no other call gives one of these: 1, 2 and 10 to 17
+  pub ownExactly : (s : Station) (host : List ℕ) (room code : ℕ) → 1 ≤ code → code < 20
       → (feedingOf s host room .fed .code ≡ code) ↔ (Answers s host room × (codeOf (s .settings) (finishedBy s host) ≡ code))
   -- so each check of the message is the call's, where the call answers it
   pub answered : (s : Station) (host : List ℕ) (room : ℕ) (before : List Check) (c : Check) (after : List Check)

@@ -64,7 +64,7 @@ abbrev pub valueSet : Settings → Message → List ℕ
 valueSet s m = shownBy (itemIn m) s (parameters m)
 
 -- all of the message is held, and each place holds a byte
-pub record Held (m : Message) : Type 0 where
+pub record HeldWhole (m : Message) : Type 0 where
   pub whole : m .size ≤ length (m .held)
   pub areBytes : allBytes (m .held)
 

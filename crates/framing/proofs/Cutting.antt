@@ -55,8 +55,8 @@ taking-by P none done more n s (b ∷ bs) = go (finished s) refl (taking-by P no
 pub stopped-there : (n : ℕ) (s : Store) (host : List ℕ) → stopped (taking n s host .count) (taking n s host .store) ≡ taking n s host
 stopped-there = taking-by (λ n s host t. stopped (t .count) (t .store) ≡ t) (λ n s. refl) (λ n s b bs f. refl) (λ n s b bs t f ih. ih)
 
-pub told : (n : ℕ) (s : Store) (host : List ℕ) → finished (taking n s host .store) ≡ taking n s host .finished
-told n s host = ap (λ (t : Taking). t .finished) (stopped-there n s host)
+pub finished-taking : (n : ℕ) (s : Store) (host : List ℕ) → finished (taking n s host .store) ≡ taking n s host .finished
+finished-taking n s host = ap (λ (t : Taking). t .finished) (stopped-there n s host)
 
 pub count-least : (n : ℕ) (s : Store) (host : List ℕ) → n ≤ taking n s host .count
 count-least = taking-by (λ n s host t. n ≤ t .count) (λ n s. omega arith) (λ n s b bs f. omega arith) (λ n s b bs t f ih. omega arith)
@@ -106,7 +106,7 @@ cut n s (x ∷ a) b = go (finished s) refl (cut (n + 1) (pushed s x) a b)
 
 pub taken-left : (n : ℕ) (s : Store) (host : List ℕ) → couldBeLeft s ≡ true → taking n s host .finished ≡ false
     → couldBeLeft (taking n s host .store) ≡ true
-taken-left n s host h f = kept n s host (λ g. h) (told n s host ∙ f)
+taken-left n s host h f = kept n s host (λ g. h) (finished-taking n s host ∙ f)
   where
     kept : (n : ℕ) (s : Store) (host : List ℕ) → (finished s ≡ false → couldBeLeft s ≡ true)
         → finished (taking n s host .store) ≡ false → couldBeLeft (taking n s host .store) ≡ true
@@ -147,7 +147,7 @@ last-byte s b f g =
 -- So is a finished message: all that its header announces is taken, and no more.
 pub finished-whole : (n : ℕ) (s : Store) (host : List ℕ) → finished s ≡ false → taking n s host .finished ≡ true
     → (2 ≤ taking n s host .store .taken) × (taking n s host .store .taken ≡ announced (taking n s host .store .held))
-finished-whole n s host f g = whole n s host (λ e. absurd (true-not-false (sym e ∙ f))) (told n s host ∙ g)
+finished-whole n s host f g = whole n s host (λ e. absurd (true-not-false (sym e ∙ f))) (finished-taking n s host ∙ g)
   where
     whole : (n : ℕ) (s : Store) (host : List ℕ) → (finished s ≡ true → (2 ≤ s .taken) × (s .taken ≡ announced (s .held)))
         → finished (taking n s host .store) ≡ true

@@ -12,7 +12,7 @@ use Rattle.wire.specs.Lists.{joined as joinedBytes}
 use Rattle.framing.specs.Framing.{taken, finished}
 use Rattle.framing.specs.Stream as stream
 use Rattle.framing.specs.Stream.{Stream}
-use Rattle.framing.proofs.Cutting.{told}
+use Rattle.framing.proofs.Cutting.{finished-taking}
 use Rattle.framing.proofs.Stream.{handing-eaten}
 use Rattle.station.specs.Station.{valid}
 use Rattle.station.specs.Feeding.{messageIn, feedingOf}
@@ -38,14 +38,14 @@ next-come room r host enough g = go (taken (r .store) host .finished) refl
   where
     go : (d : Bool) → taken (r .store) host .finished ≡ d
         → let t = taken (r .store) host .store in
-        (called room (come r) host ≡ come (pick d (stream.answered answer (r .state) t) (stream.waiting (r .state) t)))
+        (called room (come r) host ≡ come (pick d (stream.answered answer (r .state) t) (stream.keeping (r .state) t)))
         × (feedingOf (come r .station) host room .fed .consumed ≡ taken (r .store) host .count)
     go true f =
         let s = r .state .settings in
         let short = reply-short s (messageIn (taken (r .store) host .store)) (valid-settings s (r .store) g) in
-        rw (feeding-answered s (r .store) host room g (told 0 (r .store) host ∙ f) (le-trans short enough)) (refl, refl)
+        rw (feeding-answered s (r .store) host room g (finished-taking 0 (r .store) host ∙ f) (le-trans short enough)) (refl, refl)
     go false f =
-        rw (feeding-waiting (r .state .settings) (r .store) host room g (told 0 (r .store) host ∙ f))
+        rw (feeding-waiting (r .state .settings) (r .store) host room g (finished-taking 0 (r .store) host ∙ f))
         (refl, refl)
 
 -- and leaves a valid box

@@ -12,7 +12,7 @@ use Rattle.wire.specs.Choice.{pick}
 use Rattle.wire.proofs.Laws.{and-left, and-right, and-both, pick-keeps}
 use Rattle.framing.specs.declared.Store.{Store}
 use Rattle.framing.specs.Framing.{Taking, taken, finished, couldBeLeft}
-use Rattle.framing.proofs.Cutting.{told}
+use Rattle.framing.proofs.Cutting.{finished-taking}
 use Rattle.items.specs.declared.Settings.{Settings}
 use Rattle.items.specs.Settings.{inRange}
 use Rattle.items.specs.Answer.{replyOf}
@@ -77,7 +77,7 @@ module _ (s : Station) (host : List ℕ) (room : ℕ) where
 
   module _ (t : Taking) (v : valid s ≡ true) (e : t ≡ taken (s .store) host) where
     ends : t .finished ≡ finished (taken (s .store) host .store)
-    ends = ap (λ (k : Taking). k .finished) e ∙ sym (told 0 (s .store) host)
+    ends = ap (λ (k : Taking). k .finished) e ∙ sym (finished-taking 0 (s .store) host)
 
     pub feeding-open : t .finished ≡ false → waiting (s .settings) t ≡ feedingOf s host room
     feeding-open f = rw (feeding-by s host room, v, sym ends ∙ f, e, le-ltb room 0 (omega arith))
@@ -110,6 +110,6 @@ module _ (P : Feeding → Type 0) (s : Station) (host : List ℕ) (room : ℕ) w
           P (pick (ltb room (length (f .bytes))) (refused 20 s) f)
       by-end v true f =
           pick-keeps P (ltb room (length (reply s host))) _ _ (λ l. short v)
-          (λ l. done v (sym (told 0 (s .store) host) ∙ f) (ltb-false room (length (reply s host)) l))
+          (λ l. done v (sym (finished-taking 0 (s .store) host) ∙ f) (ltb-false room (length (reply s host)) l))
       by-end v false f =
-          pick-keeps P (ltb room 0) _ _ (λ l. short v) (λ l. wait v (sym (told 0 (s .store) host) ∙ f))
+          pick-keeps P (ltb room 0) _ _ (λ l. short v) (λ l. wait v (sym (finished-taking 0 (s .store) host) ∙ f))

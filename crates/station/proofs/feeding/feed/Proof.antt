@@ -38,7 +38,8 @@ returns c =
     let fed = c .before .before .before .before in
     let f = fed .feed-held in
     let a = start fed .args in (
-      together (feedingOf (a .s) (now (a .host)) (length (now (a .reply))) .fed) (f .result) (f .last .1 .0) (f .ensures .0) (f .ensures .1),
+      together (feedingOf (a .s) (now (a .host)) (length (now (a .reply))) .fed) (f .result) (f .last .1 .0) (f .ensures .0)
+          (f .ensures .1),
       f .ensures .2,
     )
 
