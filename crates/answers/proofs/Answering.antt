@@ -15,7 +15,7 @@ use Rattle.items.specs.declared.Settings.{Settings}
 use Rattle.items.specs.Items.{Item, rowOf}
 use Rattle.items.specs.Answer.{Message, itemIn, row, parameters, codeOf, settingsAfter, replyOf, replyTo, replyBody, rangeBody, framed}
 use Rattle.items.proofs.Judging.{reply-by-code}
-use Rattle.items.proofs.Rows.{found}
+use Rattle.items.proofs.Rows.{_then_, found}
 use Rattle.answers.specs.declared.Answered.{Answered}
 use Rattle.answers.specs.Replies.{answerOf}
 use Rattle.answers.specs.Inside.{countIn, bytesIn, due}
@@ -31,48 +31,30 @@ FirstOnly i = (s : Settings) (p : List ℕ) → 0 < length p → replyBody i s p
 
 first-only : (code : ℕ) → FirstOnly (rowOf code)
 first-only code =
-    found FirstOnly (λ s p h. refl) (
-      (λ s p h. refl),
-      (
-        (λ s p h. refl),
-        (
-          (λ s p h. refl),
-          (
-            (λ s p h. rw (take-one p h)),
-            (
-              (λ s p h. refl),
-              (
-                (λ s p h. refl),
-                (
-                  (λ s p h. rw (take-one p h)),
-                  (
-                    (λ s p h. rw (take-one p h)),
-                    (
-                      (λ s p h. rw (take-one p h)),
-                      (
-                        (λ s p h. rw (take-one p h)),
-                        (
-                          (λ s p h. refl),
-                          tt,
-                        ),
-                      ),
-                    ),
-                  ),
-                ),
-              ),
-            ),
-          ),
-        ),
-      ),
-    )
+    found FirstOnly (λ s p h. refl)
+    ((λ s p h. refl)
+    then (λ s p h. refl)
+    then (λ s p h. refl)
+    then (λ s p h. rw (take-one p h))
+    then (λ s p h. refl)
+    then (λ s p h. refl)
+    then (λ s p h. rw (take-one p h))
+    then (λ s p h. rw (take-one p h))
+    then (λ s p h. rw (take-one p h))
+    then (λ s p h. rw (take-one p h))
+    then (λ s p h. refl)
+    then tt)
     code
 
-reply-first : (code kind : ℕ) (s : Settings) (p : List ℕ) → 0 < length p → replyTo (rowOf code) kind s p ≡ replyTo (rowOf code) kind s (getD p 0 0 ∷ [])
+-- the reply, by whether the range was asked for
+abbrev replying : Item → Settings → List ℕ → Bool → List ℕ
+replying i s p range = pick range (framed typeRangeReply (rangeBody i p)) (framed typeReply (replyBody i s p))
+
+reply-first : (code kind : ℕ) (s : Settings) (p : List ℕ) → 0 < length p
+    → replyTo (rowOf code) kind s p ≡ replyTo (rowOf code) kind s (getD p 0 0 ∷ [])
 reply-first code kind s p h = go (eqb kind typeRange)
   where
-    go : (b : Bool)
-        → pick b (framed typeRangeReply (rangeBody (rowOf code) p)) (framed typeReply (replyBody (rowOf code) s p))
-        ≡ pick b (framed typeRangeReply (rangeBody (rowOf code) (getD p 0 0 ∷ []))) (framed typeReply (replyBody (rowOf code) s (getD p 0 0 ∷ [])))
+    go : (b : Bool) → replying (rowOf code) s p b ≡ replying (rowOf code) s (getD p 0 0 ∷ []) b
     go true = rw (take-one p h)
     go false = ap (framed typeReply) (first-only code s p h)
 
@@ -83,22 +65,26 @@ module _ (s : Settings) (m : Message) where
   unfolding replyOf
   unanswered-reply e = rw e refl
 
-  pub due-reply : 4 < length (m .held) → (codeOf s m ≡ 2 → ⊥)
+  due-reply : 4 < length (m .held) → (codeOf s m ≡ 2 → ⊥)
       → due (codeOf s m) (m .type) (itemIn m) (getD (m .held) 4 0) (settingsAfter s m) ≡ replyOf s m
   due-reply h answered =
       let p = parameters m in
       let some : 0 < length p = rw (length-drop 4 (m .held)) (omega arith) in
       let first : getD p 0 0 ≡ getD (m .held) 4 0 = getD-drop 4 (m .held) 0 0 in
-      rw (reply-by-code s m, ne-eqb (codeOf s m) 2 answered)
-      (ap (λ (l : List ℕ). pick (eqb (codeOf s m) 1) l nak)
-      (sym (reply-first (itemIn m) (m .type) (settingsAfter s m) p some ∙ ap (λ (b : ℕ). replyTo (row m) (m .type) (settingsAfter s m) (b ∷ [])) first)))
+      let after = settingsAfter s m in
+      let of-first = reply-first (itemIn m) (m .type) after p some ∙ ap (λ (b : ℕ). replyTo (row m) (m .type) after (b ∷ [])) first in
+      rw (reply-by-code s m, ne-eqb (codeOf s m) 2 answered) (ap (λ (l : List ℕ). pick (eqb (codeOf s m) 1) l nak) (sym of-first))
+
+  -- of a message that was judged
+  pub judged-reply : (code item : ℕ) (after : Settings) → code ≡ codeOf s m → item ≡ itemIn m → after ≡ settingsAfter s m
+      → 4 < length (m .held) → (code ≡ 2 → ⊥) → due code (m .type) item (getD (m .held) 4 0) after ≡ replyOf s m
+  judged-reply code item after c i a long answered = rw (c, i, a) (due-reply long (λ e. answered (c ∙ e)))
 
 -- something is due
 pub some-due : (code kind item echo : ℕ) (s : Settings) → 0 < length (due code kind item echo s)
 some-due code kind item echo s = go (eqb code 1) (eqb kind typeRange)
   where
-    go : (a b : Bool)
-        → 0 < length (pick a (pick b (framed typeRangeReply (rangeBody (rowOf item) (echo ∷ []))) (framed typeReply (replyBody (rowOf item) s (echo ∷ [])))) nak)
+    go : (a b : Bool) → 0 < length (pick a (replying (rowOf item) s (echo ∷ []) b) nak)
     go false b = lit< tt
     go true true = lit< tt
     go true false = omega arith
@@ -118,7 +104,8 @@ module _ (s : Settings) (m : Message) (l : List ℕ) where
       let free = le-ltb (length l) 0 (omega arith) in
       (rw (none, free, ← c, two, a) refl, rw (none, free) refl)
 
-  module _ (w : ℕ) (k reply : List ℕ) (is : reply ≡ replyOf s m) (count : w ≡ countIn (length l) reply) (left : k ≡ sets l 0 (bytesIn (length l) reply)) where
+  module _ (w : ℕ) (k reply : List ℕ) (is : reply ≡ replyOf s m) (count : w ≡ countIn (length l) reply)
+      (left : k ≡ sets l 0 (bytesIn (length l) reply)) where
     -- there is no room
     pub answers-short : 0 < length reply → w ≡ 0 → Answers (record { code = 20; wrote = 0; settings = s }) k
     unfolding answerOf

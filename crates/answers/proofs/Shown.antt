@@ -16,7 +16,8 @@ use Rattle.items.specs.Items.{echoes, Item, noItem, rowOf}
 use Rattle.items.specs.Answer.{framed, replyBody}
 use Rattle.answers.specs.Inside.{plainly, echoing}
 
-module _ (i : Item) (item width value : ℕ) (s : Settings) (echo : ℕ) (code : i .code ≡ item) (shown : i .rule .value s (echo ∷ []) ≡ bytes width value) where
+module _ (i : Item) (item width value : ℕ) (s : Settings) (echo : ℕ) (code : i .code ≡ item)
+    (shown : i .rule .value s (echo ∷ []) ≡ bytes width value) where
   -- without an echoed byte
   pub shows-plainly : echoes (i .echoed) ≡ 0 → laid (plainly item width value) ≡ framed typeReply (replyBody i s (echo ∷ []))
   shows-plainly none =

@@ -48,11 +48,12 @@ serial-bytes serial long small v is =
     ap (bytes 9) same ∙ (rw nine at (bytes-number (serial ++ 0x00 ∷ []) (small-zero serial small)))
 
 -- the reply to a request of a version, and to one of what is none
-pub version-laid : (id : ℕ) → isVersion id ≡ true
-    → laid (echoing 0x0004 id 2 (number (getD versionTable id []))) ≡ framed typeReply (replyBody versions (freshOf []) (id ∷ []))
-version-laid =
-    version-has (λ id. laid (echoing 0x0004 id 2 (number (getD versionTable id []))) ≡ framed typeReply (replyBody versions (freshOf []) (id ∷ [])))
-    refl refl refl refl
+abbrev versionReply : ℕ → List ℕ
+versionReply id = framed typeReply (replyBody versions (freshOf []) (id ∷ []))
 
-pub no-version : (id : ℕ) → isVersion id ≡ false → laid (echoing 0x0004 id 0 0) ≡ framed typeReply (replyBody versions (freshOf []) (id ∷ []))
-no-version = no-version-has (λ id. laid (echoing 0x0004 id 0 0) ≡ framed typeReply (replyBody versions (freshOf []) (id ∷ []))) (λ k. refl)
+pub version-laid : (id : ℕ) → isVersion id ≡ true → laid (echoing 0x0004 id 2 (number (getD versionTable id []))) ≡ versionReply id
+version-laid =
+    version-has (λ id. laid (echoing 0x0004 id 2 (number (getD versionTable id []))) ≡ versionReply id) refl refl refl refl
+
+pub no-version : (id : ℕ) → isVersion id ≡ false → laid (echoing 0x0004 id 0 0) ≡ versionReply id
+no-version = no-version-has (λ id. laid (echoing 0x0004 id 0 0) ≡ versionReply id) (λ k. refl)

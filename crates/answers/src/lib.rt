@@ -24,7 +24,8 @@ pub fn answer(s: Settings, kind: u8, size: u16, opening: &[u8; 10], reply: &mut 
     ensures { λ r.
         ⌜ (r ≡ answerOf s (record { type = kind; size = size; held = now (opening .entry) }) (length (now (reply .entry))) .answered)
         × (now (reply .exit)
-        ≡ sets (now (reply .entry)) 0 (answerOf s (record { type = kind; size = size; held = now (opening .entry) }) (length (now (reply .entry))) .bytes)) ⌝ }
+        ≡ sets (now (reply .entry)) 0
+        (answerOf s (record { type = kind; size = size; held = now (opening .entry) }) (length (now (reply .entry))) .bytes)) ⌝ }
 {
     let judged = judging::judge(s, kind, size, opening);
     let code = judged.code;

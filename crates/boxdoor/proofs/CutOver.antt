@@ -15,10 +15,11 @@ use Rattle.framing.specs.declared.Store.{Store}
 use Rattle.station.specs.declared.Station.{Station}
 use Rattle.cutting.specs.declared.Cut.{Cut}
 use Rattle.cutting.specs.declared.CutHeld.{CutHeld}
+use Rattle.station.specs.Station.{boxOf}
 use Rattle.cutting.specs.Cutting.{Cutting, cuttingOf, partsOf}
 use Rattle.cutting.proofs.Ways.{each-cut, cutting-holds}
 use Rattle.boxdoor.specs.States.{settingsIn, settingsBytes, stationBytes}
-use Rattle.boxdoor.specs.Cutting.{cutBy, cutOver, packetOver}
+use Rattle.boxdoor.specs.Cutting.{CutAnswer, cutBy, cutOver, packetOver}
 use Rattle.boxdoor.proofs.Parts.{length-part}
 use Rattle.boxdoor.proofs.Fields.{parts-stored}
 use Rattle.boxdoor.proofs.Lent.{Read, lentBox, lent-is, box-after}
@@ -41,17 +42,23 @@ module _ (state : List ℕ) (samples : List ℤ) (room : ℕ) (l : Lent state sa
   abbrev cut : Cut
   cut = cuttingOf lent samples room .cut
 
+  -- what comes over, from what came back
+  abbrev written : CutHeld → CutAnswer
+  written k = record { code = k .code; wrote = k .wrote; state = pick (ltb (k .code) 20) (stationBytes (cut .station)) state }
+
   answer : (after : List ℕ) → after ≡ pick (ltb (r .code) 20) (stationBytes (cut .station)) state
       → record { code = r .code; wrote = r .wrote; state = after } ≡ cutOver state samples room
   unfolding cutBy cutOver
   answer after e =
       rw e
-      (ap (λ (k : CutHeld). record { code = k .code; wrote = k .wrote; state = pick (ltb (k .code) 20) (stationBytes (cut .station)) state }) (l .told)
+      (ap written (l .told)
       ∙ rw (eq-eqb (length state) 108 (l .box .long), ← lent-is state (l .box)) refl)
 
   -- the serial stays
   same-serial : cut .station .settings .serial ≡ l .box .settings .serial
-  same-serial = each-cut (λ (c : Cutting). c .cut .station .settings .serial ≡ l .box .settings .serial) lent samples room (λ e. refl) (λ n. refl)
+  same-serial =
+      each-cut (λ (c : Cutting). c .cut .station .settings .serial ≡ l .box .settings .serial) lent samples room
+      (λ e. refl) (λ n. refl)
 
   serial-long : length (r .settings .serial) ≡ 8
   unfolding settingsIn
@@ -61,16 +68,20 @@ module _ (state : List ℕ) (samples : List ℤ) (room : ℕ) (l : Lent state sa
       → record { code = r .code; wrote = r .wrote; state = after } ≡ cutOver state samples room
   cut-done after low e =
       let holds = sym (cutting-holds lent samples room) in
+      let same : boxOf (r .settings) (midOf 36 64 state) (l .box .taken) ≡ cut .station =
+      box-after (cut .station) (r .settings) (midOf 36 64 state) (l .box .taken)
+      (ap (λ (k : CutHeld). k .settings) (l .told)) (ap (λ (k : Store). k .held) holds) (ap (λ (k : Store). k .taken) holds) in
       answer after
       (e
       ∙ parts-stored (r .settings) (midOf 36 64 state) state (l .box .taken) (l .box .long) serial-long refl
-      ∙ ap stationBytes (box-after (cut .station) (r .settings) (midOf 36 64 state) (l .box .taken) (ap (λ (k : CutHeld). k .settings) (l .told)) (ap (λ (k : Store). k .held) holds) (ap (λ (k : Store). k .taken) holds))
+      ∙ ap stationBytes same
       ∙ rw (lt-ltb (r .code) 20 low) refl)
 
   pub cut-refused : 20 ≤ r .code → record { code = r .code; wrote = r .wrote; state = state } ≡ cutOver state samples room
   cut-refused high = answer state (rw (le-ltb (r .code) 20 high) refl)
 
-  pub packet-whole : (packet after : List ℕ) → after ≡ sets packet 0 (cuttingOf lent samples room .bytes) → after ≡ sets packet 0 (packetOver state samples room)
+  pub packet-whole : (packet after : List ℕ) → after ≡ sets packet 0 (cuttingOf lent samples room .bytes)
+      → after ≡ sets packet 0 (packetOver state samples room)
   unfolding packetOver
   packet-whole packet after q = rw (q, eq-eqb (length state) 108 (l .box .long), ← lent-is state (l .box)) refl
 
@@ -80,6 +91,7 @@ pub cut-broken : (state : List ℕ) (samples : List ℤ) (room : ℕ) → (lengt
 unfolding cutBy cutOver
 cut-broken state samples room other = rw (ne-eqb (length state) 108 other)
 
-pub packet-broken : (state packet : List ℕ) (samples : List ℤ) (room : ℕ) → (length state ≡ 108 → ⊥) → packet ≡ sets packet 0 (packetOver state samples room)
+pub packet-broken : (state packet : List ℕ) (samples : List ℤ) (room : ℕ) → (length state ≡ 108 → ⊥)
+    → packet ≡ sets packet 0 (packetOver state samples room)
 unfolding packetOver
 packet-broken state packet samples room other = rw (ne-eqb (length state) 108 other)

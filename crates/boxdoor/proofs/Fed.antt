@@ -12,18 +12,18 @@ use lib.Seq.{sets}
 use Rattle.wire.specs.Choice.{pick}
 use Rattle.wire.specs.Number.{bytes}
 use Rattle.wire.specs.Told.{Told}
-use Rattle.station.specs.declared.Began.{Began}
+use Rattle.station.specs.declared.FreshBox.{FreshBox}
 use Rattle.station.specs.declared.Fed.{Fed}
 use Rattle.station.specs.declared.FedHeld.{FedHeld}
 use Rattle.station.specs.declared.Station.{Station}
-use Rattle.station.specs.Station.{valid, freshBox, tuningTold}
+use Rattle.station.specs.Station.{boxOf, valid, freshBox, tuningTold}
 use Rattle.station.specs.Feeding.{Feeding, feedingOf, partsOf}
 use Rattle.framing.proofs.Leaving.{left-long}
 use Rattle.station.proofs.Kept.{serial-long}
 use Rattle.station.proofs.Valid.{valid-settings, valid-store, feeding-broken}
 use Rattle.station.proofs.Calls.{refused-returns, feeding-keeps}
 use Rattle.boxdoor.specs.States.{stationIn, settingsBytes, stationBytes}
-use Rattle.boxdoor.specs.Feeding.{fedOver, feedOver, repliedOver, freshOver, Tuned, tuned, tunedOver}
+use Rattle.boxdoor.specs.Feeding.{FeedAnswer, fedOver, feedOver, repliedOver, freshOver, Tuned, tuned, tunedOver}
 use Rattle.boxdoor.proofs.Parts.{length-part}
 use Rattle.boxdoor.proofs.Fields.{parts-stored, held-put}
 use Rattle.boxdoor.proofs.Lent.{Read, lentBox, lent-is, box-after}
@@ -48,12 +48,22 @@ module _ (state host : List ℕ) (room : ℕ) (l : Lent state host room) where
   abbrev fed : Fed
   fed = feedingOf lent host room .fed
 
+  -- what comes over, from what came back
+  abbrev written : FedHeld → FeedAnswer
+  written k =
+      record {
+        code = k .code;
+        consumed = k .consumed;
+        wrote = k .wrote;
+        state = pick (ltb (k .code) 20) (stationBytes (fed .station)) state;
+      }
+
   answer : (after : List ℕ) → after ≡ pick (ltb (f .code) 20) (stationBytes (fed .station)) state
       → record { code = f .code; consumed = f .consumed; wrote = f .wrote; state = after } ≡ feedOver state host room
   unfolding fedOver feedOver
   answer after e =
       rw e
-      (ap (λ (k : FedHeld). record { code = k .code; consumed = k .consumed; wrote = k .wrote; state = pick (ltb (k .code) 20) (stationBytes (fed .station)) state }) (l .told)
+      (ap written (l .told)
       ∙ rw (eq-eqb (length state) 108 (l .box .long), ← lent-is state (l .box)) refl)
 
   -- a box that was not refused was a valid one, and still is
@@ -70,24 +80,33 @@ module _ (state host : List ℕ) (room : ℕ) (l : Lent state host room) where
       → after ≡ sets (sets (putMid 36 64 state (l .held)) 0 (settingsBytes (f .settings))) 100 (bytes 8 (f .taken))
       → record { code = f .code; consumed = f .consumed; wrote = f .wrote; state = after } ≡ feedOver state host room
   feed-done after low e =
-      let serial : length (f .settings .serial) ≡ 8 = rw (l .told) (serial-long (fed .station .settings) (valid-settings (fed .station .settings) (fed .station .store) (still-valid low))) in
-      let many : length (l .held) ≡ 64 = rw (l .kept) (left-long (fed .station .store) (valid-store (fed .station .settings) (fed .station .store) (still-valid low))) in
+      let s = fed .station in
+      let v = still-valid low in
+      let serial : length (f .settings .serial) ≡ 8 =
+      rw (l .told) (serial-long (s .settings) (valid-settings (s .settings) (s .store) v)) in
+      let many : length (l .held) ≡ 64 = rw (l .kept) (left-long (s .store) (valid-store (s .settings) (s .store) v)) in
       let part : length (midOf 36 64 state) ≡ 64 = length-part 36 64 state (omega arith) in
       let size : length (putMid 36 64 state (l .held)) ≡ 108 = same-len-mid 36 64 state (l .held) (many ∙ sym part) ∙ l .box .long in
+      let same : boxOf (f .settings) (l .held) (f .taken) ≡ s =
+      box-after s (f .settings) (l .held) (f .taken)
+      (ap (λ (k : FedHeld). k .settings) (l .told)) (l .kept) (ap (λ (k : FedHeld). k .taken) (l .told)) in
       answer after
       (e
-      ∙ parts-stored (f .settings) (l .held) (putMid 36 64 state (l .held)) (f .taken) size serial (held-put state (l .held) (l .box .long) many)
-      ∙ ap stationBytes (box-after (fed .station) (f .settings) (l .held) (f .taken) (ap (λ (k : FedHeld). k .settings) (l .told)) (l .kept) (ap (λ (k : FedHeld). k .taken) (l .told)))
+      ∙ parts-stored (f .settings) (l .held) (putMid 36 64 state (l .held)) (f .taken) size serial
+      (held-put state (l .held) (l .box .long) many)
+      ∙ ap stationBytes same
       ∙ rw (lt-ltb (f .code) 20 low) refl)
 
   pub feed-refused : 20 ≤ f .code
       → record { code = f .code; consumed = f .consumed; wrote = f .wrote; state = putMid 36 64 state (l .held) } ≡ feedOver state host room
   feed-refused high =
       let code : f .code ≡ fed .code = ap (λ (k : FedHeld). k .code) (l .told) in
-      let same : l .held ≡ midOf 36 64 state = l .kept ∙ ap (λ (k : Station). k .store .held) (refused-returns lent host room (omega arith)) in
+      let same : l .held ≡ midOf 36 64 state =
+      l .kept ∙ ap (λ (k : Station). k .store .held) (refused-returns lent host room (omega arith)) in
       answer (putMid 36 64 state (l .held)) (ap (putMid 36 64 state) same ∙ put-same 36 64 state ∙ rw (le-ltb (f .code) 20 high) refl)
 
-  pub replied-whole : (reply after : List ℕ) → after ≡ sets reply 0 (feedingOf lent host room .bytes) → after ≡ sets reply 0 (repliedOver state host room)
+  pub replied-whole : (reply after : List ℕ) → after ≡ sets reply 0 (feedingOf lent host room .bytes)
+      → after ≡ sets reply 0 (repliedOver state host room)
   unfolding repliedOver
   replied-whole reply after q = rw (q, eq-eqb (length state) 108 (l .box .long), ← lent-is state (l .box)) refl
 
@@ -101,7 +120,8 @@ pub replied-broken : (state host reply : List ℕ) (room : ℕ) → (length stat
 unfolding repliedOver
 replied-broken state host reply room other = rw (ne-eqb (length state) 108 other)
 
-pub fresh-whole : (serial state after : List ℕ) (b : Began) → length state ≡ 108 → b ≡ freshBox serial → after ≡ stationBytes (b .station)
+pub fresh-whole : (serial state after : List ℕ) (b : FreshBox) → length state ≡ 108 → b ≡ freshBox serial
+    → after ≡ stationBytes (b .station)
     → record { code = b .code; state = after } ≡ freshOver serial state
 unfolding freshOver
 fresh-whole serial state after b long p q = rw (q, p, eq-eqb (length state) 108 long)
@@ -110,7 +130,8 @@ pub fresh-broken : (serial state : List ℕ) → (length state ≡ 108 → ⊥) 
 unfolding freshOver
 fresh-broken serial state other = rw (ne-eqb (length state) 108 other)
 
-pub word-whole : (state : List ℕ) (s : Station) (t : Told) {w : Tuned} → length state ≡ 108 → s ≡ stationIn state → t ≡ tuningTold s → w ≡ tuned t
+pub word-whole : (state : List ℕ) (s : Station) (t : Told) {w : Tuned} → length state ≡ 108 → s ≡ stationIn state
+    → t ≡ tuningTold s → w ≡ tuned t
     → w ≡ tunedOver state
 unfolding tunedOver
 word-whole state s t long p q r = r ∙ rw (q, p, eq-eqb (length state) 108 long)

@@ -28,7 +28,8 @@ flag-byte : (b : Bool) → boolByte b ≡ pick b 1 0
 flag-byte true = refl
 flag-byte false = refl
 
-pub narrow-stored : (s : Settings) (l a b c d : List ℕ) → a ≡ sets l 24 (bytes 1 (boolByte (s .running))) → b ≡ sets a 25 (bytes 1 (s .mode))
+pub narrow-stored : (s : Settings) (l a b c d : List ℕ) → a ≡ sets l 24 (bytes 1 (boolByte (s .running)))
+    → b ≡ sets a 25 (bytes 1 (s .mode))
     → c ≡ sets b 26 (bytes 1 (s .gain)) → d ≡ sets c 27 (bytes 1 (s .size)) → d ≡ sets l 24 (narrowOf s)
 unfolding narrowOf
 narrow-stored s l a b c d p q r t = rw (t, r, q, p, flag-byte (s .running))
@@ -45,9 +46,11 @@ module _ (front back l : List ℕ) (first : length front ≡ 36) (last : length 
   placed : (held : List ℕ) → take 64 (drop 36 l) ≡ held → sets (sets l 0 front) 100 back ≡ front ++ (held ++ back)
   placed held there =
       let begun : sets l 0 front ≡ front ++ drop 36 l = sets-eq front l 0 (omega arith) ∙ rw first refl in
-      let kept : take 100 (front ++ drop 36 l) ≡ front ++ held = rw first at (take-append-add front (drop 36 l) 64) ∙ ap (λ (r : List ℕ). front ++ r) there in
+      let kept : take 100 (front ++ drop 36 l) ≡ front ++ held =
+      rw first at (take-append-add front (drop 36 l) 64) ∙ ap (λ (r : List ℕ). front ++ r) there in
       let size : length (sets l 0 front) ≡ 108 = length-sets l 0 front ∙ long in
-      let rest : drop (100 + length back) (sets l 0 front) ≡ [] = drop-of-length-le (sets l 0 front) {i = 100 + length back} (omega arith) in
+      let rest : drop (100 + length back) (sets l 0 front) ≡ [] =
+      drop-of-length-le (sets l 0 front) {i = 100 + length back} (omega arith) in
       sets-eq back (sets l 0 front) 100 (omega arith)
       ∙ rw rest (append-nil (take 100 (sets l 0 front) ++ back))
       ∙ ap (λ (r : List ℕ). take 100 r ++ back) begun
@@ -67,4 +70,5 @@ parts-stored s held l taken long serial there =
 -- held bytes put in their places, read again
 pub held-put : (l held : List ℕ) → length l ≡ 108 → length held ≡ 64 → take 64 (drop 36 (putMid 36 64 l held)) ≡ held
 held-put l held long many =
-    rw (drop-at (take 36 l) (held ++ drop 64 (drop 36 l)) 36 (length-take-le 36 l (omega arith))) (take-at held (drop 64 (drop 36 l)) 64 many)
+    rw (drop-at (take 36 l) (held ++ drop 64 (drop 36 l)) 36 (length-take-le 36 l (omega arith)))
+    (take-at held (drop 64 (drop 36 l)) 64 many)

@@ -28,6 +28,6 @@ unfolding storeIn
 lent-is state b = rw (b .read, b .had) refl
 
 -- a box, from its parts
-pub box-after : (s : Station) (settings : Settings) (held : List ℕ) (taken : ℕ) → settings ≡ s .settings → held ≡ s .store .held → taken ≡ s .store .taken
-    → boxOf settings held taken ≡ s
+pub box-after : (s : Station) (settings : Settings) (held : List ℕ) (taken : ℕ)
+    → settings ≡ s .settings → held ≡ s .store .held → taken ≡ s .store .taken → boxOf settings held taken ≡ s
 box-after s settings held taken set kept count = rw (set, kept, count) refl

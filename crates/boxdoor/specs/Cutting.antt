@@ -11,18 +11,18 @@ use Rattle.cutting.specs.Cutting.{cuttingOf}
 use Rattle.boxdoor.specs.States.{stationSize, stationIn, stationBytes}
 
 -- what a call answers, and the box's bytes after it
-pub record Answer : Type 0 where
+pub record CutAnswer : Type 0 where
   pub code : ℕ
   pub wrote : ℕ
   pub state : List ℕ
 
 -- a box is written back where the call was not refused
-unfoldable pub cutBy : List ℕ → Cut → Answer
+unfoldable pub cutBy : List ℕ → Cut → CutAnswer
 cutBy state r =
     record { code = r .code; wrote = r .wrote; state = pick (ltb (r .code) 20) (stationBytes (r .station)) state }
 
 -- bytes that are not those of a box are a broken one: 21
-unfoldable pub cutOver : List ℕ → List ℤ → ℕ → Answer
+unfoldable pub cutOver : List ℕ → List ℤ → ℕ → CutAnswer
 cutOver state samples room =
     pick (eqb (length state) stationSize) (cutBy state (cuttingOf (stationIn state) samples room .cut))
     (record { code = Code.broken; wrote = 0; state = state })

@@ -12,14 +12,14 @@ use Rattle.station.specs.Feeding.{feedingOf}
 use Rattle.boxdoor.specs.States.{stationSize, stationIn, stationBytes}
 
 -- what a call answers, and the box's bytes after it
-pub record Answer : Type 0 where
+pub record FeedAnswer : Type 0 where
   pub code : ℕ
   pub consumed : ℕ
   pub wrote : ℕ
   pub state : List ℕ
 
 -- a box is written back where the call was not refused: "Codes from 20 .. return the state given"
-unfoldable pub fedOver : List ℕ → Fed → Answer
+unfoldable pub fedOver : List ℕ → Fed → FeedAnswer
 fedOver state f =
     record {
       code = f .code;
@@ -29,7 +29,7 @@ fedOver state f =
     }
 
 -- bytes that are not those of a box are a broken one: 21
-unfoldable pub feedOver : List ℕ → List ℕ → ℕ → Answer
+unfoldable pub feedOver : List ℕ → List ℕ → ℕ → FeedAnswer
 feedOver state host room =
     pick (eqb (length state) stationSize) (fedOver state (feedingOf (stationIn state) host room .fed))
     (record { code = Code.broken; consumed = 0; wrote = 0; state = state })

@@ -3,6 +3,8 @@ ghost use mathlib.Core.Path.{_≡_};
 ghost use lib.ListN.{length};
 ghost use lib.Seq.{sets};
 ghost use Rattle.boxdoor.specs.Cutting.{cutOver, packetOver};
+use crate::states::HELD;
+use crate::states::TAKEN;
 use wire::codes;
 
 // Cuts the next packet from samples by a box of 108 bytes. Answers the code, and leaves how many bytes of packet were
@@ -24,7 +26,7 @@ pub extern "C" fn skvornela_cut(
         let settings = crate::states::settings_of(state);
         let taken = crate::states::taken_of(state);
         // the held bytes are looked at where they lie
-        let cut = cutting::cut_held(settings, &state[36..100], taken, samples, packet);
+        let cut = cutting::cut_held(settings, &state[HELD..TAKEN], taken, samples, packet);
         *wrote = cut.wrote;
         // "Codes from 20 consume nothing and return the state given."
         if cut.code < codes::NO_ROOM {

@@ -1,4 +1,6 @@
 // A fresh box, feeding it, and its tuning word.
+use crate::states::HELD;
+use crate::states::TAKEN;
 use station::Tuning;
 use wire::codes;
 ghost use mathlib.Core.Path.{_≡_};
@@ -41,7 +43,7 @@ pub extern "C" fn skvornela_feed(
         let settings = crate::states::settings_of(state);
         let taken = crate::states::taken_of(state);
         // the held bytes are changed where they lie
-        let f = station::feed_held(settings, &mut state[36..100], taken, host, reply);
+        let f = station::feed_held(settings, &mut state[HELD..TAKEN], taken, host, reply);
         *consumed = f.consumed;
         *wrote = f.wrote;
         // "Codes from 20 consume nothing and return the state given."

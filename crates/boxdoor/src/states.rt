@@ -11,6 +11,11 @@ ghost use Rattle.boxdoor.specs.States.{settingsIn, stationIn, wideOf, na
 // A box in bytes: frequency 8, count 8, clock 4, D 4, running 1, mode 1, gain 1, size 1, serial 8, held 64, taken 8.
 pub(crate) const LENGTH: usize = 108;
 
+// Where its 64 held bytes begin, and where they end: there stands how many were taken.
+pub(crate) const HELD: usize = 36;
+
+pub(crate) const TAKEN: usize = 100;
+
 // The settings in a box's 108 bytes.
 pub(crate) fn settings_of(b: &[u8]) -> Settings
     requires { ⌜ length (now b) ≡ 108 ⌝ }
@@ -36,7 +41,7 @@ pub(crate) fn taken_of(b: &[u8]) -> usize
     requires { ⌜ length (now b) ≡ 108 ⌝ }
     ensures { λ r. ⌜ r ≡ field 100 8 (now (b .entry)) ⌝ }
 {
-    wire::number_at(b, 100, 8) as usize
+    wire::number_at(b, TAKEN, 8) as usize
 }
 
 // The box in 108 bytes.
@@ -45,7 +50,7 @@ pub(crate) fn station_in(b: &[u8]) -> Station
     ensures { λ r. ⌜ r ≡ stationIn (now (b .entry)) ⌝ }
 {
     let mut held = [0u8; 64];
-    wire::copy(&b[36..100], &mut held, 0);
+    wire::copy(&b[HELD..TAKEN], &mut held, 0);
     let store = Store {
         held: held,
         taken: taken_of(b),
@@ -95,7 +100,7 @@ pub(crate) fn put_parts(b: &mut [u8], s: Settings, taken: usize)
     ensures { λ _. ⌜ now (b .exit) ≡ sets (sets (now (b .entry)) 0 (settingsBytes s)) 100 (bytes 8 taken) ⌝ }
 {
     put_settings(b, s);
-    wire::put(b, 100, 8, taken as u64);
+    wire::put(b, TAKEN, 8, taken as u64);
 }
 
 // Stores a box in 108 bytes.
@@ -106,6 +111,6 @@ pub(crate) fn put_station(b: &mut [u8], s: Station)
     let settings = s.settings;
     let store = s.store;
     let held = store.held;
-    wire::copy(&held, b, 36);
+    wire::copy(&held, b, HELD);
     put_parts(b, settings, store.taken);
 }

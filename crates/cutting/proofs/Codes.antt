@@ -44,7 +44,8 @@ module _ (s : Station) (samples : List ℤ) (room : ℕ) where
           code-24 a = rw (v, r, lt-leb most (s .settings .count) m, eq-eqb (length samples) (2 * formNow (s .settings) .pairs) n, a)
 
           -- all is looked at but the room
-          code-room : {short : Bool} → allSamples samples ≡ true → ltb room (totalOf (formNow (s .settings))) ≡ short → cutCode s samples room ≡ pick short 20 1
+          code-room : {short : Bool} → allSamples samples ≡ true → ltb room (totalOf (formNow (s .settings))) ≡ short
+              → cutCode s samples room ≡ pick short 20 1
           unfolding cutCode
           code-room a h = rw (v, r, lt-leb most (s .settings .count) m, eq-eqb (length samples) (2 * formNow (s .settings) .pairs) n, a, h)
 
@@ -65,7 +66,8 @@ module _ (s : Station) (samples : List ℤ) (room : ℕ) where
   cuts e = rw e
 
   -- no room for the packet: 24 where a sample lies outside 24 bits, else 20
-  pub refuses-short : valid s ≡ true → s .settings .running ≡ true → s .settings .count < most → length samples ≡ 2 * formNow (s .settings) .pairs
+  pub refuses-short : valid s ≡ true → s .settings .running ≡ true → s .settings .count < most
+      → length samples ≡ 2 * formNow (s .settings) .pairs
       → room < totalOf (formNow (s .settings)) → refused (pick (allSamples samples) 20 24) s ≡ cuttingOf s samples room
   refuses-short v r m n h = go (allSamples samples) refl
     where

@@ -80,10 +80,12 @@ counted s h less =
 -- cutting from a valid box leaves a valid box
 pub cutting-keeps : (s : Station) (samples : List ℤ) (room : ℕ) → valid s ≡ true → valid (cuttingOf s samples room .cut .station) ≡ true
 cutting-keeps s samples room v =
+    let settings = valid-settings (s .settings) (s .store) v in
+    let store = valid-store (s .settings) (s .store) v in
     each-cut (λ (c : Cutting). valid (c .cut .station) ≡ true) s samples room
     (λ e.
     valid-both (withCount (s .settings .count + 1) (s .settings)) (s .store)
-    (counted (s .settings) (valid-settings (s .settings) (s .store) v) (made s samples room e .below)) (valid-store (s .settings) (s .store) v))
+    (counted (s .settings) settings (made s samples room e .below)) store)
     (λ n. v)
 
 -- what a box holds of a message cutting leaves alone

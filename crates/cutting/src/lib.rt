@@ -5,6 +5,7 @@ ghost use Rattle.wire.specs.Choice.{pick};
 ghost use Rattle.packets.specs.Numbers.{most};
 ghost use Rattle.packets.specs.Samples.{allSamples};
 ghost use Rattle.items.specs.Settings.{withCount};
+ghost use lib.ListN.{length};
 ghost use lib.Seq.{sets};
 ghost use Rattle.wire.specs.Codes as Code;
 ghost use Rattle.station.specs.Station.{boxOf};
@@ -32,10 +33,10 @@ pub struct CutHeld {
 // Cuts the next packet of a running capture from I and Q in turn: the packet of the box's mode and size, with the number of
 // its position. Where it refuses, the lent packet is as it was.
 pub fn cut_packet(s: Station, samples: &[i32], packet: &mut [u8]) -> Cut
-    ensures { λ r. do
-      room ← ⟦packet.len()⟧ .entry
-      ⌜ (r ≡ cuttingOf s (now (samples .entry)) room .cut)
-          × (now (packet .exit) ≡ sets (now (packet .entry)) 0 (cuttingOf s (now (samples .entry)) room .bytes)) ⌝ }
+    ensures { λ r.
+        ⌜ (r ≡ cuttingOf s (now (samples .entry)) (length (now (packet .entry))) .cut)
+        × (now (packet .exit)
+        ≡ sets (now (packet .entry)) 0 (cuttingOf s (now (samples .entry)) (length (now (packet .entry))) .bytes)) ⌝ }
 {
     let settings = s.settings;
     let store = s.store;
@@ -61,10 +62,11 @@ pub fn cut_held(
     samples: &[i32],
     packet: &mut [u8],
 ) -> CutHeld
-    ensures { λ r. do
-      room ← ⟦packet.len()⟧ .entry
-      ⌜ (r ≡ partsOf (cuttingOf (boxOf settings (now (held .entry)) taken) (now (samples .entry)) room .cut))
-          × (now (packet .exit) ≡ sets (now (packet .entry)) 0 (cuttingOf (boxOf settings (now (held .entry)) taken) (now (samples .entry)) room .bytes)) ⌝ }
+    ensures { λ r.
+        ⌜ (r ≡ partsOf (cuttingOf (boxOf settings (now (held .entry)) taken) (now (samples .entry)) (length (now (packet .entry))) .cut))
+        × (now (packet .exit)
+        ≡ sets (now (packet .entry)) 0
+        (cuttingOf (boxOf settings (now (held .entry)) taken) (now (samples .entry)) (length (now (packet .entry))) .bytes)) ⌝ }
 {
     if !station::is_sound(settings, held, taken) {
         return refused(codes::BROKEN, settings);
@@ -110,7 +112,8 @@ fn refused(code: u8, settings: Settings) -> CutHeld
 
 // No room for the packet: a sample outside 24 bits (24) is looked for before that (20).
 fn too_short(settings: Settings, samples: &[i32]) -> CutHeld
-    ensures { λ r. ⌜ r ≡ record { code = pick (allSamples (now (samples .entry))) Code.noRoom Code.notASample; wrote = 0; settings = settings } ⌝ }
+    ensures { λ r.
+        ⌜ r ≡ record { code = pick (allSamples (now (samples .entry))) Code.noRoom Code.notASample; wrote = 0; settings = settings } ⌝ }
 {
     if samples::all_fit(samples) {
         return refused(codes::NO_ROOM, settings);

@@ -7,7 +7,7 @@ use borrow.Author.Tests.{lt-leb, not-false}
 use mathlib.Core.Path.{_≡_, refl, sym, ap, _∙_}
 use mathlib.Core.Bool.{true, false}
 use mathlib.Core.List.{List, [], _++_, append-nil}
-use mathlib.Core.Logic.{_⊎_, inl, inr, _↔_}
+use mathlib.Core.Logic.{_⊎_, inl, inr}
 use lib.Dec.{leb, lit≤}
 use lib.ListN.{length, replicate}
 use Rattle.wire.specs.Number.{bytes, field}
@@ -59,7 +59,8 @@ module _ (a : Layout) (rest : List ℕ) (low : a .kind ≤ 2) (few : sizeOf a �
 -- ---- a wish's message
 
 kind-low : (w : Wish) → asking w .kind ≤ 2
-kind-low = of-row (λ i k. k ≤ 2) (lit≤ tt) (lit≤ tt) (lit≤ tt) (lit≤ tt) (lit≤ tt) (lit≤ tt) (lit≤ tt) (lit≤ tt) (lit≤ tt) (lit≤ tt) (lit≤ tt) (lit≤ tt) (lit≤ tt) (lit≤ tt) (lit≤ tt) (lit≤ tt) (lit≤ tt) (lit≤ tt)
+kind-low = of-row (λ i k. k ≤ 2) (lit≤ tt) (lit≤ tt) (lit≤ tt) (lit≤ tt) (lit≤ tt) (lit≤ tt) (lit≤ tt) (lit≤ tt) (lit≤ tt)
+    (lit≤ tt) (lit≤ tt) (lit≤ tt) (lit≤ tt) (lit≤ tt) (lit≤ tt) (lit≤ tt) (lit≤ tt) (lit≤ tt)
 
 few : (w : Wish) → sizeOf (layoutOf w) ≤ 64
 few w = omega (arith, short-message w)
@@ -72,7 +73,9 @@ wish-taken w =
   where
     announces : announced (laid (layoutOf w)) ≡ length (laid (layoutOf w))
     announces =
-        ap announced (sym (append-nil (laid (layoutOf w)))) ∙ announced-laid (layoutOf w) [] (kind-low w) (few w) ∙ sym (length-laid (layoutOf w))
+        ap announced (sym (append-nil (laid (layoutOf w))))
+        ∙ announced-laid (layoutOf w) [] (kind-low w) (few w)
+        ∙ sym (length-laid (layoutOf w))
 
 -- and is then the message that the wish stands for
 wish-held : (w : Wish) → messageIn (holding (messageOf w)) ≡ asMessage w
@@ -84,23 +87,33 @@ wish-held w =
 
 -- ---- the demand
 
+-- a call that takes so many bytes and answers the message that they finish
+abbrev saying : Settings → ℕ → Message → Feeding
+saying s consumed m =
+    record {
+      fed = record { code = codeOf s m; consumed = consumed; wrote = length (replyOf s m); station = resting (settingsAfter s m) };
+      bytes = replyOf s m;
+    }
+
 -- a call that answers the wish's message
 abbrev answering : Wish → Settings → Feeding
-answering w s = record { fed = record { code = codeOf s (asMessage w); consumed = length (messageOf w); wrote = length (replyOf s (asMessage w)); station = resting (settingsAfter s (asMessage w)) }; bytes = replyOf s (asMessage w) }
+answering w s = saying s (length (messageOf w)) (asMessage w)
 
 answered-wish : (w : Wish) (s : Settings) → answered s (tookAll (messageOf w)) ≡ answering w s
-answered-wish w s =
-    ap (λ (m : Message). record { fed = record { code = codeOf s m; consumed = length (messageOf w); wrote = length (replyOf s m); station = resting (settingsAfter s m) }; bytes = replyOf s m }) (wish-held w)
+answered-wish w s = ap (saying s (length (messageOf w))) (wish-held w)
 
 fed-wish : (w : Wish) (s : Settings) (room : ℕ) → inRange s ≡ true → hasRoom (feedingOf (resting s) (messageOf w) room)
     → feedingOf (resting s) (messageOf w) room ≡ answering w s
 fed-wish w s room v some = whole-answered (messageOf w) s room (wish-taken w) (valid-both s between v between-left) some ∙ answered-wish w s
 
 -- 64 bytes are room enough
-roomy-wish : (w : Wish) (s : Settings) (room : ℕ) → inRange s ≡ true → 64 ≤ room → feedingOf (resting s) (messageOf w) room ≡ answering w s
-roomy-wish w s room v enough = whole-fed (messageOf w) s room (wish-taken w) (valid-both s between v between-left) enough ∙ answered-wish w s
+roomy-wish : (w : Wish) (s : Settings) (room : ℕ) → inRange s ≡ true → 64 ≤ room
+    → feedingOf (resting s) (messageOf w) room ≡ answering w s
+roomy-wish w s room v enough =
+    whole-fed (messageOf w) s room (wish-taken w) (valid-both s between v between-left) enough ∙ answered-wish w s
 
-understands : (w : Wish) (s : Settings) (room : ℕ) → allowed w ≡ true → inRange s ≡ true → feedingOf (resting s) (messageOf w) room ≡ answering w s
+understands : (w : Wish) (s : Settings) (room : ℕ) → allowed w ≡ true → inRange s ≡ true
+    → feedingOf (resting s) (messageOf w) room ≡ answering w s
     → Understands w (messageOf w) s room
 understands w s room e v fed =
     record {

@@ -46,7 +46,10 @@ aloud true s m = lit≤ tt
 aloud false s m = go (eqb (m .type) typeRange)
   where
     go : (range : Bool)
-        → 1 ≤ length (pick range (framed typeRangeReply (rangeBody (row m) (parameters m))) (framed typeReply (replyBody (row m) (settingsAfter s m) (parameters m))))
+        → 1
+        ≤ length
+        (pick range (framed typeRangeReply (rangeBody (row m) (parameters m)))
+        (framed typeReply (replyBody (row m) (settingsAfter s m) (parameters m))))
     go true = omega arith
     go false = omega arith
 

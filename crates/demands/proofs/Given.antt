@@ -16,14 +16,14 @@ use Rattle.wire.proofs.Checks.{differ, given-exactly, not-given}
 use Rattle.wire.proofs.Laws.{and-left, and-right, and-both, true-not-false}
 use Rattle.items.specs.Answer.{Message, checks, codeOf}
 use Rattle.items.specs.declared.Settings.{Settings}
-use Rattle.items.specs.declared.Began.{Began}
+use Rattle.items.specs.declared.FreshSettings.{FreshSettings}
 use Rattle.items.specs.Settings.{isSerial, freshOf}
-use Rattle.framing.specs.Framing.{Taking, taken, finished}
+use Rattle.framing.specs.Framing.{taken, finished}
+use Rattle.framing.proofs.Cutting.{finished-taking}
 use Rattle.station.specs.declared.Station.{Station}
 use Rattle.station.specs.Station.{valid, freshBox}
-use Rattle.station.proofs.Valid.{feeding-broken, feeding-waiting}
-use Rattle.station.specs.Feeding.{Feeding, messageIn, refused, answered, waiting, comesTo, feedChecks, feedingOf}
-use Rattle.station.proofs.Kept.{code-below}
+use Rattle.station.proofs.Valid.{comes-below, feeding-by, feeding-waiting, feeding-answered, each-way}
+use Rattle.station.specs.Feeding.{Feeding, refused, comesTo, feedChecks, feedCode, feedingOf}
 use Rattle.cutting.specs.Cutting.{cutCode}
 use Rattle.reader.specs.Reading.{readCode, unpackCode}
 use Rattle.heads.specs.Head.{mark, version, headLength, allowed, headIn}
@@ -31,7 +31,8 @@ use Rattle.heads.specs.Head.{writeCode as headCode}
 use Rattle.heads.proofs.Codes.{code-by}
 use Rattle.wishes.specs.Writing.{writeCode}
 use Rattle.replies.specs.Reading.{readCode as replyCode}
-use Rattle.demands.specs.Given.{EachExactly, HeadExactly, GivenExactly}
+use Rattle.demands.specs.Shown.{finishedBy}
+use Rattle.demands.specs.Given.{EachExactly, HeadExactly, Answers, GivenExactly}
 
 -- no two checks of the list have one code
 abbrev distinct : List Check → Bool
@@ -51,84 +52,118 @@ apart-in : (before : List Check) (c : Check) (after : List Check) → distinct (
     → (differ (c .code) before ≡ true) × (differ (c .code) after ≡ true)
 apart-in [] c after d = (refl, and-left (differ (c .code) after) (distinct after) d)
 apart-in (b ∷ before) c after d =
-    let here = differ-later (b .code) before c after (and-left (differ (b .code) (before ++ c ∷ after)) (distinct (before ++ c ∷ after)) d) in
-    let rest = apart-in before c after (and-right (differ (b .code) (before ++ c ∷ after)) (distinct (before ++ c ∷ after)) d) in
+    let all = before ++ c ∷ after in
+    let here = differ-later (b .code) before c after (and-left (differ (b .code) all) (distinct all) d) in
+    let rest = apart-in before c after (and-right (differ (b .code) all) (distinct all) d) in
     (and-both (not (eqb (b .code) (c .code))) (differ (c .code) before) (other-way (c .code) (b .code) (here .0)) (rest .0), rest .1)
+
+-- a code that no check of the list has is not this one's
+other-code : (cs : List Check) (n : ℕ) (before : List Check) (c : Check) (after : List Check) → cs ≡ before ++ c ∷ after
+    → differ n cs ≡ true → c .code ≡ n → ⊥
+other-code cs n before c after e other =
+    let here = differ-later n before c after (subst (λ (l : List Check). differ n l ≡ true) e other) in
+    eqb-false (c .code) n (not-true (eqb (c .code) n) (here .0))
 
 each : (cs : List Check) (n : ℕ) → distinct cs ≡ true → differ n cs ≡ true → EachExactly cs (firstOf cs n)
 each cs n d other before c after e =
     subst (λ (l : List Check). (firstOf l n ≡ c .code) ↔ (Absent before × (c .holds ≡ true))) (sym e)
-    (given-exactly before c after n (parts .0) (parts .1)
-    (λ m. eqb-false (c .code) n (not-true (eqb (c .code) n) (differ-later n before c after (subst (λ (l : List Check). differ n l ≡ true) e other) .0)) (sym m)))
+    (given-exactly before c after n (parts .0) (parts .1) (λ m. other-code cs n before c after e other (sym m)))
   where
     parts : (differ (c .code) before ≡ true) × (differ (c .code) after ≡ true)
     parts = apart-in before c after (subst (λ (l : List Check). distinct l ≡ true) e d)
 
--- what the bytes of a call come to has a code below 20
-comes-below : (s : Settings) (t : Taking) → comesTo s t .fed .code < 20
-comes-below s t = go (finished (t .store))
-  where
-    go : (b : Bool) → pick b (answered s t) (waiting s t) .fed .code < 20
-    go true = code-below s (messageIn (t .store))
-    go false = omega arith
-
-feed-code : (s : Station) (host : List ℕ) (room : ℕ)
-    → feedingOf s host room .fed .code ≡ firstOf (feedChecks s (taken (s .store) host) room) (comesTo (s .settings) (taken (s .store) host) .fed .code)
-unfolding feedingOf
-feed-code s host room =
-    go (not (valid s)) (ltb room (length (comesTo (s .settings) (taken (s .store) host) .bytes))) (comesTo (s .settings) (taken (s .store) host))
-  where
-    go : (b c : Bool) (f : Feeding) → pick b (refused 21 s) (pick c (refused 20 s) f) .fed .code ≡ pick b 21 (pick c 20 (f .fed .code))
-    go true c f = refl
-    go false true f = refl
-    go false false f = refl
-
-feed-each : (s : Station) (host : List ℕ) (room : ℕ) → EachExactly (feedChecks s (taken (s .store) host) room) (feedingOf s host room .fed .code)
-feed-each s host room =
-    let t = taken (s .store) host in
-    let n = comesTo (s .settings) t .fed .code in
-    let low : n < 20 = comes-below (s .settings) t in
-    subst (EachExactly (feedChecks s t room)) (sym (feed-code s host room))
-    (each (feedChecks s t room) n refl (rw (ne-eqb 21 n (λ e. omega arith), ne-eqb 20 n (λ e. omega arith)) refl))
+message-each : (s : Settings) (m : Message) → EachExactly (checks s m) (codeOf s m)
+unfolding codeOf
+message-each s m = each (checks s m) 1 refl refl
 
 -- a serial is one, or the code is 26
 fresh-each : (serial : List ℕ) → (freshBox serial .code ≡ 26) ↔ (isSerial serial ≡ false)
-fresh-each serial = go (isSerial serial) (record { code = 1; settings = freshOf serial }) (record { code = 26; settings = freshOf (replicate 8 0x30) }) refl refl
+fresh-each serial =
+    go (isSerial serial) (record { code = 1; settings = freshOf serial })
+    (record { code = 26; settings = freshOf (replicate 8 0x30) }) refl refl
   where
-    go : (b : Bool) (x y : Began) → x .code ≡ 1 → y .code ≡ 26 → (pick {X = Began} b x y .code ≡ 26) ↔ (b ≡ false)
+    go : (b : Bool) (x y : FreshSettings) → x .code ≡ 1 → y .code ≡ 26 → (pick {X = FreshSettings} b x y .code ≡ 26) ↔ (b ≡ false)
     go true x y one none = (λ e. absurd (omega arith), λ e. absurd (true-not-false e))
     go false x y one none = (λ e. refl, λ e. none)
+
+-- ---- one call of feeding
 
 -- no finished message waits
 not-waiting : (s : Settings) (m : Message) → codeOf s m ≡ 0 → ⊥
 unfolding codeOf
 not-waiting s m = not-given (checks s m) 1 0 refl (λ e. omega arith)
 
-comes-waiting : (s : Settings) (t : Taking) → finished (t .store) ≡ true → comesTo s t .fed .code ≡ 0 → ⊥
-comes-waiting s t f e = not-waiting s (messageIn (t .store)) (rw f at e)
+module _ (s : Station) (host : List ℕ) (room : ℕ) where
+  abbrev code : ℕ
+  code = feedingOf s host room .fed .code
 
-waits-each : (s : Station) (host : List ℕ) (room : ℕ)
-    → (feedingOf s host room .fed .code ≡ 0) ↔ ((valid s ≡ true) × (finished (taken (s .store) host .store) ≡ false))
-waits-each s host room = go (valid s) (finished (taken (s .store) host .store)) refl refl
-  where
-    t : Taking
-    t = taken (s .store) host
+  abbrev ownCode : ℕ
+  ownCode = codeOf (s .settings) (finishedBy s host)
 
-    go : (v f : Bool) → valid s ≡ v → finished (t .store) ≡ f
-        → (feedingOf s host room .fed .code ≡ 0) ↔ ((valid s ≡ true) × (finished (t .store) ≡ false))
-    go false f p q =
-        let is : feedingOf s host room .fed .code ≡ 21 = ap (λ (k : Feeding). k .fed .code) (feeding-broken s host room p) in
-        (λ e. absurd (omega arith), λ h. absurd (true-not-false (sym (h .0) ∙ p)))
-    go true false p q =
-        let is : feedingOf s host room .fed .code ≡ 0 = ap (λ (k : Feeding). k .fed .code) (feeding-waiting (s .settings) (s .store) host room p q) in
-        (λ e. (p, q), λ h. is)
-    go true true p q = (
-      λ e. absurd (not-given (feedChecks s t room) (comesTo (s .settings) t .fed .code) 0 refl (comes-waiting (s .settings) t q) (sym (feed-code s host room) ∙ e)),
-      λ h. absurd (true-not-false (sym q ∙ h .1)),
-    )
+  -- its code is that of the first of its checks that holds, or of what the bytes come to
+  code-is : code ≡ feedCode s host room
+  code-is =
+      ap (λ (f : Feeding). f .fed .code) (feeding-by s host room)
+      ∙ go (not (valid s)) (ltb room (length (comesTo s host .bytes))) (comesTo s host)
+    where
+      go : (broken short : Bool) (f : Feeding)
+          → pick broken (refused 21 s) (pick short (refused 20 s) f) .fed .code ≡ pick broken 21 (pick short 20 (f .fed .code))
+      go true short f = refl
+      go false true f = refl
+      go false false f = refl
+
+  feed-each : EachExactly (feedChecks s host room) code
+  feed-each =
+      let n = comesTo s host .fed .code in
+      let low : n < 20 = comes-below s host in
+      subst (EachExactly (feedChecks s host room)) (sym code-is)
+      (each (feedChecks s host room) n refl (rw (ne-eqb 21 n (λ e. omega arith), ne-eqb 20 n (λ e. omega arith)) refl))
+
+  waits-each : (code ≡ 0) ↔ ((valid s ≡ true) × (finished (taken (s .store) host .store) ≡ false))
+  waits-each = (
+    each-way (λ f. f .fed .code ≡ 0 → (valid s ≡ true) × (finished (taken (s .store) host .store) ≡ false)) s host room
+        (λ v e. absurd (omega arith)) (λ v e. absurd (omega arith)) (λ v f e. (v, finished-taking 0 (s .store) host ∙ f))
+        (λ v f enough e. absurd (not-waiting (s .settings) (finishedBy s host) e)),
+    λ h. ap (λ (f : Feeding). f .fed .code) (feeding-waiting (s .settings) (s .store) host room (h .0) (h .1)),
+  )
+
+  -- a call that answers a message gives the message's code
+  own-given : Answers s host room → code ≡ ownCode
+  own-given a = ap (λ (f : Feeding). f .fed .code) (feeding-answered (s .settings) (s .store) host room (a .sound) (a .finishes) (a .fits))
+
+  -- no other call gives a code that is neither 0 nor one of a call's own
+  own-asked : (n : ℕ) → (n ≡ 0 → ⊥) → (n ≡ 20 → ⊥) → (n ≡ 21 → ⊥) → code ≡ n → Answers s host room
+  own-asked n not-0 not-20 not-21 =
+      each-way (λ f. f .fed .code ≡ n → Answers s host room) s host room
+      (λ v e. absurd (not-21 (sym e))) (λ v e. absurd (not-20 (sym e))) (λ v f e. absurd (not-0 (sym e)))
+      (λ v f enough e. record { sound = v; finishes = finished-taking 0 (s .store) host ∙ f; fits = enough })
+
+  own-each : (n : ℕ) → 1 ≤ n → n < 20 → (code ≡ n) ↔ (Answers s host room × (ownCode ≡ n))
+  own-each n least low = (
+    λ e. let a = own-asked n (λ z. omega arith) (λ z. omega arith) (λ z. omega arith) e in (a, sym (own-given a) ∙ e),
+    λ h. own-given (h .0) ∙ h .1,
+  )
+
+  answered-each : (before : List Check) (c : Check) (after : List Check) → checks (s .settings) (finishedBy s host) ≡ before ++ c ∷ after
+      → (code ≡ c .code) ↔ (Answers s host room × Absent before × (c .holds ≡ true))
+  answered-each before c after is = (
+    λ e.
+        let a = own-asked (c .code) (other 0 refl) (other 20 refl) (other 21 refl) e in
+        let here = own .0 (sym (own-given a) ∙ e) in
+        (a, here .0, here .1),
+    λ h. own-given (h .0) ∙ own .1 (h .1, h .2),
+  )
+    where
+      own : (ownCode ≡ c .code) ↔ (Absent before × (c .holds ≡ true))
+      own = message-each (s .settings) (finishedBy s host) before c after is
+
+      -- a code that no check of a message has
+      other : (n : ℕ) → differ n (checks (s .settings) (finishedBy s host)) ≡ true → c .code ≡ n → ⊥
+      other n d = other-code (checks (s .settings) (finishedBy s host)) n before c after is d
 
 head-each : (s : List ℕ) → HeadExactly s
-head-each s = by (ltb (length s) headLength) (eqb (field 0 3 s) (number mark)) (eqb (field 3 2 s) version) (allowed (headIn s)) refl refl refl refl
+head-each s =
+    by (ltb (length s) headLength) (eqb (field 0 3 s) (number mark)) (eqb (field 3 2 s) version) (allowed (headIn s)) refl refl refl refl
   where
     -- none of the three ways to be no head
     against : headLength ≤ length s → field 0 3 s ≡ number mark → (field 3 2 s ≡ version → allowed (headIn s) ≡ false → ⊥)
@@ -169,18 +204,24 @@ head-each s = by (ltb (length s) headLength) (eqb (field 0 3 s) (number mark)) (
     by false true true true p q r t =
         let code = code-by s p q r t in
         record {
-          notAHead = (λ e. absurd (omega arith), λ h. absurd (against (ltb-false _ _ p) (eqb-true _ _ q) (λ v a. true-not-false (sym t ∙ a)) h));
+          notAHead = (
+            λ e. absurd (omega arith),
+            λ h. absurd (against (ltb-false _ _ p) (eqb-true _ _ q) (λ v a. true-not-false (sym t ∙ a)) h),
+          );
           otherVersion = (λ e. absurd (omega arith), λ h. absurd (h .2 (eqb-true _ _ r)));
         }
 
 pub codes-given-exactly : GivenExactly
-unfolding codeOf cutCode readCode unpackCode headCode writeCode replyCode
+unfolding cutCode readCode unpackCode headCode writeCode replyCode
 codes-given-exactly =
     record {
       fresh = fresh-each;
       waits = waits-each;
       feeding = feed-each;
-      message = λ s m. each _ 1 refl refl;
+      own = own-given;
+      ownExactly = own-each;
+      answered = answered-each;
+      message = message-each;
       cutting = λ s samples room. each _ 1 refl refl;
       reading = λ r packet. each _ 1 refl refl;
       unpacking = λ packet room. each _ 1 refl refl;

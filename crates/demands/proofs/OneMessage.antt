@@ -14,7 +14,7 @@ use lib.Seq.{set-at, take-append-le, append-snoc}
 use Rattle.wire.specs.Number.{number}
 use Rattle.wire.specs.Header.{lengthIn, typeIn}
 use Rattle.wire.proofs.Laws.{never}
-use Rattle.framing.proofs.Cutting.{told, taking-on}
+use Rattle.framing.proofs.Cutting.{finished-taking, taking-on}
 use Rattle.framing.specs.declared.Store.{Store}
 use Rattle.framing.specs.Framing.{Taking, taking, taken, pushed, finished, announced, totalOf, between}
 use Rattle.items.specs.declared.Settings.{Settings}
@@ -92,7 +92,7 @@ one-message m e two most = taking-rest [] m e two most
 pub whole-fed : (m : List ℕ) (s : Settings) (room : ℕ) → taken between m ≡ tookAll m → valid (resting s) ≡ true → 64 ≤ room
     → feedingOf (resting s) m room ≡ answered s (tookAll m)
 whole-fed m s room took v enough =
-    feeding-answered s between m room v (told 0 between m ∙ ap (λ (t : Taking). t .finished) took)
+    feeding-answered s between m room v (finished-taking 0 between m ∙ ap (λ (t : Taking). t .finished) took)
     (le-trans (reply-short s (messageIn (taken between m .store)) (valid-settings s between v)) enough)
     ∙ ap (answered s) took
 

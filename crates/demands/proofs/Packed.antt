@@ -35,8 +35,10 @@ pub what-is-packed-is-unpacked : WhatIsPackedIsUnpacked
 what-is-packed-is-unpacked s samples room out e enough =
     let made = cut-is s samples room e in
     let l = valid-form s (made .0 .sound) in
-    let cut : cuttingOf s samples room .bytes ≡ packetOf (formNow (s .settings)) (s .settings .count) samples = ap (λ (c : Cutting). c .bytes) (made .1) in
+    let f = formNow (s .settings) in
+    let at = s .settings .count in
+    let cut : cuttingOf s samples room .bytes ≡ packetOf f at samples = ap (λ (c : Cutting). c .bytes) (made .1) in
     record {
-      code = ap (λ (p : List ℕ). unpackCode p out) cut ∙ code (formNow (s .settings)) (s .settings .count) samples out l (made .0 .enough) (made .0 .fits) enough;
-      numbers = ap (λ (p : List ℕ). unpackedOf p out) cut ∙ numbers (formNow (s .settings)) (s .settings .count) samples out l (made .0 .enough) (made .0 .fits) enough;
+      code = ap (λ (p : List ℕ). unpackCode p out) cut ∙ code f at samples out l (made .0 .enough) (made .0 .fits) enough;
+      numbers = ap (λ (p : List ℕ). unpackedOf p out) cut ∙ numbers f at samples out l (made .0 .enough) (made .0 .fits) enough;
     }

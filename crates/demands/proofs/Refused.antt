@@ -15,7 +15,7 @@ use Rattle.wire.proofs.Laws.{pick-keeps}
 use Rattle.framing.specs.Framing.{taking, taken, finished, announced, couldBeLeft}
 use Rattle.items.specs.Settings.{inRange}
 use Rattle.station.specs.Station.{valid, freshStation}
-use Rattle.framing.proofs.Cutting.{told, count-all}
+use Rattle.framing.proofs.Cutting.{finished-taking, count-all}
 use Rattle.items.specs.declared.Settings.{Settings}
 use Rattle.items.specs.Answer.{Message, codeOf, settingsAfter, replyOf}
 use Rattle.items.proofs.Judging.{reply-by-code}
@@ -42,14 +42,16 @@ refused-kept s m r = refused-leaves s m (λ e. omega arith)
 
 pub nak-and-nothing-else : (s : Station) (host : List ℕ) (room : ℕ) → NakOnly s host (feedingOf s host room)
 nak-and-nothing-else s host room =
-    each-way (NakOnly s host) s host room (λ v low high. absurd (omega arith)) (λ v low high. absurd (omega arith)) (λ v f low high. absurd (omega arith))
+    each-way (NakOnly s host) s host room (λ v low high. absurd (omega arith)) (λ v low high. absurd (omega arith))
+    (λ v f low high. absurd (omega arith))
     (λ v f enough low high.
     let m = messageIn (taken (s .store) host .store) in
     rw (refused-reply (s .settings) m low, refused-kept (s .settings) m low) (refl, refl, refl, refl))
 
 pub fed-refused : (s : Station) (host : List ℕ) (room : ℕ) → FeedsNothing s (feedingOf s host room)
 fed-refused s host room =
-    each-way (FeedsNothing s) s host room (λ v r. (refl, refl, refl, refl)) (λ v r. (refl, refl, refl, refl)) (λ v f r. absurd (omega arith))
+    each-way (FeedsNothing s) s host room (λ v r. (refl, refl, refl, refl)) (λ v r. (refl, refl, refl, refl))
+    (λ v f r. absurd (omega arith))
     (λ v f enough r. absurd (omega (arith, code-below (s .settings) (messageIn (taken (s .store) host .store)))))
 
 -- ---- cutting and reading
@@ -60,7 +62,8 @@ cut-refused s samples room = each-cut (CutsNothing s) s samples room (λ e r. ab
 pub read-refused : (r : Reader) (packet : List ℕ) → HearsNothing r (readingOf r packet)
 unfolding readingOf
 read-refused r packet =
-    pick-keeps (HearsNothing r) (eqb (readCode r packet) 1) (heardAt (positionAfter r (numberIn packet)) (wholeOf packet)) (unheard (readCode r packet) r)
+    pick-keeps (HearsNothing r) (eqb (readCode r packet) 1)
+    (heardAt (positionAfter r (numberIn packet)) (wholeOf packet)) (unheard (readCode r packet) r)
     (λ e h. absurd (omega arith)) (λ e h. refl)
 
 -- ---- a message that is not fully taken
@@ -70,7 +73,7 @@ waits-for-the-end s host room v less =
     let t = taken (s .store) host in
     let open-still : finished (t .store) ≡ false = rw (lt-leb (announced (t .store .held)) (t .store .taken) less, and-false) refl in
     let is = feeding-waiting (s .settings) (s .store) host room v open-still in
-    rw is (refl, count-all 0 (s .store) host (sym (told 0 (s .store) host) ∙ open-still) ∙ zero-add (length host), refl)
+    rw is (refl, count-all 0 (s .store) host (sym (finished-taking 0 (s .store) host) ∙ open-still) ∙ zero-add (length host), refl)
 
 -- 64 bytes of a set of 65 are not answered yet
 pub naks-early-fails : WaitsForTheEnd naksAt64 → ⊥

@@ -4,14 +4,14 @@
 use Prim.Native.Nat.{ℕ, _+_, _%_, _≤_, _<_}
 use native.Mathlib.Omega.{arith}
 use mathlib.Core.Path.{_≡_, refl, sym, ap, _∙_}
-use mathlib.Core.Bool.{Bool, true, false, _&&_}
+use mathlib.Core.Bool.{true, false, _&&_}
 use mathlib.Core.List.{List, [], _∷_}
 use lib.Dec.{eqb}
 use lib.ListN.{length, getD, take, drop, length-drop}
 use lib.Seq.{drop-cons, length-take-le}
 use borrow.Author.Tests.{eqb-true, eq-eqb, not-false}
-use Rattle.wire.specs.Choice.{pick, within}
-use Rattle.wire.proofs.Laws.{true-not-false, never, and-left, and-both, and-not-right, pick-same, within-low, within-high}
+use Rattle.wire.specs.Choice.{pick}
+use Rattle.wire.proofs.Laws.{true-not-false, never, and-left, and-both, and-not-right}
 use Rattle.wire.specs.Number.{bytes, field}
 use Rattle.wire.specs.Header.{typeSet, typeRequest, typeRange}
 use Rattle.wire.proofs.Numbers.{bytes-number}
@@ -20,15 +20,15 @@ use Rattle.wire.specs.Lists.{allBytes}
 use Rattle.wire.proofs.Lists.{bytes-take, bytes-drop, byte-at}
 use Rattle.items.specs.declared.Settings.{Settings}
 use Rattle.items.specs.Settings.{withRunning, withCount, withMode, isMode}
-use Rattle.items.specs.Items.{stateBytes, Offer, total, dash, Item, items, noItem, rowOf, runByte, modeByte, idle, run, frequency, gain, clock, rate, packetSize, state, status, listed}
-use Rattle.items.specs.Table.{offerFor, offered, isDash, isTotal}
-use Rattle.items.specs.Answer.{Message, itemIn, row, parameters, itemCode, codeOf, settingsAfter, replyOf}
-use Rattle.items.proofs.Classes.{fitting, unnamed}
-use Rattle.items.proofs.Judging.{by-item, is-listed, has-length, has-value, is-free, after-ways}
+use Rattle.items.specs.Items.{stateBytes, Item, items, rowOf, runByte, modeByte, idle, run, frequency, gain}
+use Rattle.items.specs.Items.{clock, rate, packetSize, state, status}
+use Rattle.items.specs.Table.{isTotal}
+use Rattle.items.specs.Answer.{Message, itemIn, row, parameters, codeOf, settingsAfter, replyOf}
+use Rattle.items.proofs.Judging.{is-listed, has-length, has-value, is-free, after-ways}
 use Rattle.items.proofs.States.{state-ways}
 use Rattle.items.proofs.Rows.{Each, _then_, found-at, row-code}
 use Rattle.station.proofs.Kept.{left-alone, accepted-set}
-use Rattle.demands.specs.Shown.{OthersUnchanged, shownBy, valueSet, Held, showing, touches, changes, afterAll, noneChanges}
+use Rattle.demands.specs.Shown.{OthersUnchanged, shownBy, valueSet, HeldWhole, showing, touches, changes, afterAll, noneChanges}
 
 -- ---- every other item is as it was
 
@@ -106,7 +106,9 @@ Shows code i =
 state-shows : Shows 0x0018 state
 unfolding shownBy
 state-shows size long s p room b may free q =
-    state-ways (λ (t : Settings). state .rule .value t q ≡ pick (eqb (runByte p) idle) (stateBytes idle (s .mode)) (stateBytes run (modeByte p)))
+    state-ways
+    (λ (t : Settings).
+    state .rule .value t q ≡ pick (eqb (runByte p) idle) (stateBytes idle (s .mode)) (stateBytes run (modeByte p)))
     (runByte p) (modeByte p) s
     (λ i. rw i)
     (λ i w. rw (i, w, same-mode i w))
@@ -114,7 +116,8 @@ state-shows size long s p room b may free q =
   where
     runs : eqb (runByte p) idle ≡ false → eqb (runByte p) run ≡ true
     runs i =
-        and-left (eqb (runByte p) run) (eqb (getD p 0 0) 0x80) (and-left (eqb (runByte p) run && eqb (getD p 0 0) 0x80) (isMode (modeByte p)) (rw i at may))
+        let may-run = and-left (eqb (runByte p) run && eqb (getD p 0 0) 0x80) (isMode (modeByte p)) (rw i at may) in
+        and-left (eqb (runByte p) run) (eqb (getD p 0 0) 0x80) may-run
 
     same-mode : eqb (runByte p) idle ≡ false → s .running ≡ true → s .mode ≡ modeByte p
     same-mode i w = sym (eqb-true (modeByte p) (s .mode) (not-false (eqb (modeByte p) (s .mode)) (rw (w, runs i) at free)))
@@ -154,7 +157,8 @@ unfolding codeOf
 asked-alike s t q kind = rw kind
 
 -- and its reply shows the value that its item has
-pub asked-shows : (s : Settings) (q : Message) → q .type ≡ typeRequest → codeOf s q ≡ 1 → replyOf s q ≡ showing q (row q .rule .value s (parameters q))
+pub asked-shows : (s : Settings) (q : Message) → q .type ≡ typeRequest → codeOf s q ≡ 1
+    → replyOf s q ≡ showing q (row q .rule .value s (parameters q))
 asked-shows s q kind h =
     answers s q h (rw kind refl) ∙ ap (λ (t : Settings). showing q (row q .rule .value t (parameters q))) (asked-leaves s q kind)
 
@@ -174,7 +178,7 @@ stores : (s : Settings) (m : Message) → codeOf s m ≡ 1 → m .type ≡ typeS
 stores s m h kind = accepted-set s m (and-both (eqb (codeOf s m) 1) (eqb (m .type) typeSet) (eq-eqb _ _ h) (eq-eqb _ _ kind))
 
 -- after it, its item has the value set
-pub has-value-set : (s : Settings) (m : Message) → codeOf s m ≡ 1 → m .type ≡ typeSet → Held m
+pub has-value-set : (s : Settings) (m : Message) → codeOf s m ≡ 1 → m .type ≡ typeSet → HeldWhole m
     → (q : List ℕ) → row m .rule .value (settingsAfter s m) q ≡ valueSet s m
 has-value-set s m h kind held q =
     rw (stores s m h kind)
@@ -183,7 +187,7 @@ has-value-set s m h kind held q =
     (rw kind at (is-free s m h)) q)
 
 -- "is echoed": the reply to an accepted set has the value set
-pub set-replies : (s : Settings) (m : Message) → codeOf s m ≡ 1 → m .type ≡ typeSet → Held m
+pub set-replies : (s : Settings) (m : Message) → codeOf s m ≡ 1 → m .type ≡ typeSet → HeldWhole m
     → replyOf s m ≡ showing m (valueSet s m)
 set-replies s m h kind held =
     answers s m h (rw kind refl) ∙ ap (showing m) (has-value-set s m h kind held (parameters m))
@@ -191,7 +195,7 @@ set-replies s m h kind held =
 -- "later requests show the setting": after an accepted set, and any messages that do not change what its item shows, an
 -- accepted request of the item shows the value set
 pub set-shows-later : (s : Settings) (m : Message) (ms : List Message) (q : Message)
-    → codeOf s m ≡ 1 → m .type ≡ typeSet → Held m
+    → codeOf s m ≡ 1 → m .type ≡ typeSet → HeldWhole m
     → noneChanges (itemIn m) (settingsAfter s m) ms
     → q .type ≡ typeRequest → itemIn q ≡ itemIn m → codeOf (afterAll (settingsAfter s m) ms) q ≡ 1
     → replyOf (afterAll (settingsAfter s m) ms) q ≡ showing q (valueSet s m)
@@ -200,23 +204,11 @@ set-shows-later s m ms q h kind held none asked same answered =
     ∙ ap (showing q)
     (rw same (messages-leave (itemIn m) (settingsAfter s m) ms none (parameters q) ∙ has-value-set s m h kind held (parameters q)))
 
--- at once
-pub set-shows : (s : Settings) (m q : Message)
-    → codeOf s m ≡ 1 → m .type ≡ typeSet → Held m
-    → q .type ≡ typeRequest → itemIn q ≡ itemIn m → codeOf (settingsAfter s m) q ≡ 1
-    → replyOf (settingsAfter s m) q ≡ showing q (valueSet s m)
-set-shows s m q h kind held asked same answered = set-shows-later s m [] q h kind held tt asked same answered
-
 -- a request whose item shows the same is answered alike, accepted or not
 pub answered-alike : (s t : Settings) (q : Message) → q .type ≡ typeRequest → Same (row q) s t → replyOf t q ≡ replyOf s q
 unfolding replyOf
 answered-alike s t q asked same =
     rw (asked-leaves t q asked, asked-leaves s q asked, asked-alike s t q asked, asked, same (parameters q))
-
--- Other items are unchanged: whatever messages come, a request of an item that none of them changes is answered as before
-pub same-answer : (s : Settings) (ms : List Message) (q : Message) → q .type ≡ typeRequest → noneChanges (itemIn q) s ms
-    → replyOf (afterAll s ms) q ≡ replyOf s q
-same-answer s ms q asked none = answered-alike s (afterAll s ms) q asked (messages-leave (itemIn q) s ms none)
 
 -- The one exception: after an accepted set of the state, and any messages that do not change what the status shows, an
 -- accepted request of the status shows it, "0B idle, 0C running".
@@ -237,64 +229,3 @@ status-shows s m ms q h kind item none asked same answered =
     asked-shows (afterAll (settingsAfter s m) ms) q asked answered
     ∙ ap (showing q)
     (rw same (messages-leave (status .code) (settingsAfter s m) ms none (parameters q) ∙ status-value s m h kind item (parameters q)))
-
--- ---- what the table offers is obeyed: a box that NAKs all is ruled out
-
--- a length of the table is one of a control message
-abbrev fits : Offer → Bool
-fits (total n) = within 4 64 n
-fits dash = true
-
--- what is offered has a length of the table
-total-fits : (o : Offer) (size : ℕ) → fits o ≡ true → isTotal o size ≡ true → (4 ≤ size) × (size ≤ 64) × (isDash o ≡ false)
-total-fits (total n) size f t = rw (eqb-true size n t) (within-low 4 64 n f, within-high 4 64 n f, refl)
-total-fits dash size f t = never t
-
--- and is a set, a request or a range request
-offer-kind : (a b c : Offer) (kind size : ℕ) → isTotal (offerFor a b c kind) size ≡ true → kind ≤ 2
-offer-kind a b c kind size = go (eqb kind typeSet) (eqb kind typeRequest) (eqb kind typeRange) refl refl refl
-  where
-    go : (s r g : Bool) → eqb kind typeSet ≡ s → eqb kind typeRequest ≡ r → eqb kind typeRange ≡ g
-        → isTotal (pick s a (pick r b (pick g c dash))) size ≡ true → kind ≤ 2
-    go true r g p q u t = omega (arith, eqb-true kind typeSet p)
-    go false true g p q u t = omega (arith, eqb-true kind typeRequest q)
-    go false false true p q u t = omega (arith, eqb-true kind typeRange u)
-    go false false false p q u t = never t
-
-offer-fits : (a b c : Offer) (kind : ℕ) → fits a ≡ true → fits b ≡ true → fits c ≡ true → fits (offerFor a b c kind) ≡ true
-offer-fits a b c kind p q u = go (eqb kind typeSet) (eqb kind typeRequest) (eqb kind typeRange)
-  where
-    go : (s r g : Bool) → fits (pick s a (pick r b (pick g c dash))) ≡ true
-    go true r g = p
-    go false true g = q
-    go false false true = u
-    go false false false = refl
-
--- each line has lengths that fit, and what is offered is listed
-abbrev Offers : ℕ → Item → Type 0
-Offers code i =
-    (fits (i .set) ≡ true) × (fits (i .request) ≡ true) × (fits (i .range) ≡ true)
-    × ((kind size : ℕ) → isTotal (offered i kind) size ≡ true → listed code ≡ true)
-
-offers : Each Offers items
-unfolding listed
-offers = search depth 30
-
-none-offered : (kind size : ℕ) → isTotal (offered noItem kind) size ≡ false
-none-offered kind size = simp pick-same
-
-offers-at : (code : ℕ) → Offers code (rowOf code)
-offers-at code =
-    found-at Offers (λ code. (refl, refl, refl, λ kind size t. absurd (true-not-false (sym t ∙ none-offered kind size)))) offers code
-
--- A message of a kind and a length that the table offers is obeyed unless the item refuses it, with 15, 16 or 17.
-pub obeyed : (s : Settings) (m : Message) → isTotal (offered (row m) (m .type)) (m .size) ≡ true
-    → itemCode (row m) (m .type) s (parameters m) ≡ 1 → codeOf s m ≡ 1
-obeyed s m t free =
-    let o = offers-at (itemIn m) in
-    let f = total-fits (offered (row m) (m .type)) (m .size) (offer-fits (row m .set) (row m .request) (row m .range) (m .type) (o .0) (o .1) (o .2)) t in
-    let k = offer-kind (row m .set) (row m .request) (row m .range) (m .type) (m .size) t in
-    by-item s m
-    (sym (fitting (m .type) (m .size) k (f .0) (f .1) ∙ unnamed (m .type) (m .size) (getD (m .held) 2 0) k))
-    (rw (o .3 (m .type) (m .size) t, f .2, t))
-    ∙ free

@@ -31,8 +31,12 @@ use Rattle.cutting.specs.Cutting.{cuttingOf}
 use Rattle.cutting.proofs.Ways.{each-cut, cutting-keeps}
 use Rattle.demands.proofs.OneMessage.{tookAll, one-message, whole-answered}
 use Rattle.station.proofs.Calls.{feeding-keeps}
-use Rattle.demands.specs.Shown.{shownBy, valueSet, Held, showing, OneMessage, messageOf, resting, hasRoom, repliesWith, ShowsSets, finishedBy, naksAll, echoesOnly, Undisturbed, still, fed, cut, FedSetShowsLater, FedSameAnswer, FedStateShowsInStatus}
-use Rattle.demands.proofs.Shown.{Same, message-leaves, asked-alike, asked-shows, answered-alike, has-value-set, set-replies, status-value}
+use Rattle.demands.specs.Shown.{shownBy, valueSet, HeldWhole, showing, OneMessage, messageOf, resting, hasRoom, repliesWith}
+use Rattle.demands.specs.Shown.{ShowsSets}
+use Rattle.demands.specs.Shown.{finishedBy, naksAll, echoesOnly, Undisturbed, still, fed, cut, FedSetShowsLater, FedSameAnswer}
+use Rattle.demands.specs.Shown.{FedStateShowsInStatus}
+use Rattle.demands.proofs.Shown.{Same, message-leaves, asked-alike, asked-shows, answered-alike, has-value-set, set-replies}
+use Rattle.demands.proofs.Shown.{status-value}
 
 -- ---- one whole message, fed in one call to a box between messages
 
@@ -65,7 +69,7 @@ module _ (m : List ℕ) (one : OneMessage m) (s : Settings) (low : messageOf m .
   most = omega (arith, long, size-small)
 
   -- it is held whole
-  pub held-whole : Held (messageOf m)
+  pub held-whole : HeldWhole (messageOf m)
   held-whole =
       let room : length (m ++ replicate (64 - length m) 0) ≡ 64 = simp (length-append, length-replicate) (omega (arith, most)) in
       record {
@@ -98,8 +102,9 @@ feeding-by : (P : Settings → Type 0) (s : Station) (host : List ℕ) (room : �
     → P (settingsAfter (s .settings) (finishedBy s host)))
     → P (feedingOf s host room .fed .station .settings)
 feeding-by P s host room before after =
+    let m = finishedBy s host in
     each-way
-    (λ f. (f .fed .code ≡ codeOf (s .settings) (finishedBy s host) → P (settingsAfter (s .settings) (finishedBy s host))) → P (f .fed .station .settings))
+    (λ f. (f .fed .code ≡ codeOf (s .settings) m → P (settingsAfter (s .settings) m)) → P (f .fed .station .settings))
     s host room (λ v h. before) (λ v h. before) (λ v f h. before) (λ v f enough h. h refl) after
 
 -- a cut counts one packet more, or leaves the settings
@@ -155,7 +160,8 @@ later-shows item shown b v shows s t q later calm more one kind same answered =
 pub fed-set-shows-later : FedSetShowsLater
 fed-set-shows-later s m room t q later v enough more one kind h calm two asked same answered =
     let f = message-fed m one s (set-low kind) h s room v enough in
-    later-shows (itemIn (messageOf m)) (valueSet s (messageOf m)) (feedingOf (resting s) m room .fed .station) (feeding-keeps (resting s) m room v)
+    later-shows (itemIn (messageOf m)) (valueSet s (messageOf m))
+    (feedingOf (resting s) m room .fed .station) (feeding-keeps (resting s) m room v)
     (λ p. ap (λ (b : Station). row (messageOf m) .rule .value (b .settings) p) (f .1)
     ∙ has-value-set s (messageOf m) h kind (held-whole m one s (set-low kind) h) p)
     s t q later calm more two asked same answered
@@ -184,7 +190,8 @@ bytes-fed : (s : Settings) (host : List ℕ) (room : ℕ) → valid (resting s) 
     ≡ pick (taken between host .finished) (replyOf s (messageIn (taken between host .store))) []
 bytes-fed s host room v =
     each-way (λ f. hasRoom f → f .bytes ≡ pick (taken between host .finished) (replyOf s (messageIn (taken between host .store))) [])
-    (resting s) host room (λ w some. never (sym w ∙ v)) (λ w some. absurd (some refl)) (λ w waits some. rw waits refl) (λ w ends fits some. rw ends refl)
+    (resting s) host room (λ w some. never (sym w ∙ v)) (λ w some. absurd (some refl))
+    (λ w waits some. rw waits refl) (λ w ends fits some. rw ends refl)
 
 pub fed-same-answer : FedSameAnswer
 fed-same-answer s t q room later v enough more asked calm =

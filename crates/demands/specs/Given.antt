@@ -11,7 +11,7 @@ use Rattle.wire.specs.Codes as Code
 use Rattle.wire.specs.Number.{number, field}
 use Rattle.items.specs.declared.Settings.{Settings}
 use Rattle.items.specs.Settings.{isSerial}
-use Rattle.items.specs.Answer.{Message, checks, codeOf}
+use Rattle.items.specs.Answer.{Message, checks, codeOf, replyOf}
 use Rattle.station.specs.declared.Station.{Station}
 use Rattle.station.specs.Station.{valid, freshBox}
 use Rattle.framing.specs.Framing.{taken, finished}
@@ -25,6 +25,7 @@ use Rattle.heads.specs.Head.{writeChecks as headChecks, writeCode as headCode, 
 use Rattle.wishes.specs.declared.Wish.{Wish}
 use Rattle.wishes.specs.Writing.{writeChecks, writeCode}
 use Rattle.replies.specs.Reading.{readChecks as replyChecks, readCode as replyCode}
+use Rattle.demands.specs.Shown.{finishedBy}
 
 -- of each check of the list: its code is given exactly where it holds and none before it does
 abbrev pub EachExactly : List Check → ℕ → Type 0
@@ -42,12 +43,29 @@ pub record HeadExactly (s : List ℕ) : Type 0 where
       (headReadCode s ≡ Code.otherVersion)
       ↔ ((headLength ≤ length s) × (field 0 3 s ≡ number mark) × (field 3 2 s ≡ version → ⊥))
 
+-- A call that answers a message: the box is not broken, the bytes finish the message, and there is room for what is written.
+pub record Answers (s : Station) (host : List ℕ) (room : ℕ) : Type 0 where
+  pub sound : valid s ≡ true
+  pub finishes : finished (taken (s .store) host .store) ≡ true
+  pub fits : length (replyOf (s .settings) (finishedBy s host)) ≤ room
+
 pub record GivenExactly : Type 0 where
   pub fresh : (serial : List ℕ) → (freshBox serial .code ≡ Code.notASerial) ↔ (isSerial serial ≡ false)
   -- 0, which no list has: the box is not broken, and the bytes finish no message
   pub waits : (s : Station) (host : List ℕ) (room : ℕ)
-      → (feedingOf s host room .fed .code ≡ Code.waiting) ↔ ((valid s ≡ true) × (finished (taken (s .store) host .store) ≡ false))
-  pub feeding : (s : Station) (host : List ℕ) (room : ℕ) → EachExactly (feedChecks s (taken (s .store) host) room) (feedingOf s host room .fed .code)
+      → (feedingOf s host room .fed .code ≡ Code.waiting)
+      ↔ ((valid s ≡ true) × (finished (taken (s .store) host .store) ≡ false))
+  pub feeding : (s : Station) (host : List ℕ) (room : ℕ) → EachExactly (feedChecks s host room) (feedingOf s host room .fed .code)
+  -- a call that answers a message gives the message's own code
+  pub own : (s : Station) (host : List ℕ) (room : ℕ) → Answers s host room
+      → feedingOf s host room .fed .code ≡ codeOf (s .settings) (finishedBy s host)
+  -- and no other call gives one of these: 1, 2 and 10 to 17
+  pub ownExactly : (s : Station) (host : List ℕ) (room code : ℕ) → 1 ≤ code → code < 20
+      → (feedingOf s host room .fed .code ≡ code) ↔ (Answers s host room × (codeOf (s .settings) (finishedBy s host) ≡ code))
+  -- so each check of the message is the call's, where the call answers it
+  pub answered : (s : Station) (host : List ℕ) (room : ℕ) (before : List Check) (c : Check) (after : List Check)
+      → checks (s .settings) (finishedBy s host) ≡ before ++ c ∷ after
+      → (feedingOf s host room .fed .code ≡ c .code) ↔ (Answers s host room × Absent before × (c .holds ≡ true))
   pub message : (s : Settings) (m : Message) → EachExactly (checks s m) (codeOf s m)
   pub cutting : (s : Station) (samples : List ℤ) (room : ℕ) → EachExactly (cutChecks s samples room) (cutCode s samples room)
   pub reading : (r : Reader) (packet : List ℕ) → EachExactly (readChecks r packet) (readCode r packet)

@@ -18,4 +18,5 @@ pub record Unpacks (s : Station) (samples : List ℤ) (room out : ℕ) : Type 0 
 
 abbrev pub WhatIsPackedIsUnpacked : Type 0
 WhatIsPackedIsUnpacked =
-    (s : Station) (samples : List ℤ) (room out : ℕ) → cuttingOf s samples room .cut .code ≡ Code.done → length samples ≤ out → Unpacks s samples room out
+    (s : Station) (samples : List ℤ) (room out : ℕ) → cuttingOf s samples room .cut .code ≡ Code.done → length samples ≤ out
+    → Unpacks s samples room out

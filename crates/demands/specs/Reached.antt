@@ -11,11 +11,11 @@ use Rattle.cutting.specs.Cutting.{cuttingOf}
 
 -- A fresh box from any serial, also one that is refused with 26; then calls that may be refused or not: what counts is the
 -- box that each returns.
-pub data Reached : Station → Type 0 where
-  fresh : (serial : List ℕ) → Reached (freshBox serial .station)
-  fed : (s : Station) (host : List ℕ) (room : ℕ) → Reached s → Reached (feedingOf s host room .fed .station)
-  cut : (s : Station) (samples : List ℤ) (room : ℕ) → Reached s → Reached (cuttingOf s samples room .cut .station)
+pub data Reachable : Station → Type 0 where
+  fresh : (serial : List ℕ) → Reachable (freshBox serial .station)
+  fed : (s : Station) (host : List ℕ) (room : ℕ) → Reachable s → Reachable (feedingOf s host room .fed .station)
+  cut : (s : Station) (samples : List ℤ) (room : ℕ) → Reachable s → Reachable (cuttingOf s samples room .cut .station)
 
 -- "No setting of a box started fresh ever leaves its range."
 abbrev pub NeverOutOfRange : Type 0
-NeverOutOfRange = (s : Station) → Reached s → valid s ≡ true
+NeverOutOfRange = (s : Station) → Reachable s → valid s ≡ true

@@ -15,7 +15,8 @@ use Rattle.framing.specs.Framing.{between, taken, headerIn, announced}
 use Rattle.wire.specs.Lists.{allBytes}
 use Rattle.rates.specs.Rate.{nearestOf, rateOf}
 use Rattle.items.specs.declared.Settings.{Settings}
-use Rattle.items.specs.Items.{echoes, status, state, idle, run, runByte, modeByte, stateBytes, frequency, gain, clock, rate, packetSize, rowOf}
+use Rattle.items.specs.Items.{echoes, status, state, idle, run, runByte, modeByte, stateBytes, frequency, gain, clock, rate, packetSize}
+use Rattle.items.specs.Items.{rowOf}
 use Rattle.items.specs.Answer.{Message, itemIn, row, parameters, codeOf, settingsAfter, framed}
 use Rattle.station.specs.declared.Station.{Station}
 use Rattle.station.specs.Station.{valid}
@@ -63,7 +64,7 @@ abbrev pub valueSet : Settings → Message → List ℕ
 valueSet s m = shownBy (itemIn m) s (parameters m)
 
 -- all of the message is held, and each place holds a byte
-pub record Held (m : Message) : Type 0 where
+pub record HeldWhole (m : Message) : Type 0 where
   pub whole : m .size ≤ length (m .held)
   pub areBytes : allBytes (m .held)
 
@@ -198,4 +199,5 @@ FedStateShowsInStatus =
     → OneMessage m → messageOf m .type ≡ typeSet → itemIn (messageOf m) ≡ state .code → codeOf s (messageOf m) ≡ Code.done
     → Undisturbed (status .code) (feedingOf (resting s) m room .fed .station) (resting t)
     → OneMessage q → messageOf q .type ≡ typeRequest → itemIn (messageOf q) ≡ status .code → codeOf s (messageOf q) ≡ Code.done
-    → repliesWith (feedingOf (resting t) q later) (showing (messageOf q) (pick (eqb (runByte (parameters (messageOf m))) idle) 0x0B 0x0C ∷ []))
+    → repliesWith (feedingOf (resting t) q later)
+    (showing (messageOf q) (pick (eqb (runByte (parameters (messageOf m))) idle) 0x0B 0x0C ∷ []))

@@ -14,7 +14,8 @@ use Rattle.wire.specs.Choice.{pick}
 use Rattle.wire.specs.Header.{typeIn, lengthIn}
 use Rattle.wire.proofs.Laws.{true-not-false, and-left, and-right}
 use Rattle.framing.specs.declared.Store.{Store}
-use Rattle.framing.specs.Framing.{Taking, announcedBy, headerIn, announced, pushed, finished, zeros, couldBeLeft, stopped, taking, taken}
+use Rattle.framing.specs.Framing.{Taking, announcedBy, headerIn, announced, pushed, finished, zeros, couldBeLeft, stopped, taking}
+use Rattle.framing.specs.Framing.{taken}
 use Rattle.framing.proofs.Headers.{header-kept, open-total}
 use Rattle.framing.proofs.Leaving.{pushed-left, pushed-unused}
 use Rattle.framing.proofs.Runs.{stops}
@@ -54,14 +55,16 @@ taking-by P none done more n s (b ∷ bs) = go (finished s) refl (taking-by P no
 pub stopped-there : (n : ℕ) (s : Store) (host : List ℕ) → stopped (taking n s host .count) (taking n s host .store) ≡ taking n s host
 stopped-there = taking-by (λ n s host t. stopped (t .count) (t .store) ≡ t) (λ n s. refl) (λ n s b bs f. refl) (λ n s b bs t f ih. ih)
 
-pub told : (n : ℕ) (s : Store) (host : List ℕ) → finished (taking n s host .store) ≡ taking n s host .finished
-told n s host = ap (λ (t : Taking). t .finished) (stopped-there n s host)
+pub finished-taking : (n : ℕ) (s : Store) (host : List ℕ) → finished (taking n s host .store) ≡ taking n s host .finished
+finished-taking n s host = ap (λ (t : Taking). t .finished) (stopped-there n s host)
 
 pub count-least : (n : ℕ) (s : Store) (host : List ℕ) → n ≤ taking n s host .count
 count-least = taking-by (λ n s host t. n ≤ t .count) (λ n s. omega arith) (λ n s b bs f. omega arith) (λ n s b bs t f ih. omega arith)
 
 pub count-most : (n : ℕ) (s : Store) (host : List ℕ) → taking n s host .count ≤ n + length host
-count-most = taking-by (λ n s host t. t .count ≤ n + length host) (λ n s. omega arith) (λ n s b bs f. omega arith) (λ n s b bs t f ih. omega arith)
+count-most =
+    taking-by (λ n s host t. t .count ≤ n + length host) (λ n s. omega arith) (λ n s b bs f. omega arith)
+    (λ n s b bs t f ih. omega arith)
 
 -- of a message that is not finished at least one byte is taken, where there is one
 pub count-some : (s : Store) (b : ℕ) (bs : List ℕ) → finished s ≡ false → 1 ≤ taken s (b ∷ bs) .count
@@ -92,27 +95,18 @@ cut n s [] b = refl
 cut n s (x ∷ a) b = go (finished s) refl (cut (n + 1) (pushed s x) a b)
   where
     go : (d : Bool) → finished s ≡ d
-        → taking (n + 1) (pushed s x) (a ++ b) ≡ taking (taking (n + 1) (pushed s x) a .count) (taking (n + 1) (pushed s x) a .store) b
+        → let t = taking (n + 1) (pushed s x) a in
+        taking (n + 1) (pushed s x) (a ++ b) ≡ taking (t .count) (t .store) b
         → pick d (stopped n s) (taking (n + 1) (pushed s x) (a ++ b))
-        ≡ taking (pick d (stopped n s) (taking (n + 1) (pushed s x) a) .count) (pick d (stopped n s) (taking (n + 1) (pushed s x) a) .store) b
+        ≡ taking (pick d (stopped n s) t .count) (pick d (stopped n s) t .store) b
     go true f ih = sym (stops n s b f)
     go false f ih = ih
-
--- The call over some bytes does not finish the message: the others are taken from the store that it leaves.
-pub cut-open : (s : Store) (a b : List ℕ) → taken s a .finished ≡ false → taken s (a ++ b) ≡ added (length a) (taken (taken s a .store) b)
-cut-open s a b f =
-    let all : taken s a .count ≡ length a + 0 = omega (arith, count-all 0 s a f) in
-    cut 0 s a b ∙ rw all (count-added (length a) 0 (taken s a .store) b)
-
--- It does: the others are not looked at.
-pub cut-finished : (s : Store) (a b : List ℕ) → taken s a .finished ≡ true → taken s (a ++ b) ≡ taken s a
-cut-finished s a b f = cut 0 s a b ∙ stops (taken s a .count) (taken s a .store) b (told 0 s a ∙ f) ∙ stopped-there 0 s a
 
 -- ---- what the store is that a call leaves
 
 pub taken-left : (n : ℕ) (s : Store) (host : List ℕ) → couldBeLeft s ≡ true → taking n s host .finished ≡ false
     → couldBeLeft (taking n s host .store) ≡ true
-taken-left n s host h f = kept n s host (λ g. h) (told n s host ∙ f)
+taken-left n s host h f = kept n s host (λ g. h) (finished-taking n s host ∙ f)
   where
     kept : (n : ℕ) (s : Store) (host : List ℕ) → (finished s ≡ false → couldBeLeft s ≡ true)
         → finished (taking n s host .store) ≡ false → couldBeLeft (taking n s host .store) ≡ true
@@ -153,7 +147,7 @@ last-byte s b f g =
 -- So is a finished message: all that its header announces is taken, and no more.
 pub finished-whole : (n : ℕ) (s : Store) (host : List ℕ) → finished s ≡ false → taking n s host .finished ≡ true
     → (2 ≤ taking n s host .store .taken) × (taking n s host .store .taken ≡ announced (taking n s host .store .held))
-finished-whole n s host f g = whole n s host (λ e. absurd (true-not-false (sym e ∙ f))) (told n s host ∙ g)
+finished-whole n s host f g = whole n s host (λ e. absurd (true-not-false (sym e ∙ f))) (finished-taking n s host ∙ g)
   where
     whole : (n : ℕ) (s : Store) (host : List ℕ) → (finished s ≡ true → (2 ≤ s .taken) × (s .taken ≡ announced (s .held)))
         → finished (taking n s host .store) ≡ true

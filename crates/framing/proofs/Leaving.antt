@@ -17,7 +17,8 @@ use Rattle.wire.proofs.Laws.{and-left, and-right}
 use Rattle.wire.proofs.Lists.{bytes-append, bytes-take, bytes-zero}
 use Rattle.wire.proofs.Stores.{sets-append, sets-out}
 use Rattle.framing.specs.declared.Store.{Store}
-use Rattle.framing.specs.Framing.{announcedBy, announced, between, pushed, pushedAll, finished, unfinishedAll, Left, zeros, couldBeLeft}
+use Rattle.framing.specs.Framing.{announcedBy, announced, between, pushed, pushedAll, finished, unfinishedAll, Left, zeros}
+use Rattle.framing.specs.Framing.{couldBeLeft}
 use Rattle.framing.proofs.Headers.{headless, short-of, open-total, header-settled}
 use Rattle.framing.proofs.Runs.{after, pushed-all}
 
@@ -63,7 +64,8 @@ zeros-further (suc n) [] h = refl
 zeros-further (suc n) (b ∷ bs) h = zeros-further n bs h
 
 -- one byte more leaves the unused places zero
-pub pushed-unused : (s : Store) (b : ℕ) → zeros (drop (s .taken) (s .held)) ≡ true → zeros (drop (pushed s b .taken) (pushed s b .held)) ≡ true
+pub pushed-unused : (s : Store) (b : ℕ) → zeros (drop (s .taken) (s .held)) ≡ true
+    → zeros (drop (pushed s b .taken) (pushed s b .held)) ≡ true
 pushed-unused s b h =
     rw (add-one, drop-set-lt (suc (s .taken)) (s .held) (s .taken) b (le-refl (suc (s .taken)))) (zeros-further (s .taken) (s .held) h)
 
@@ -113,7 +115,8 @@ module _ (l z : List ℕ) (n : ℕ) (empty : z ≡ replicate (length l) 0) (unus
         | no w ↦ let none : n - length l ≡ 0 = omega arith in rw none refl
       ])
 
-unfinished-all : (s : Store) (bs : List ℕ) → ((j : ℕ) → j < length bs → finished (pushedAll s (take (suc j) bs)) ≡ false) → unfinishedAll s bs
+unfinished-all : (s : Store) (bs : List ℕ) → ((j : ℕ) → j < length bs → finished (pushedAll s (take (suc j) bs)) ≡ false)
+    → unfinishedAll s bs
 unfinished-all s [] u = tt
 unfinished-all s (b ∷ bs) u = (u 0 (omega arith), unfinished-all (pushed s b) bs (λ j h. u (suc j) (omega arith)))
 
@@ -133,11 +136,15 @@ module _ (s : Store) (test : couldBeLeft s ≡ true) where
   left-prefix j l =
       elim (decLt j 1) [
         | yes w ↦ headless (after between (take (suc j) (leftBy s))) (omega (arith, part))
-        | no w ↦ short-of (after between (take (suc j) (leftBy s))) (omega (arith, part, left-length s, settled (omega arith), open-total s (omega (arith, left-length s)) (left-open s test)))
+        | no w ↦ short-of (after between (take (suc j) (leftBy s)))
+            (omega (arith, part, left-length s, settled (omega arith), more (omega arith)))
       ]
     where
       part : length (take (suc j) (leftBy s)) ≡ suc j
       part = length-take-le (suc j) (leftBy s) (omega arith)
+
+      more : 1 ≤ j → s .taken < announced (s .held)
+      more h = open-total s (omega (arith, left-length s)) (left-open s test)
 
       settled : 1 ≤ j → announced (after between (take (suc j) (leftBy s)) .held) ≡ announced (s .held)
       settled h =
@@ -148,7 +155,8 @@ pub tested-left : (s : Store) → couldBeLeft s ≡ true → allBytes (s .held) 
 tested-left s test bytes =
     record {
       message = leftBy s;
-      areBytes = bytes-append (take (s .taken) (s .held)) _ (bytes-take (s .taken) (s .held) bytes) (bytes-zero (s .taken - length (s .held)));
+      areBytes =
+          bytes-append (take (s .taken) (s .held)) _ (bytes-take (s .taken) (s .held) bytes) (bytes-zero (s .taken - length (s .held)));
       unfinished = unfinished-all between (leftBy s) (λ j l. rw pushed-all (left-prefix s test j l));
       leaves = pushed-all between (leftBy s) ∙ left-held s test;
     }

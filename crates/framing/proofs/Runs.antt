@@ -55,7 +55,8 @@ takenRun s host total n =
     }
 
 -- fewer bytes than a header: all are taken, and the message is not finished
-pub taken-headless : (s : Store) (host : List ℕ) → s .taken + length host < 2 → taken s host ≡ record { store = after s host; count = length host; finished = false }
+taken-headless : (s : Store) (host : List ℕ) → s .taken + length host < 2
+    → taken s host ≡ record { store = after s host; count = length host; finished = false }
 unfolding taking
 taken-headless s host h =
     runs (length host) 0 s host (le-refl _) (λ j l. rw pushed-all (headless (after s (take j host)) (simp length-take (omega arith))))
@@ -80,7 +81,9 @@ module _ (s : Store) (host : List ℕ) (total n : ℕ) (two : 2 ≤ s .taken + l
       ]
 
   least-total : 2 ≤ total
-  least-total = rw (← t) (total-least (typeIn (headerIn (sets (s .held) (s .taken) host))) (lengthIn (headerIn (sets (s .held) (s .taken) host))))
+  least-total =
+      let header = headerIn (sets (s .held) (s .taken) host) in
+      rw (← t) (total-least (typeIn header) (lengthIn header))
 
   at-end : finished (after s (take n host)) ≡ leb total (s .taken + n)
   at-end =
@@ -95,7 +98,7 @@ module _ (s : Store) (host : List ℕ) (total n : ℕ) (two : 2 ≤ s .taken + l
         | no w ↦ let l : length host ≤ n = omega arith in rw (drop-of-length-le host l) refl
       ]
 
-  pub taken-run : taken s host ≡ takenRun s host total n
+  taken-run : taken s host ≡ takenRun s host total n
   taken-run =
       runs n 0 s host (omega arith) (λ j l. rw pushed-all (unfinished j l))
       ∙ rw (pushed-all, zero-add, no-further, at-end, part n (le-refl n)) refl

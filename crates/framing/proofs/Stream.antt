@@ -11,7 +11,7 @@ use lib.ListN.{length, drop, length-drop}
 use Rattle.wire.specs.Choice.{pick}
 use Rattle.framing.specs.declared.Store.{Store}
 use Rattle.framing.specs.Framing.{Taking, pushed, finished, couldBeLeft, taken}
-use Rattle.framing.specs.Stream.{Stream, answered, waiting, called, calling, handing, eating, eaten, listed}
+use Rattle.framing.specs.Stream.{Stream, answered, keeping, called, calling, handing, eating, eaten}
 use Rattle.wire.specs.Lists.{joined}
 use Rattle.framing.proofs.Cutting.{added, taking-none, taking-on, count-added, taken-left}
 use Rattle.framing.proofs.Leaving.{left-open, between-left, pushed-left}
@@ -29,7 +29,7 @@ module _ {X : Type 0} (answer : X → Store → X) where
 
   -- what a call takes it eats
   eaten-called : (x : X) (s : Store) (host : List ℕ) → finished s ≡ false
-      → eaten answer (waiting x s) host ≡ eaten answer (called answer x (taken s host)) (drop (taken s host .count) host)
+      → eaten answer (keeping x s) host ≡ eaten answer (called answer x (taken s host)) (drop (taken s host .count) host)
   unfolding eaten
   eaten-called x s [] f = rw (taking-none 0 s, f) refl
   eaten-called x s (b ∷ bs) f =
@@ -38,9 +38,9 @@ module _ {X : Type 0} (answer : X → Store → X) where
     where
       go : (d : Bool) → finished (pushed s b) ≡ d
           → (finished (pushed s b) ≡ false
-          → eaten answer (waiting x (pushed s b)) bs
+          → eaten answer (keeping x (pushed s b)) bs
           ≡ eaten answer (called answer x (taken (pushed s b) bs)) (drop (taken (pushed s b) bs .count) bs))
-          → eaten answer (pick d (answered answer x (pushed s b)) (waiting x (pushed s b))) bs
+          → eaten answer (pick d (answered answer x (pushed s b)) (keeping x (pushed s b))) bs
           ≡ eaten answer (called answer x (taken (pushed s b) bs)) (drop (taken (pushed s b) bs .count) bs)
       go true g ih = rw (stops 0 (pushed s b) bs g, g) refl
       go false g ih = ih g
@@ -50,7 +50,7 @@ module _ {X : Type 0} (answer : X → Store → X) where
   called-left x s host h = go (taken s host .finished) refl
     where
       go : (d : Bool) → taken s host .finished ≡ d
-          → couldBeLeft (pick d (answered answer x (taken s host .store)) (waiting x (taken s host .store)) .store) ≡ true
+          → couldBeLeft (pick d (answered answer x (taken s host .store)) (keeping x (taken s host .store)) .store) ≡ true
       go true f = between-left
       go false f = taken-left 0 s host h f
 
@@ -72,7 +72,7 @@ module _ {X : Type 0} (answer : X → Store → X) where
   eaten-left r (b ∷ bs) h = eaten-left (eating answer r b) bs (go (finished (pushed (r .store) b)) refl)
     where
       go : (d : Bool) → finished (pushed (r .store) b) ≡ d
-          → couldBeLeft (pick d (answered answer (r .state) (pushed (r .store) b)) (waiting (r .state) (pushed (r .store) b)) .store) ≡ true
+          → couldBeLeft (pick d (answered answer (r .state) (pushed (r .store) b)) (keeping (r .state) (pushed (r .store) b)) .store) ≡ true
       go true f = between-left
       go false f = pushed-left (r .store) b h f
 
@@ -82,13 +82,3 @@ module _ {X : Type 0} (answer : X → Store → X) where
   handing-eaten r (p ∷ ps) h =
       rw (calling-eaten (length p) r p h (le-refl (length p)))
       (handing-eaten (eaten answer r p) ps (eaten-left r p h) ∙ sym (eaten-append r p (joined ps)))
-
-  -- Two ways of cutting the same bytes lead to the same store, and the same messages were answered in the same order.
-  pub same-stream : (r : Stream X) (ps qs : List (List ℕ)) → couldBeLeft (r .store) ≡ true → joined ps ≡ joined qs
-      → handing answer r ps ≡ handing answer r qs
-  same-stream r ps qs h e = handing-eaten r ps h ∙ ap (eaten answer r) e ∙ sym (handing-eaten r qs h)
-
--- and so are the finished messages themselves, whatever is done with them
-pub same-messages : (s : Store) (ps qs : List (List ℕ)) → couldBeLeft s ≡ true → joined ps ≡ joined qs
-    → handing listed (waiting [] s) ps ≡ handing listed (waiting [] s) qs
-same-messages s ps qs h e = same-stream listed (waiting [] s) ps qs h e

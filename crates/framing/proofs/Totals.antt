@@ -24,10 +24,3 @@ total-least kind len = least (leb typeData kind && eqb len 0)
     least : (b : Bool) → 2 ≤ pick b 8194 (max 2 len)
     least true = omega arith
     least false = omega arith
-
-pub total-most : (kind len : ℕ) → len < 8192 → totalOf kind len ≤ 8194
-total-most kind len h = most (leb typeData kind && eqb len 0)
-  where
-    most : (b : Bool) → pick b 8194 (max 2 len) ≤ 8194
-    most true = omega arith
-    most false = omega arith

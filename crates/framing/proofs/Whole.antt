@@ -32,7 +32,8 @@ module _ (held host : List ℕ) (had : ℕ) where
     pub still-open : length host < total - had
         → Tells (record { opening = replicate 10 0; count = length host; taken = had + length host; finished = false }) (sets held had host)
     still-open less =
-        let run : taken before host ≡ takenRun before host total (length host) = taken-ahead before host total (length host) is (omega arith) in
+        let run : taken before host ≡ takenRun before host total (length host) =
+        taken-ahead before host total (length host) is (omega arith) in
         rw (eq-eqb (length held) 64 long, run, lt-leb total (had + length host) (omega arith), take-length host) (refl, refl)
 
     -- it does: the message is read where it lies

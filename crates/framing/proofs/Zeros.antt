@@ -72,8 +72,11 @@ module _ (l : List ℕ) (long : length l ≡ 64) where
       → eqb a 0 ≡ zeros (take 16 (drop from l)) → eqb b 0 ≡ zeros (take 16 (drop second l))
       → eqb c 0 ≡ zeros (take 16 (drop third l)) → eqb d 0 ≡ zeros (take 16 (drop 48 l))
       → eqb (bitOr (bitOr (bitOr a b) c) d) 0 ≡ zeros (drop from l)
-  four-windows from second third a b c d low two three ea eb ec ed =
+  four-windows from second third a b c d low at-second at-third ea eb ec ed =
+      let one = zeros (take 16 (drop from l)) in
+      let two = zeros (take 16 (drop second l)) in
+      let three = zeros (take 16 (drop third l)) in
       rw (or-zero (bitOr (bitOr a b) c) d, or-zero (bitOr a b) c, or-zero a b, ea, eb, ec, ed, last-places 48)
-      (rw (and-assoc (zeros (take 16 (drop from l)) && zeros (take 16 (drop second l))) (zeros (take 16 (drop third l))) (zeros (drop 48 l)), windowed 16 third 48 l (omega arith) (omega arith))
-      (rw (and-assoc (zeros (take 16 (drop from l))) (zeros (take 16 (drop second l))) (zeros (drop third l)), windowed 16 second third l (omega arith) (omega arith))
+      (rw (and-assoc (one && two) three (zeros (drop 48 l)), windowed 16 third 48 l (omega arith) (omega arith))
+      (rw (and-assoc one two (zeros (drop third l)), windowed 16 second third l (omega arith) (omega arith))
       (windowed 16 from second l (omega arith) (omega arith))))

@@ -1,7 +1,7 @@
 -- Which messages a stream of the host's bytes consists of, however it is cut into pieces. What becomes of a message is
 -- `answer`'s to say: it is handed each finished store in turn, and gives the next state of whoever answers.
 use Prim.Native.Nat.{ℕ, zero, suc}
-use mathlib.Core.List.{List, [], _∷_, _++_}
+use mathlib.Core.List.{List, [], _∷_}
 use lib.ListN.{length, drop}
 use Rattle.wire.specs.Choice.{pick}
 use Rattle.framing.specs.declared.Store.{Store}
@@ -13,8 +13,8 @@ pub record Stream (X : Type 0) : Type 0 where
   pub state : X
 
 -- a message that is not finished changes nothing else
-abbrev pub waiting : {X : Type 0} → X → Store → Stream X
-waiting x s = record { store = s; state = x }
+abbrev pub keeping : {X : Type 0} → X → Store → Stream X
+keeping x s = record { store = s; state = x }
 
 module _ {X : Type 0} (answer : X → Store → X) where
   -- a finished message is answered, and "all is zero between messages"
@@ -23,7 +23,7 @@ module _ {X : Type 0} (answer : X → Store → X) where
 
   -- what one call comes to
   abbrev pub called : X → Taking → Stream X
-  called x t = pick (t .finished) (answered x (t .store)) (waiting x (t .store))
+  called x t = pick (t .finished) (answered x (t .store)) (keeping x (t .store))
 
   -- "calling again until the bytes are used up". Each call takes a byte, so as many calls as there are bytes are enough.
   unfoldable pub calling : ℕ → Stream X → List ℕ → Stream X
@@ -39,12 +39,8 @@ module _ {X : Type 0} (answer : X → Store → X) where
 
   -- the stream without any cuts: byte by byte
   abbrev pub eating : Stream X → ℕ → Stream X
-  eating r b = pick (finished (pushed (r .store) b)) (answered (r .state) (pushed (r .store) b)) (waiting (r .state) (pushed (r .store) b))
+  eating r b = pick (finished (pushed (r .store) b)) (answered (r .state) (pushed (r .store) b)) (keeping (r .state) (pushed (r .store) b))
 
   unfoldable pub eaten : Stream X → List ℕ → Stream X
   eaten r [] = r
   eaten r (b ∷ bs) = eaten (eating r b) bs
-
--- the finished messages themselves, in order: each is added to those before it
-abbrev pub listed : List Store → Store → List Store
-listed before s = before ++ s ∷ []

@@ -24,7 +24,9 @@ short kind (suc (suc n)) k h = absurd (omega arith)
 
 -- length 2 but in a set
 pub two : (kind : ℕ) → kind ≤ 2 → (kind ≡ 0 → ⊥) → 11 ≡ firstOf (headerChecks kind 2 0) 1
-two kind k h = by-kind (λ kind. (kind ≡ 0 → ⊥) → 11 ≡ firstOf (headerChecks kind 2 0) 1) (λ w. absurd (w refl)) (λ w. refl) (λ w. refl) kind k h
+two kind k h =
+    by-kind (λ kind. (kind ≡ 0 → ⊥) → 11 ≡ firstOf (headerChecks kind 2 0) 1)
+    (λ w. absurd (w refl)) (λ w. refl) (λ w. refl) kind k h
 
 -- length 3
 pub three : (kind : ℕ) → kind ≤ 2 → 11 ≡ firstOf (headerChecks kind 3 0) 1
@@ -69,7 +71,15 @@ other size named h = simp (ne-eqb size 3 h, or-true)
 -- a data item of another length than 1
 pub data-other : (kind size named : ℕ) → 4 ≤ kind → (size ≡ 1 → ⊥) → 2 ≡ firstOf (headerChecks kind size named) 1
 data-other kind size named h w =
-    simp (ne-eqb kind 0 (λ e. omega arith), ne-eqb kind 3 (λ e. omega arith), lt-leb kind 3 (omega arith), lt-leb kind 2 (omega arith), le-leb 4 kind h, ne-eqb size 1 w, and-false)
+    simp (
+      ne-eqb kind 0 (λ e. omega arith),
+      ne-eqb kind 3 (λ e. omega arith),
+      lt-leb kind 3 (omega arith),
+      lt-leb kind 2 (omega arith),
+      le-leb 4 kind h,
+      ne-eqb size 1 w,
+      and-false,
+    )
 
 -- the four types of data items have the same code, and their third byte names nothing
 pub data-alike : (kind size named : ℕ) → 4 ≤ kind → firstOf (headerChecks 4 size 0) 1 ≡ firstOf (headerChecks kind size named) 1

@@ -15,7 +15,8 @@ use Rattle.items.specs.declared.Settings.{Settings}
 use Rattle.items.specs.Items.{Item, rowOf, frequency, listed}
 use Rattle.items.specs.Header.{headerChecks}
 use Rattle.items.specs.Table.{offered, isTotal, tableChecks}
-use Rattle.items.specs.Answer.{Message, itemIn, row, parameters, valueAllowed, refusedRunning, itemChecks, itemCode, checks, codeOf, settingsAfter, judgedOf, replyDue, replyOf}
+use Rattle.items.specs.Answer.{Message, itemIn, row, parameters, valueAllowed, refusedRunning, itemChecks, itemCode, checks}
+use Rattle.items.specs.Answer.{codeOf, settingsAfter, judgedOf, replyDue, replyOf}
 use Rattle.items.proofs.Rows.{_then_, found, row-code}
 
 -- "the only range request" is that of the frequency
@@ -101,6 +102,8 @@ pub after-ways : (P : Settings → Type 0) (s : Settings) (m : Message)
     → (codeOf s m ≡ 1 → m .type ≡ typeSet → P (row m .rule .stored s (parameters m))) → P s → P (settingsAfter s m)
 unfolding settingsAfter
 after-ways P s m stored same =
-    pick-keeps P (eqb (codeOf s m) 1 && eqb (m .type) typeSet) _ _
-    (λ b. stored (eqb-true (codeOf s m) 1 (and-left (eqb (codeOf s m) 1) (eqb (m .type) typeSet) b)) (eqb-true (m .type) typeSet (and-right (eqb (codeOf s m) 1) (eqb (m .type) typeSet) b)))
+    let done = eqb (codeOf s m) 1 in
+    let set = eqb (m .type) typeSet in
+    pick-keeps P (done && set) _ _
+    (λ b. stored (eqb-true (codeOf s m) 1 (and-left done set b)) (eqb-true (m .type) typeSet (and-right done set b)))
     (λ b. same)

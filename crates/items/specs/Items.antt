@@ -11,7 +11,8 @@ use Rattle.rates.specs.Rate.{mayAsk, nearestOf, isD, rateOf}
 use Rattle.tuning.specs.Bands.{inBands}
 use Rattle.tuning.specs.Word.{isClock}
 use Rattle.items.specs.declared.Settings.{Settings}
-use Rattle.items.specs.Settings.{isGain, isMode, isSize, withFrequency, withCount, withClock, withDivisor, withRunning, withMode, withGain, withSize}
+use Rattle.items.specs.Settings.{isGain, isMode, isSize, withFrequency, withCount, withClock, withDivisor, withRunning, withMode}
+use Rattle.items.specs.Settings.{withGain, withSize}
 
 -- what the table has for an item and a kind: the total length of the message, or a dash
 pub data Offer : Type 0 where

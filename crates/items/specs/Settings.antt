@@ -13,7 +13,7 @@ use Rattle.tuning.specs.Bands.{inBands}
 use Rattle.tuning.specs.Word.{isClock}
 use Rattle.packets.specs.Numbers.{most}
 use Rattle.items.specs.declared.Settings.{Settings}
-use Rattle.items.specs.declared.Began.{Began}
+use Rattle.items.specs.declared.FreshSettings.{FreshSettings}
 
 -- RF gain: "signed byte 0, -10, -20 or -30"
 abbrev pub gains : List ℤ
@@ -71,9 +71,10 @@ freshOf serial =
     }
 
 -- "serial not eight of A-Z, 0-9": 26, and "the fresh box has serial 00000000"
-abbrev pub freshAnswer : List ℕ → Began
+abbrev pub freshAnswer : List ℕ → FreshSettings
 freshAnswer serial =
-    pick (isSerial serial) (record { code = Code.done; settings = freshOf serial }) (record { code = Code.notASerial; settings = freshOf (replicate 8 0x30) })
+    pick (isSerial serial) (record { code = Code.done; settings = freshOf serial })
+    (record { code = Code.notASerial; settings = freshOf (replicate 8 0x30) })
 
 -- all of them, in their order
 abbrev settings : ℕ → ℕ → ℕ → ℕ → Bool → ℕ → ℕ → ℕ → List ℕ → Settings

@@ -5,6 +5,7 @@ use mathlib.Core.List.{List, [], _∷_}
 use lib.Dec.{eqb}
 use Rattle.wire.specs.Choice.{pick, Check, check}
 use Rattle.wire.specs.Codes as Code
+use Rattle.wire.specs.Told.{Told, tells}
 use Rattle.wire.specs.Header.{typeSet, typeRequest, typeRange}
 use Rattle.items.specs.declared.Expected.{Expected}
 use Rattle.items.specs.declared.Expected.the-variants.{Total, Unlisted, NotOffered}
@@ -18,25 +19,21 @@ offerFor set request range kind =
 abbrev pub offered : Item → ℕ → Offer
 offered i kind = offerFor (i .set) (i .request) (i .range) kind
 
--- A line of the table as a code: 1 with the total length, or the refusal.
-pub record Told : Type 0 where
-  pub code : ℕ
-  pub length : ℕ
-
--- "item known, this kind not offered": 14
-abbrev pub told : Offer → Told
-told (total n) = record { code = Code.done; length = n }
-told dash = record { code = Code.notOffered; length = 0 }
+-- What an entry of the table tells, in the numbers of "What comes back": 1 and the total length, or 14, "item known, this kind not
+-- offered".
+abbrev pub offerTold : Offer → Told
+offerTold (total n) = tells Code.done (n ∷ [])
+offerTold dash = tells Code.notOffered []
 
 -- "item not in the list": 12
-abbrev pub tableSays : ℕ → ℕ → Told
-tableSays item kind = pick (listed item) (told (offered (rowOf item) kind)) (record { code = Code.notListed; length = 0 })
+abbrev pub tableTold : ℕ → ℕ → Told
+tableTold item kind = pick (listed item) (offerTold (offered (rowOf item) kind)) (tells Code.notListed [])
 
--- The same for the enum that the code answers with: the number and the value of each of its cases.
-abbrev pub tell : Expected → Told
-tell (Total n) = record { code = Code.done; length = n }
-tell Unlisted = record { code = Code.notListed; length = 0 }
-tell NotOffered = record { code = Code.notOffered; length = 0 }
+-- The same of the enum that the code answers with: the number and the value of each of its cases.
+abbrev pub told : Expected → Told
+told (Total n) = tells Code.done (n ∷ [])
+told Unlisted = tells Code.notListed []
+told NotOffered = tells Code.notOffered []
 
 abbrev pub isDash : Offer → Bool
 isDash (total n) = false

@@ -31,7 +31,7 @@ pub struct Settings {
 }
 
 // A fresh box: the code of starting it, and its settings.
-pub struct Began {
+pub struct FreshSettings {
     pub code: u8,
     pub settings: Settings,
 }

@@ -20,7 +20,8 @@ pub fn put_range_reply(dst: &mut [u8], channel: u8) -> usize
     ensures { λ r.
         ⌜ (r ≡ pick (ltb (length (now (dst .entry))) 36) 0 36)
         × (now (dst .exit)
-        ≡ sets (now (dst .entry)) 0 (pick (ltb (length (now (dst .entry))) 36) [] (framed typeRangeReply (rangeBody frequency (channel ∷ []))))) ⌝ }
+        ≡ sets (now (dst .entry)) 0
+        (pick (ltb (length (now (dst .entry))) 36) [] (framed typeRangeReply (rangeBody frequency (channel ∷ []))))) ⌝ }
 {
     if dst.len() < LENGTH {
         return 0;

@@ -2,7 +2,7 @@
 ghost use mathlib.Core.Path.{_≡_};
 ghost use lib.ListN.{length};
 ghost use Rattle.items.specs.Settings.{inRange, freshOf, freshAnswer, isMode, isGain, isSize, isSerialByte, allSerial};
-use crate::Began;
+use crate::FreshSettings;
 use crate::Settings;
 use wire::codes;
 
@@ -24,11 +24,11 @@ pub fn in_range(s: Settings) -> bool
 }
 
 // A fresh box with a serial: 1, or 26 and the serial 00000000 where these are not eight of A-Z, 0-9.
-pub fn fresh(serial: &[u8]) -> Began
+pub fn fresh(serial: &[u8]) -> FreshSettings
     ensures { λ r. ⌜ r ≡ freshAnswer (now (serial .entry)) ⌝ }
 {
     if serial.len() != 8 {
-        return Began {
+        return FreshSettings {
             code: codes::NOT_A_SERIAL,
             settings: started([b'0'; 8]),
         };
@@ -44,12 +44,12 @@ pub fn fresh(serial: &[u8]) -> Began
         serial[7],
     ];
     if !all_serial(&own) {
-        return Began {
+        return FreshSettings {
             code: codes::NOT_A_SERIAL,
             settings: started([b'0'; 8]),
         };
     }
-    Began {
+    FreshSettings {
         code: codes::DONE,
         settings: started(own),
     }

@@ -8,7 +8,8 @@ use lib.ListN.{getD}
 use borrow.Author.Tests.{ne-eqb}
 use Rattle.wire.specs.Header.{typeSet, typeRequest}
 use Rattle.items.specs.declared.Settings.{Settings}
-use Rattle.items.specs.Items.{Echoed, noByte, anId, anyChannel, zeroAndAll, Item, versions, name, serial, interface, status, state, clock, rate, packetSize, rowOf}
+use Rattle.items.specs.Items.{Echoed, noByte, anId, anyChannel, zeroAndAll, Item, versions, name, serial, interface, status, state}
+use Rattle.items.specs.Items.{clock, rate, packetSize, rowOf}
 use Rattle.items.specs.Answer.{Message, channelAllowed, row, parameters, itemCode, codeOf, settingsAfter, judgedOf}
 use Rattle.items.proofs.Rows.{row-has}
 use Rattle.judging.specs.Inside.{askedBy, setBy}
@@ -26,7 +27,8 @@ asked-code i kind s p h = rw (ne-eqb kind typeSet h, channel-asked (i .echoed) k
 
 module _ (s : Settings) (m : Message) where
   -- a set is its item's
-  pub set-judged : m .type ≡ typeSet → codeOf s m ≡ itemCode (row m) (m .type) s (parameters m) → setBy (row m) s (parameters m) ≡ judgedOf s m
+  pub set-judged : m .type ≡ typeSet → codeOf s m ≡ itemCode (row m) (m .type) s (parameters m)
+      → setBy (row m) s (parameters m) ≡ judgedOf s m
   unfolding settingsAfter
   set-judged t e = rw (e, t, and-true (eqb (itemCode (row m) typeSet s (parameters m)) 1)) refl
 
@@ -35,7 +37,8 @@ module _ (s : Settings) (m : Message) where
       → record { code = askedBy (row m) (parameters m); settings = s } ≡ judgedOf s m
   unfolding settingsAfter
   asked-judged t e =
-      rw (e, asked-code (row m) (m .type) s (parameters m) t, ne-eqb (m .type) typeSet t, and-false (eqb (askedBy (row m) (parameters m)) 1)) refl
+      let p = parameters m in
+      rw (e, asked-code (row m) (m .type) s p t, ne-eqb (m .type) typeSet t, and-false (eqb (askedBy (row m) p) 1)) refl
 
 -- an item that is no channel's and no id's: nothing is asked of its requests
 abbrev unasked : (i : Item) → Type 0

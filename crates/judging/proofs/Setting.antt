@@ -12,11 +12,11 @@ use Rattle.items.specs.Answer.{channelAllowed}
 use Rattle.judging.specs.Inside.{decided, setBy}
 
 -- what a set would leave counts only where its value is allowed
-left : (s to other : Settings) (channel value locked : Bool) → (value ≡ true → to ≡ other)
+decided-alike : (s to other : Settings) (channel value locked : Bool) → (value ≡ true → to ≡ other)
     → decided s to channel value locked ≡ decided s other channel value locked
-left s to other true true locked h = rw (h refl)
-left s to other true false locked h = refl
-left s to other false value locked h = refl
+decided-alike s to other true true locked h = rw (h refl)
+decided-alike s to other true false locked h = refl
+decided-alike s to other false value locked h = refl
 
 pub set-by : (i : Item) (s : Settings) (p : List ℕ) {r : Judged} {to : Settings} {channel value locked : Bool}
     → r ≡ decided s to channel value locked
@@ -27,4 +27,6 @@ pub set-by : (i : Item) (s : Settings) (p : List ℕ) {r : Judged} {to : Setting
     → r ≡ setBy i s p
 set-by i s p {to = to} e channel value locked stored =
     e
-    ∙ rw (channel, value, locked) (left s to (i .rule .stored s p) (channelAllowed (i .echoed) typeSet (getD p 0 0)) (i .rule .settable p) (s .running && i .rule .locked s p) stored)
+    ∙ rw (channel, value, locked)
+    (decided-alike s to (i .rule .stored s p) (channelAllowed (i .echoed) typeSet (getD p 0 0)) (i .rule .settable p)
+    (s .running && i .rule .locked s p) stored)

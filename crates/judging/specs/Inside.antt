@@ -17,7 +17,8 @@ use Rattle.items.specs.Answer.{channelAllowed, valueAllowed}
 abbrev pub askedBy : Item → List ℕ → ℕ
 askedBy i p =
     firstOf
-    (check Code.channelNotAllowed (not (channelAllowed (i .echoed) typeRequest (getD p 0 0))) ∷ check Code.valueNotAllowed (not (valueAllowed i typeRequest p)) ∷ [])
+    (check Code.channelNotAllowed (not (channelAllowed (i .echoed) typeRequest (getD p 0 0)))
+    ∷ check Code.valueNotAllowed (not (valueAllowed i typeRequest p)) ∷ [])
     Code.done
 
 -- a set that would leave the settings `to`, where the channel byte or the value may not be allowed, or the item locked

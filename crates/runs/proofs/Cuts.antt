@@ -17,22 +17,25 @@ use Rattle.cutting.proofs.Ways.{each-cut}
 use Rattle.runs.specs.Cutting.{started, ran, cutOn, cutRun}
 use Rattle.runs.proofs.Turns.{one-more}
 
-cut-over : (left n total count at : ℕ) (s : Station) (samples : List ℤ) (out : List ℕ) → left ≤ 0 → cutOn left n total s samples count at out ≡ ran count out
+cut-over : (left n total count at : ℕ) (s : Station) (samples : List ℤ) (out : List ℕ) → left ≤ 0
+    → cutOn left n total s samples count at out ≡ ran count out
 unfolding cutOn
 cut-over zero n total count at s samples out none = refl
 cut-over (suc left) n total count at s samples out none = absurd (omega arith)
 
-cut-refused : (left n total count at : ℕ) (s : Station) (samples : List ℤ) (out : List ℕ) (c : Cutting) → 0 < left → c ≡ cuttingOf s (take n samples) (length out - at)
-    → (c .cut .code ≡ 1 → ⊥) → cutOn left n total s samples count at out ≡ ran count out
+cut-refused : (left n total count at : ℕ) (s : Station) (samples : List ℤ) (out : List ℕ) (c : Cutting) → 0 < left
+    → c ≡ cuttingOf s (take n samples) (length out - at) → (c .cut .code ≡ 1 → ⊥)
+    → cutOn left n total s samples count at out ≡ ran count out
 unfolding cutOn
 cut-refused zero n total count at s samples out c none is bad = absurd (lt-irrefl 0 none)
 cut-refused (suc left) n total count at s samples out c some is bad =
     let refused : eqb (cuttingOf s (take n samples) (length out - at) .cut .code) 1 ≡ false = rw (← is) (ne-eqb (c .cut .code) 1 bad) in
     rw refused
 
-cut-one : (left n total count at : ℕ) (s : Station) (samples : List ℤ) (out : List ℕ) (c : Cutting) → 0 < left → c ≡ cuttingOf s (take n samples) (length out - at)
-    → c .cut .code ≡ 1
-    → cutOn left n total s samples count at out ≡ cutOn (left - 1) n total (c .cut .station) (drop n samples) (count + 1) (at + total) (sets out at (c .bytes))
+cut-one : (left n total count at : ℕ) (s : Station) (samples : List ℤ) (out : List ℕ) (c : Cutting) → 0 < left
+    → c ≡ cuttingOf s (take n samples) (length out - at) → c .cut .code ≡ 1
+    → cutOn left n total s samples count at out
+    ≡ cutOn (left - 1) n total (c .cut .station) (drop n samples) (count + 1) (at + total) (sets out at (c .bytes))
 unfolding cutOn
 cut-one zero n total count at s samples out c none is good = absurd (lt-irrefl 0 none)
 cut-one (suc left) n total count at s samples out c some is good =
@@ -41,7 +44,8 @@ cut-one (suc left) n total count at s samples out c some is good =
     rw (down, is, cut)
 
 -- a refused packet writes nothing
-pub none-cut : (s : Station) (samples : List ℤ) (room : ℕ) → (cuttingOf s samples room .cut .code ≡ 1 → ⊥) → cuttingOf s samples room .bytes ≡ []
+pub none-cut : (s : Station) (samples : List ℤ) (room : ℕ) → (cuttingOf s samples room .cut .code ≡ 1 → ⊥)
+    → cuttingOf s samples room .bytes ≡ []
 none-cut s samples room =
     each-cut (λ (c : Cutting). (c .cut .code ≡ 1 → ⊥) → c .bytes ≡ []) s samples room (λ e bad. absurd (bad refl)) (λ n bad. refl)
 
@@ -62,7 +66,10 @@ module _ (mode size n total : ℕ) (samples : List ℤ) (whole : List ℕ) where
   unfolding cutRun
   no-bytes some none = rw (ne-eqb n 0 some, eq-eqb total 0 none)
 
-  pub begins : (s : Station) (left : ℕ) → (n ≡ 0 → ⊥) → (total ≡ 0 → ⊥) → s ≡ started mode size → left ≡ min (length samples / n) (length whole / total)
+-- a run in its midst
+module _ {mode size n total : ℕ} {samples : List ℤ} {whole : List ℕ} where
+  pub begins : (s : Station) (left : ℕ) → (n ≡ 0 → ⊥) → (total ≡ 0 → ⊥) → s ≡ started mode size
+      → left ≡ min (length samples / n) (length whole / total)
       → Under mode size n total samples whole whole s left 0 0 0
   unfolding cutRun
   begins s left some more is most =
@@ -76,7 +83,7 @@ module _ (mode size n total : ℕ) (samples : List ℤ) (whole : List ℕ) where
         does = rw (is, most, ne-eqb n 0 some, ne-eqb total 0 more);
       }
 
-  module _ (out : List ℕ) (s : Station) (left count i at : ℕ) (u : Under mode size n total samples whole out s left count i at) where
+  module _ {out : List ℕ} {s : Station} {left count i at : ℕ} (u : Under mode size n total samples whole out s left count i at) where
     -- nothing is left
     pub over : left ≤ 0 → ran count out ≡ cutRun mode size n total samples whole
     over none = sym (cut-over left n total count at s (drop i samples) out none) ∙ u .does
@@ -96,5 +103,6 @@ module _ (mode size n total : ℕ) (samples : List ℤ) (whole : List ℕ) where
             roomy = omega (arith, same, u .roomy, one-more left total some);
             counted = omega (arith, same, u .counted);
             long = same ∙ u .long;
-            does = rw (told, ← drop-drop n i samples, stored) (sym (cut-one left n total count at s (drop i samples) out c some is (rw told at good)) ∙ u .does);
+            does = rw (told, ← drop-drop n i samples, stored)
+                (sym (cut-one left n total count at s (drop i samples) out c some is (rw told at good)) ∙ u .does);
           }

@@ -3,8 +3,6 @@
 use station::Station;
 use wire::codes;
 ghost use mathlib.Core.Path.{_≡_};
-ghost use lib.ListN.{length};
-ghost use lib.Seq.{sets};
 ghost use Rattle.runs.specs.Cutting.{started, cutRun};
 ghost use Rattle.runs.specs.Reading.{readRun};
 
@@ -40,8 +38,7 @@ pub extern "C" fn skvornela_read_run(packets: &[u8], total: usize) -> u64
 fn started(mode: u8, size: u8) -> Station
     ensures { λ r. ⌜ r ≡ started mode size ⌝ }
 {
-    let began = station::fresh(b"MT123456");
-    let station = began.station;
+    let station = station::session_box();
     let store = station.store;
     let mut settings = station.settings;
     settings.running = true;
@@ -61,7 +58,8 @@ pub extern "C" fn skvornela_cut_run(
     samples: &[i32],
     out: &mut [u8],
 ) -> usize
-    ensures { λ r. ⌜ record { count = r; out = now (out .exit) } ≡ cutRun mode size n total (now (samples .entry)) (now (out .entry)) ⌝ }
+    ensures { λ r.
+        ⌜ record { count = r; out = now (out .exit) } ≡ cutRun mode size n total (now (samples .entry)) (now (out .entry)) ⌝ }
 {
     if n == 0 {
         return 0;

@@ -32,6 +32,11 @@ not-20 : (s : Settings) (m : Message) → codeOf s m ≡ 20 → ⊥
 unfolding codeOf
 not-20 s m e = not-given (checks s m) 1 20 refl (λ q. omega arith) e
 
+-- what a call returns that took this and answered so
+abbrev fedBy : Answered → Taking → Fed
+fedBy r t =
+    record { code = r .code; consumed = t .count; wrote = r .wrote; station = record { settings = r .settings; store = between } }
+
 module _ (s : Station) (t : Taking) (l after : List ℕ) (r : Answered) (m : Message)
     (same : m ≡ messageIn (t .store))
     (told : r ≡ answerOf (s .settings) m (length l) .answered)
@@ -50,15 +55,13 @@ module _ (s : Station) (t : Taking) (l after : List ℕ) (r : Answered) (m : Mes
 
   -- room: the code, the reply and the settings
   pub out-whole : (r .code ≡ 20 → ⊥)
-      → (_≡_ {A = Fed} (record { code = r .code; consumed = t .count; wrote = r .wrote; station = record { settings = r .settings; store = between } })
-      (answering s t (length l) .fed))
+      → (fedBy r t ≡ answering s t (length l) .fed)
       × (after ≡ sets l 0 (answering s t (length l) .bytes))
   unfolding answerOf
   out-whole n = go (ltb (length l) (length (replyOf (s .settings) m))) refl
     where
       go : (b : Bool) → ltb (length l) (length (replyOf (s .settings) m)) ≡ b
-          → (_≡_ {A = Fed} (record { code = r .code; consumed = t .count; wrote = r .wrote; station = record { settings = r .settings; store = between } })
-          (answering s t (length l) .fed))
+          → (fedBy r t ≡ answering s t (length l) .fed)
           × (after ≡ sets l 0 (answering s t (length l) .bytes))
       go true q =
           let short : r ≡ refusedAnswer 20 (s .settings) .answered = told ∙ rw q in

@@ -39,7 +39,8 @@ feeding-within s host room =
     most = omega (arith, count-most 0 (s .store) host)
 
 -- "Codes from 20 .. return the state given."
-pub refused-returns : (s : Station) (host : List ℕ) (room : ℕ) → 20 ≤ feedingOf s host room .fed .code → feedingOf s host room .fed .station ≡ s
+pub refused-returns : (s : Station) (host : List ℕ) (room : ℕ) → 20 ≤ feedingOf s host room .fed .code
+    → feedingOf s host room .fed .station ≡ s
 refused-returns s host room =
     each-way (λ f. 20 ≤ f .fed .code → f .fed .station ≡ s) s host room (λ v r. refl) (λ v r. refl) (λ v f r. absurd (omega arith))
     (λ v f enough r. absurd (omega (arith, code-below (s .settings) (messageIn (taken (s .store) host .store)))))
@@ -48,9 +49,10 @@ refused-returns s host room =
 pub feeding-keeps : (s : Station) (host : List ℕ) (room : ℕ) → valid s ≡ true → valid (feedingOf s host room .fed .station) ≡ true
 feeding-keeps s host room v =
     let settings = valid-settings (s .settings) (s .store) v in
+    let store = valid-store (s .settings) (s .store) v in
     let message = messageIn (taken (s .store) host .store) in
     each-way (λ f. valid (f .fed .station) ≡ true) s host room (λ w. v) (λ w. v)
-    (λ w f. valid-both (s .settings) (taken (s .store) host .store) settings (taken-left 0 (s .store) host (valid-store (s .settings) (s .store) v) f))
+    (λ w f. valid-both (s .settings) (taken (s .store) host .store) settings (taken-left 0 (s .store) host store f))
     (λ w f enough. valid-both (settingsAfter (s .settings) message) between (message-keeps (s .settings) message settings) between-left)
 
 -- a message that is not finished takes a byte, where there is one
@@ -67,7 +69,7 @@ feeding-some s host room v enough l = go (finished (taken (s .store) host .store
 
     go : (d : Bool) → finished (taken (s .store) host .store) ≡ d → 1 ≤ feedingOf s host room .fed .consumed
     go true f =
-        rw (feeding-answered (s .settings) (s .store) host room v f
-        (le-trans (reply-short (s .settings) (messageIn (taken (s .store) host .store)) (valid-settings (s .settings) (s .store) v)) enough))
-        some
+        let settings = valid-settings (s .settings) (s .store) v in
+        let short = reply-short (s .settings) (messageIn (taken (s .store) host .store)) settings in
+        rw (feeding-answered (s .settings) (s .store) host room v f (le-trans short enough)) some
     go false f = rw (feeding-waiting (s .settings) (s .store) host room v f) some

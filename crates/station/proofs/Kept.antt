@@ -56,14 +56,19 @@ eight a b c d e f g h t =
       and-right (a && b && c && d && e && f && g) h t,
     )
 
+-- all eight, in the order of the fields above
+eight-in : {s : Settings} → inBands (s .frequency) ≡ true → leb (s .count) most ≡ true → isClock (s .clock) ≡ true → isD (s .divisor) ≡ true
+    → isMode (s .mode) ≡ true → isGain (s .gain) ≡ true → isSize (s .size) ≡ true → isSerial (s .serial) ≡ true → Ranges s
+eight-in f n c d m g z l =
+    record { frequency = f; count = n; clock = c; divisor = d; mode = m; gain = g; size = z; serial = l }
+
 pub ranges : (s : Settings) → inRange s ≡ true → Ranges s
 unfolding inRange
 ranges s h =
     let t =
     eight (inBands (s .frequency)) (leb (s .count) most) (isClock (s .clock)) (isD (s .divisor)) (isMode (s .mode)) (isGain (s .gain))
     (isSize (s .size)) (isSerial (s .serial)) h in
-    record
-    { frequency = t .0; count = t .1; clock = t .2; divisor = t .3; mode = t .4; gain = t .5; size = t .6; serial = t .7 }
+    eight-in (t .0) (t .1) (t .2) (t .3) (t .4) (t .5) (t .6) (t .7)
 
 pub in-range : (s : Settings) → Ranges s → inRange s ≡ true
 unfolding inRange
@@ -85,24 +90,24 @@ Keeps i = (s : Settings) (p : List ℕ) → Ranges s → i .rule .settable p ≡
 state-keeps : Keeps state
 state-keeps s p r h =
     state-ways Ranges (runByte p) (modeByte p) s
-    (λ i. record { frequency = r .frequency; count = r .count; clock = r .clock; divisor = r .divisor; mode = r .mode; gain = r .gain; size = r .size; serial = r .serial })
+    (λ i. eight-in (r .frequency) (r .count) (r .clock) (r .divisor) (r .mode) (r .gain) (r .size) (r .serial))
     (λ i w. r)
-    (λ i w. record { frequency = r .frequency; count = refl; clock = r .clock; divisor = r .divisor; mode = has-mode p i h; gain = r .gain; size = r .size; serial = r .serial })
+    (λ i w. eight-in (r .frequency) refl (r .clock) (r .divisor) (has-mode p i h) (r .gain) (r .size) (r .serial))
 
 frequency-keeps : Keeps frequency
-frequency-keeps s p r h = record { frequency = h; count = r .count; clock = r .clock; divisor = r .divisor; mode = r .mode; gain = r .gain; size = r .size; serial = r .serial }
+frequency-keeps s p r h = eight-in h (r .count) (r .clock) (r .divisor) (r .mode) (r .gain) (r .size) (r .serial)
 
 gain-keeps : Keeps gain
-gain-keeps s p r h = record { frequency = r .frequency; count = r .count; clock = r .clock; divisor = r .divisor; mode = r .mode; gain = h; size = r .size; serial = r .serial }
+gain-keeps s p r h = eight-in (r .frequency) (r .count) (r .clock) (r .divisor) (r .mode) h (r .size) (r .serial)
 
 clock-keeps : Keeps clock
-clock-keeps s p r h = record { frequency = r .frequency; count = r .count; clock = h; divisor = r .divisor; mode = r .mode; gain = r .gain; size = r .size; serial = r .serial }
+clock-keeps s p r h = eight-in (r .frequency) (r .count) h (r .divisor) (r .mode) (r .gain) (r .size) (r .serial)
 
 size-keeps : Keeps packetSize
-size-keeps s p r h = record { frequency = r .frequency; count = r .count; clock = r .clock; divisor = r .divisor; mode = r .mode; gain = r .gain; size = h; serial = r .serial }
+size-keeps s p r h = eight-in (r .frequency) (r .count) (r .clock) (r .divisor) (r .mode) (r .gain) h (r .serial)
 
 rate-keeps : Keeps rate
-rate-keeps s p r h = record { frequency = r .frequency; count = r .count; clock = r .clock; divisor = nearest-d (field 1 4 p) h; mode = r .mode; gain = r .gain; size = r .size; serial = r .serial }
+rate-keeps s p r h = eight-in (r .frequency) (r .count) (r .clock) (nearest-d (field 1 4 p) h) (r .mode) (r .gain) (r .size) (r .serial)
 
 stays : (s : Settings) (p : List ℕ) → Ranges s → true ≡ true → Ranges s
 stays s p r t = r

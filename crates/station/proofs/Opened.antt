@@ -9,7 +9,6 @@ use borrow.Author.Tests.{eq-eqb}
 use lib.Dec.{ltb}
 use lib.ListN.{length, take}
 use Rattle.wire.specs.Choice.{pick}
-use Rattle.wire.specs.Header.{lengthIn, typeIn}
 use Rattle.framing.specs.declared.Took.{Took}
 use Rattle.framing.specs.Framing.{Taking, headerIn, between, taken, couldBeLeft}
 use Rattle.framing.specs.Telling.{tookOf, tookIn, heldAfter}
@@ -21,7 +20,7 @@ use Rattle.items.specs.Answer.{Message, codeOf, settingsAfter, replyOf}
 use Rattle.items.proofs.TenBytes.{heldMessage, Same, ten-decide}
 use Rattle.station.specs.declared.Station.{Station}
 use Rattle.station.specs.Station.{valid}
-use Rattle.station.specs.Feeding.{Feeding, feedingOf, refused, waiting}
+use Rattle.station.specs.Feeding.{Feeding, messageIn, feedingOf, refused, waiting}
 use Rattle.station.specs.Inside.{opened, answering}
 use Rattle.station.proofs.Valid.{valid-store, feeding-open, feeding-done}
 
@@ -40,31 +39,30 @@ answeringBy s count room code after reply =
       bytes = reply;
     })
 
--- the first ten bytes of what was taken
+-- what was taken, with the first ten of its bytes; and the message in it
 abbrev shortened : Taking → Taking
-shortened t = record { store = record { held = take 10 (t .store .held); taken = t .store .taken }; count = t .count; finished = t .finished }
+shortened t =
+    record {
+      store = record { held = take 10 (t .store .held); taken = t .store .taken };
+      count = t .count;
+      finished = t .finished;
+    }
+
+abbrev shortMessage : Taking → Message
+shortMessage t = heldMessage (messageIn (t .store) .type) (messageIn (t .store) .size) (take 10 (t .store .held))
 
 same-answer : (s : Station) (t : Taking) (room : ℕ) → 10 ≤ length (t .store .held) → answering s (shortened t) room ≡ answering s t room
 same-answer s t room long =
+    let b = s .settings in
+    let short = shortMessage t in
+    let full = messageIn (t .store) in
     rw (header-of-ten (t .store .held) (omega arith))
-    (ap (λ (k : ℕ). answeringBy s (t .count) room k (settingsAfter (s .settings) short) (replyOf (s .settings) short)) (same .code)
-    ∙ ap (λ (a : Settings). answeringBy s (t .count) room (codeOf (s .settings) full) a (replyOf (s .settings) short)) (same .after)
-    ∙ ap (λ (r : List ℕ). answeringBy s (t .count) room (codeOf (s .settings) full) (settingsAfter (s .settings) full) r) (same .reply))
+    (ap (λ (k : ℕ). answeringBy s (t .count) room k (settingsAfter b short) (replyOf b short)) (same .code)
+    ∙ ap (λ (a : Settings). answeringBy s (t .count) room (codeOf b full) a (replyOf b short)) (same .after)
+    ∙ ap (λ (r : List ℕ). answeringBy s (t .count) room (codeOf b full) (settingsAfter b full) r) (same .reply))
   where
-    type : ℕ
-    type = typeIn (headerIn (t .store .held))
-
-    size : ℕ
-    size = lengthIn (headerIn (t .store .held))
-
-    short : Message
-    short = heldMessage type size (take 10 (t .store .held))
-
-    full : Message
-    full = heldMessage type size (t .store .held)
-
-    same : Same (s .settings) (heldMessage (typeIn (headerIn (t .store .held))) (lengthIn (headerIn (t .store .held))) (take 10 (t .store .held))) (heldMessage (typeIn (headerIn (t .store .held))) (lengthIn (headerIn (t .store .held))) (t .store .held))
-    same = ten-decide (s .settings) (typeIn (headerIn (t .store .held))) (lengthIn (headerIn (t .store .held))) (t .store .held) long
+    same : Same (s .settings) (shortMessage t) (messageIn (t .store))
+    same = ten-decide (s .settings) (messageIn (t .store) .type) (messageIn (t .store) .size) (t .store .held) long
 
 module _ (s : Station) (host : List ℕ) (room : ℕ) (r : Took) (after : List ℕ) (v : valid s ≡ true)
     (told : r ≡ tookIn (s .store) host) (left : after ≡ heldAfter (s .store) host) where
@@ -83,22 +81,28 @@ module _ (s : Station) (host : List ℕ) (room : ℕ) (r : Took) (after : List �
   ends : r .finished ≡ all .finished
   ends = ap (λ (k : Took). k .finished) took
 
-  -- what is held of a message that is not finished
-  pub waits : r .finished ≡ false
-      → waiting (s .settings) (record { store = record { held = after; taken = r .taken }; count = r .count; finished = r .finished }) ≡ feedingOf s host room
+  -- what the call took, with what is held after it
+  abbrev holding : Taking
+  holding = record { store = record { held = after; taken = r .taken }; count = r .count; finished = r .finished }
+
+  -- a message that is not finished
+  pub waits : r .finished ≡ false → waiting (s .settings) holding ≡ feedingOf s host room
   waits f =
       let open′ : all .finished ≡ false = sym ends ∙ f in
       let kept : after ≡ all .store .held = left ∙ rw (eq-eqb (length (s .store .held)) 64 long, open′) refl in
-      feeding-open s host room (record { store = record { held = after; taken = r .taken }; count = r .count; finished = r .finished }) v (rw (kept, took) refl) f
+      feeding-open s host room holding v (rw (kept, took) refl) f
 
   -- a finished one: it is answered, and nothing more of it is held
   pub answers : r .finished ≡ true → answering s (opened r) room ≡ feedingOf s host room
-  answers f =
-      rw (took, ten)
-      (same-answer s all room (omega (arith, long, taken-long 0 (s .store) host)) ∙ feeding-done s host room all v refl (sym ends ∙ f))
+  answers f = rw (took, ten) (same-answer s all room ten-long ∙ feeding-done s host room all v refl (sym ends ∙ f))
     where
+      ten-long : 10 ≤ length (all .store .held)
+      ten-long = omega (arith, long, taken-long 0 (s .store) host)
+
       ten : tookOf all .opening ≡ take 10 (all .store .held)
-      ten = rw (sym ends ∙ f) (held-opening (all .store .taken) (all .store .held) (omega (arith, long, taken-long 0 (s .store) host)) (taken-unused 0 (s .store) host (left-zeros (s .store) could)))
+      ten =
+          rw (sym ends ∙ f)
+          (held-opening (all .store .taken) (all .store .held) ten-long (taken-unused 0 (s .store) host (left-zeros (s .store) could)))
 
   pub same-held : r .finished ≡ true → after ≡ s .store .held
   same-held f = left ∙ rw (sym ends ∙ f, and-false) refl

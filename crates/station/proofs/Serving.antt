@@ -9,19 +9,18 @@ use mathlib.Core.List.{List, [], _∷_, _++_}
 use lib.ListN.{length, drop}
 use Rattle.wire.specs.Choice.{pick}
 use Rattle.wire.specs.Lists.{joined as joinedBytes}
-use Rattle.framing.specs.Framing.{taken, finished, couldBeLeft}
+use Rattle.framing.specs.Framing.{taken, finished}
 use Rattle.framing.specs.Stream as stream
 use Rattle.framing.specs.Stream.{Stream}
-use Rattle.framing.proofs.Cutting.{told, taken-left}
-use Rattle.framing.proofs.Leaving.{between-left}
+use Rattle.framing.proofs.Cutting.{finished-taking}
 use Rattle.framing.proofs.Stream.{handing-eaten}
-use Rattle.items.specs.Settings.{inRange}
 use Rattle.station.specs.Station.{valid}
 use Rattle.station.specs.Feeding.{messageIn, feedingOf}
-use Rattle.station.specs.Serving.{Served, called, calling, Piece, serving, joined, roomy, CutsDoNotMatter, Come, answer, begun, come, ServedToTheEnd}
+use Rattle.station.specs.Serving.{Served, called, calling, Piece, serving, joined, roomy, CutsDoNotMatter, Come, answer, begun}
+use Rattle.station.specs.Serving.{come, ServedToTheEnd}
 use Rattle.station.proofs.Calls.{feeding-keeps}
 use Rattle.station.proofs.Short.{reply-short}
-use Rattle.station.proofs.Valid.{valid-settings, valid-store, valid-both, feeding-answered, feeding-waiting}
+use Rattle.station.proofs.Valid.{valid-settings, valid-store, feeding-answered, feeding-waiting}
 
 -- a valid box
 abbrev Good : Stream Come → Type 0
@@ -33,19 +32,20 @@ next r host = stream.called answer (r .state) (taken (r .store) host)
 
 -- a call of feeding is a call of the stream, and consumes what that takes
 next-come : (room : ℕ) (r : Stream Come) (host : List ℕ) → 64 ≤ room → Good r
-    → (called room (come r) host ≡ come (next r host)) × (feedingOf (come r .station) host room .fed .consumed ≡ taken (r .store) host .count)
+    → (called room (come r) host ≡ come (next r host))
+    × (feedingOf (come r .station) host room .fed .consumed ≡ taken (r .store) host .count)
 next-come room r host enough g = go (taken (r .store) host .finished) refl
   where
     go : (d : Bool) → taken (r .store) host .finished ≡ d
-        → (called room (come r) host
-        ≡ come (pick d (stream.answered answer (r .state) (taken (r .store) host .store)) (stream.waiting (r .state) (taken (r .store) host .store))))
+        → let t = taken (r .store) host .store in
+        (called room (come r) host ≡ come (pick d (stream.answered answer (r .state) t) (stream.keeping (r .state) t)))
         × (feedingOf (come r .station) host room .fed .consumed ≡ taken (r .store) host .count)
     go true f =
-        rw (feeding-answered (r .state .settings) (r .store) host room g (told 0 (r .store) host ∙ f)
-        (le-trans (reply-short (r .state .settings) (messageIn (taken (r .store) host .store)) (valid-settings (r .state .settings) (r .store) g)) enough))
-        (refl, refl)
+        let s = r .state .settings in
+        let short = reply-short s (messageIn (taken (r .store) host .store)) (valid-settings s (r .store) g) in
+        rw (feeding-answered s (r .store) host room g (finished-taking 0 (r .store) host ∙ f) (le-trans short enough)) (refl, refl)
     go false f =
-        rw (feeding-waiting (r .state .settings) (r .store) host room g (told 0 (r .store) host ∙ f))
+        rw (feeding-waiting (r .state .settings) (r .store) host room g (finished-taking 0 (r .store) host ∙ f))
         (refl, refl)
 
 -- and leaves a valid box
@@ -59,10 +59,11 @@ unfolding calling stream.calling
 calling-come rooms zero r host enough g = (refl, g)
 calling-come rooms (suc calls) r [] enough g = (refl, g)
 calling-come rooms (suc calls) r (b ∷ bs) enough g =
-    let here = next-come (rooms calls) r (b ∷ bs) (enough calls) g in
-    let rest = calling-come rooms calls (next r (b ∷ bs)) (drop (taken (r .store) (b ∷ bs) .count) (b ∷ bs)) enough (next-good r (b ∷ bs) g) in (
-      ap (λ (x : Served). calling rooms calls x (drop (feedingOf (come r .station) (b ∷ bs) (rooms calls) .fed .consumed) (b ∷ bs))) (here .0)
-          ∙ ap (λ (n : ℕ). calling rooms calls (come (next r (b ∷ bs))) (drop n (b ∷ bs))) (here .1)
+    let host = b ∷ bs in
+    let here = next-come (rooms calls) r host (enough calls) g in
+    let rest = calling-come rooms calls (next r host) (drop (taken (r .store) host .count) host) enough (next-good r host g) in (
+      ap (λ (x : Served). calling rooms calls x (drop (feedingOf (come r .station) host (rooms calls) .fed .consumed) host)) (here .0)
+          ∙ ap (λ (n : ℕ). calling rooms calls (come (next r host)) (drop n host)) (here .1)
           ∙ rest .0,
       rest .1,
     )
@@ -86,7 +87,9 @@ joined-hosts (p ∷ ps) = ap (λ (l : List ℕ). p .host ++ l) (joined-hosts ps)
 pub served-to-the-end : ServedToTheEnd
 served-to-the-end s ps v enough =
     serving-come (begun s) ps enough v
-    ∙ ap come (handing-eaten answer (begun s) (hosts ps) (valid-store (s .settings) (s .store) v) ∙ ap (stream.eaten answer (begun s)) (joined-hosts ps))
+    ∙ ap come
+    (handing-eaten answer (begun s) (hosts ps) (valid-store (s .settings) (s .store) v)
+    ∙ ap (stream.eaten answer (begun s)) (joined-hosts ps))
 
 pub cuts-do-not-matter : CutsDoNotMatter
 cuts-do-not-matter s ps qs v enough more same =

@@ -13,7 +13,8 @@ use Rattle.wire.specs.Header.{nak, typeRange, typeReply, typeRangeReply}
 use Rattle.items.specs.declared.Settings.{Settings}
 use Rattle.items.specs.Settings.{inRange}
 use Rattle.items.specs.Items.{echoes, Item, items, rowOf, versionTable}
-use Rattle.items.specs.Answer.{Message, itemIn, codeOf, settingsAfter, row, parameters, replyBody, rangeBody, framed, replyTo, replyDue, replyOf}
+use Rattle.items.specs.Answer.{Message, itemIn, codeOf, settingsAfter, row, parameters, replyBody, rangeBody, framed, replyTo, replyDue}
+use Rattle.items.specs.Answer.{replyOf}
 use Rattle.items.proofs.Judging.{reply-by-code}
 use Rattle.items.proofs.Rows.{allHave, _then_, found}
 use Rattle.station.proofs.Kept.{serial-long, message-keeps}

@@ -24,16 +24,20 @@ module _ (s : Station) (v : valid s ≡ true) where
   abbrev word : ℕ
   word = wordOf (s .settings .frequency) (s .settings .clock)
 
-  answered : wordTold (s .settings .frequency) (s .settings .clock) ≡ tuning.told (Tuned.the-variants.Is word)
+  -- what the crate tuning tells of its frequency and clock
+  abbrev asked : Told
+  asked = wordTold (s .settings .frequency) (s .settings .clock)
+
+  answered : asked ≡ tuning.told (Tuned.the-variants.Is word)
   answered =
       let r = ranges (s .settings) (valid-settings (s .settings) (s .store) v) in
       word-is (s .settings .frequency) (s .settings .clock) (r .frequency) (r .clock)
 
-  pub word-told : (w : ℕ) → tuning.told (Tuned.the-variants.Is w) ≡ wordTold (s .settings .frequency) (s .settings .clock) → told (Word w) ≡ tuningTold s
+  pub word-told : (w : ℕ) → tuning.told (Tuned.the-variants.Is w) ≡ asked → told (Word w) ≡ tuningTold s
   unfolding tuningTold
   word-told w e = rw v (e ∙ answered)
 
-  pub never-without : tuning.told Tuned.the-variants.NotAllowed ≡ wordTold (s .settings .frequency) (s .settings .clock) → told Broken ≡ tuningTold s
+  pub never-without : tuning.told Tuned.the-variants.NotAllowed ≡ asked → told Broken ≡ tuningTold s
   never-without e = absurd (let z : _≡_ {A = ℕ} 16 1 = ap (λ (t : Told). t .code) (e ∙ answered) in omega arith)
 
 -- the answer says all: the number and the value decide the case

@@ -2,9 +2,9 @@
 use Prim.Native.Nat.{ℕ}
 use mathlib.Core.Bool.{not}
 use mathlib.Core.List.{List, [], _∷_}
-use lib.Dec.{ltb}
+use lib.Dec.{leb, ltb}
 use lib.ListN.{length}
-use Rattle.wire.specs.Choice.{pick, Check, check, firstRow}
+use Rattle.wire.specs.Choice.{pick, Check, check, firstOf}
 use Rattle.wire.specs.Codes as Code
 use Rattle.wire.specs.Header.{lengthIn, typeIn}
 use Rattle.framing.specs.Framing.{Taking, taken, finished, headerIn, between}
@@ -25,7 +25,7 @@ pub record Feeding : Type 0 where
   pub fed : Fed
   pub bytes : List ℕ
 
--- "Codes from 20 consume nothing and return the state given."
+-- a call that is refused: it consumes nothing, writes nothing, and returns the box given
 abbrev pub refused : ℕ → Station → Feeding
 refused code s = record { fed = record { code = code; consumed = 0; wrote = 0; station = s }; bytes = [] }
 
@@ -51,22 +51,26 @@ answered s t =
       bytes = replyOf s (messageIn (t .store));
     }
 
--- what the bytes taken come to: a message that is finished is answered, any other waits
-abbrev pub comesTo : Settings → Taking → Feeding
-comesTo s t = pick (finished (t .store)) (answered s t) (waiting s t)
+-- what the host's bytes come to: a message that they finish is answered, any other waits
+abbrev pub comesTo : Station → List ℕ → Feeding
+comesTo s host =
+    let t = taken (s .store) host in
+    pick (finished (t .store)) (answered (s .settings) t) (waiting (s .settings) t)
 
 -- "Orders: feeding 21, 20." 20: "lent buffer shorter than what this call would write"
-abbrev pub feedChecks : Station → Taking → ℕ → List Check
-feedChecks s t room =
+abbrev pub feedChecks : Station → List ℕ → ℕ → List Check
+feedChecks s host room =
     check Code.broken (not (valid s))
-    ∷ check Code.noRoom (ltb room (length (comesTo (s .settings) t .bytes)))
+    ∷ check Code.noRoom (ltb room (length (comesTo s host .bytes)))
     ∷ []
 
--- the first check that holds refuses the call
+-- the call's code: where nothing speaks against the call, 0 or the finished message's own
+abbrev pub feedCode : Station → List ℕ → ℕ → ℕ
+feedCode s host room = firstOf (feedChecks s host room) (comesTo s host .fed .code)
+
+-- "Codes from 20 consume nothing and return the state given."
 unfoldable pub feedingOf : Station → List ℕ → ℕ → Feeding
-feedingOf s host room =
-    firstRow (λ c. c .holds) (λ c. refused (c .code) s) (comesTo (s .settings) (taken (s .store) host))
-    (feedChecks s (taken (s .store) host) room)
+feedingOf s host room = pick (leb 20 (feedCode s host room)) (refused (feedCode s host room) s) (comesTo s host)
 
 -- the same where the bytes held are lent: of the box there is left how many were taken, and the settings
 abbrev pub partsOf : Fed → FedHeld

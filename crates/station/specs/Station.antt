@@ -10,7 +10,7 @@ use Rattle.framing.specs.Framing.{between, couldBeLeft}
 use Rattle.items.specs.declared.Settings.{Settings}
 use Rattle.items.specs.Settings.{inRange, freshOf, freshAnswer}
 use Rattle.station.specs.declared.Station.{Station}
-use Rattle.station.specs.declared.Began.{Began}
+use Rattle.station.specs.declared.FreshBox.{FreshBox}
 use Rattle.station.specs.declared.Tuning.{Tuning}
 use Rattle.station.specs.declared.Tuning.the-variants.{Word, Broken}
 
@@ -23,7 +23,7 @@ unfoldable pub valid : Station → Bool
 valid s = inRange (s .settings) && couldBeLeft (s .store)
 
 -- A fresh box from a serial: "26: serial not eight of A-Z, 0-9 .. the fresh box has serial 00000000".
-abbrev pub freshBox : List ℕ → Began
+abbrev pub freshBox : List ℕ → FreshBox
 freshBox serial =
     record {
       code = freshAnswer serial .code;

@@ -20,10 +20,10 @@ use wire::codes;
 // again with the bytes that are left comes to the same replies and the same box however they are cut (proofs/Serving:
 // `cuts-do-not-matter`).
 pub fn feed(s: Station, host: &[u8], reply: &mut [u8]) -> Fed
-    ensures { λ r. do
-      room ← ⟦reply.len()⟧ .entry
-      ⌜ (r ≡ feedingOf s (now (host .entry)) room .fed)
-          × (now (reply .exit) ≡ sets (now (reply .entry)) 0 (feedingOf s (now (host .entry)) room .bytes)) ⌝ }
+    ensures { λ r.
+        ⌜ (r ≡ feedingOf s (now (host .entry)) (length (now (reply .entry))) .fed)
+        × (now (reply .exit)
+        ≡ sets (now (reply .entry)) 0 (feedingOf s (now (host .entry)) (length (now (reply .entry))) .bytes)) ⌝ }
 {
     let settings = s.settings;
     let store = s.store;
@@ -55,11 +55,13 @@ pub fn feed_held(
     host: &[u8],
     reply: &mut [u8],
 ) -> FedHeld
-    ensures { λ r. do
-      room ← ⟦reply.len()⟧ .entry
-      ⌜ (r ≡ partsOf (feedingOf (boxOf settings (now (held .entry)) taken) (now (host .entry)) room .fed))
-          × (now (held .exit) ≡ feedingOf (boxOf settings (now (held .entry)) taken) (now (host .entry)) room .fed .station .store .held)
-          × (now (reply .exit) ≡ sets (now (reply .entry)) 0 (feedingOf (boxOf settings (now (held .entry)) taken) (now (host .entry)) room .bytes)) ⌝ }
+    ensures { λ r.
+        ⌜ (r ≡ partsOf (feedingOf (boxOf settings (now (held .entry)) taken) (now (host .entry)) (length (now (reply .entry))) .fed))
+        × (now (held .exit)
+        ≡ feedingOf (boxOf settings (now (held .entry)) taken) (now (host .entry)) (length (now (reply .entry))) .fed .station .store .held)
+        × (now (reply .exit)
+        ≡ sets (now (reply .entry)) 0
+        (feedingOf (boxOf settings (now (held .entry)) taken) (now (host .entry)) (length (now (reply .entry))) .bytes)) ⌝ }
 {
     if !crate::is_sound(settings, held, taken) {
         return refused(codes::BROKEN, settings, taken);

@@ -4,7 +4,7 @@ mod feeding; // feeding.rt: one call of feeding
 pub use feeding::feed;
 pub use feeding::feed_held;
 ghost use mathlib.Core.Path.{_≡_};
-ghost use Rattle.station.specs.Station.{valid, boxOf, freshBox, told, tuningTold};
+ghost use Rattle.station.specs.Station.{valid, boxOf, freshBox, freshStation, sessionSerial, told, tuningTold};
 use framing::Store;
 use items::Settings;
 
@@ -34,7 +34,7 @@ pub struct FedHeld {
 }
 
 // A fresh box, and the code for its serial.
-pub struct Began {
+pub struct FreshBox {
     pub code: u8,
     pub station: Station,
 }
@@ -46,7 +46,7 @@ pub enum Tuning {
 }
 
 // A fresh box with a serial; where that is not eight of A-Z, 0-9, code 26 and the box with serial 00000000.
-pub fn fresh(serial: &[u8]) -> Began
+pub fn fresh(serial: &[u8]) -> FreshBox
     ensures { λ r. ⌜ r ≡ freshBox (now (serial .entry)) ⌝ }
 {
     let began = items::fresh(serial);
@@ -55,10 +55,18 @@ pub fn fresh(serial: &[u8]) -> Began
         settings: settings,
         store: framing::between(),
     };
-    Began {
+    FreshBox {
         code: began.code,
         station: station,
     }
+}
+
+// "A fresh box with serial MT123456": the session program's, and the one that the other programs begin with.
+pub fn session_box() -> Station
+    ensures { λ r. ⌜ r ≡ freshStation sessionSerial ⌝ }
+{
+    let began = fresh(b"MT123456");
+    began.station
 }
 
 // Whether every setting is in its range, and the unfinished message one that some bytes could have left.

@@ -13,8 +13,7 @@ use Rattle.wire.proofs.Laws.{pick-same}
 use Rattle.wire.proofs.Stores.{sets-append}
 use Rattle.station.specs.declared.Fed.{Fed}
 use Rattle.station.specs.declared.Station.{Station}
-use Rattle.station.specs.declared.Began.{Began}
-use Rattle.station.specs.Station.{freshBox, sessionSerial}
+use Rattle.station.specs.Station.{freshStation, sessionSerial}
 use Rattle.station.specs.Feeding.{Feeding, feedingOf}
 use Rattle.station.proofs.Calls.{Within, feeding-within}
 use Rattle.talks.specs.Serving.{served, serveRun}
@@ -36,7 +35,8 @@ no-room zero room s host short = refl
 no-room (suc left) room s host short = rw (lt-ltb room 64 short) (pick-same (eqb (length host) 0) [])
 
 -- one call, and what is served after it
-pub one-call : (left room : ℕ) (s : Station) (host : List ℕ) (f : Feeding) → f ≡ feedingOf s host room → 0 < left → 0 < length host → 64 ≤ room
+pub one-call : (left room : ℕ) (s : Station) (host : List ℕ) (f : Feeding) → f ≡ feedingOf s host room → 0 < left → 0 < length host
+    → 64 ≤ room
     → served left room s host ≡ f .bytes ++ served (left - 1) (room - length (f .bytes)) (f .fed .station) (drop (f .fed .consumed) host)
 unfolding served
 one-call zero room s host f is none more roomy = absurd (lt-irrefl 0 none)
@@ -53,9 +53,9 @@ pub record Going (host whole replies : List ℕ) (s : Station) (i at left : ℕ)
   pub counted : at + length (served left (length replies - at) s (drop i host)) ≡ length (serveRun host (length whole))
 
 -- it begins with a fresh box
-pub begins : (host replies : List ℕ) (b : Began) → b ≡ freshBox sessionSerial → Going host replies replies (b .station) 0 0 (length host)
+pub begins : (host replies : List ℕ) (s : Station) → s ≡ freshStation sessionSerial → Going host replies replies s 0 0 (length host)
 unfolding serveRun
-begins host replies b is =
+begins host replies s is =
     let all : length replies - 0 ≡ length replies = omega arith in
     record {
       inside = omega arith;
@@ -67,11 +67,15 @@ begins host replies b is =
 
 -- it ends where nothing more is served
 pub ends : (host whole replies : List ℕ) (s : Station) (i at left : ℕ) → Going host whole replies s i at left
-    → served left (length replies - at) s (drop i host) ≡ [] → (at ≡ length (serveRun host (length whole))) × (replies ≡ sets whole 0 (serveRun host (length whole)))
+    → served left (length replies - at) s (drop i host) ≡ []
+    → (at ≡ length (serveRun host (length whole))) × (replies ≡ sets whole 0 (serveRun host (length whole)))
 ends host whole replies s i at left g none = (omega (arith, rw none at (g .counted)), rw none at (g .written))
 
 -- and goes on from one call to the next
-module _ (host whole replies after : List ℕ) (s : Station) (i at left : ℕ) (f : Feeding) (is : f ≡ feedingOf s (drop i host) (length replies - at)) (g : Going host whole replies s i at left) (some : 0 < left) (more : i < length host) (roomy : 64 ≤ length replies - at) (stored : after ≡ sets replies at (f .bytes)) where
+module _ (host whole replies after : List ℕ) (s : Station) (i at left : ℕ) (f : Feeding)
+    (is : f ≡ feedingOf s (drop i host) (length replies - at)) (g : Going host whole replies s i at left)
+    (some : 0 < left) (more : i < length host) (roomy : 64 ≤ length replies - at)
+    (stored : after ≡ sets replies at (f .bytes)) where
   rest : List ℕ
   rest = served (left - 1) (length replies - at - length (f .bytes)) (f .fed .station) (drop (f .fed .consumed) (drop i host))
 
@@ -92,7 +96,10 @@ module _ (host whole replies after : List ℕ) (s : Station) (i at left : ℕ) (
       rw (lefts, ← drop-drop (f .fed .consumed) i host)
 
   -- the bytes of this call, and the rest behind them
-  behind : sets after (at + f .fed .wrote) (served (left - 1) (length after - (at + f .fed .wrote)) (f .fed .station) (drop (i + f .fed .consumed) host)) ≡ sets replies at (f .bytes ++ rest)
+  behind :
+      sets after (at + f .fed .wrote)
+      (served (left - 1) (length after - (at + f .fed .wrote)) (f .fed .station) (drop (i + f .fed .consumed) host))
+      ≡ sets replies at (f .bytes ++ rest)
   behind =
       let to : at + f .fed .wrote ≡ at + length (f .bytes) = omega (arith, within .wrote) in
       ap (λ (l : List ℕ). sets after (at + f .fed .wrote) l) on

@@ -13,8 +13,7 @@ pub extern "C" fn skvornela_serve(host: &[u8], replies: &mut [u8]) -> usize
         ⌜ (r ≡ length (serveRun (now (host .entry)) (length (now (replies .entry)))))
         × (now (replies .exit) ≡ sets (now (replies .entry)) 0 (serveRun (now (host .entry)) (length (now (replies .entry))))) ⌝ }
 {
-    let began = station::fresh(b"MT123456");
-    let mut s = began.station;
+    let mut s = station::session_box();
     let mut i: usize = 0;
     let mut at: usize = 0;
     // A proved loop has to end: each call consumes a byte or more, so as many calls as there are bytes are enough.

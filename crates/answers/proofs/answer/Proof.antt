@@ -9,7 +9,7 @@ use Rattle.items.specs.declared.Judged.{Judged}
 use Rattle.items.specs.Answer.{Message, codeOf, settingsAfter, replyOf}
 use Rattle.items.proofs.Judging.{accepted-row, range-row}
 use Rattle.answers.specs.Inside.{due}
-use Rattle.answers.proofs.Answering.{due-reply, some-due, answers-nothing, answers-short, answers-whole}
+use Rattle.answers.proofs.Answering.{judged-reply, some-due, answers-nothing, answers-short, answers-whole}
 use borrow.Author.Needs.{needs}
 use Rattle.answers.proofs.answer.Statement.{statement}
 use Rattle.answers.proofs.answer.Tie as tie
@@ -20,17 +20,23 @@ judge-requires c κs = search needs
 abbrev message : tie.Start → Message
 message c = record { type = c .args .kind; size = c .args .size; held = now (c .args .opening) }
 
-code-is : (c : tie.After-judge) → c .judge .result .code ≡ codeOf (c .before .before .args .s) (message (c .before .before))
-code-is c = ap (λ (j : Judged). j .code) (c .judge .ensures)
+-- ---- what is judged
 
-after-is : (c : tie.After-judge) → c .judge .result .settings ≡ settingsAfter (c .before .before .args .s) (message (c .before .before))
-after-is c = ap (λ (j : Judged). j .settings) (c .judge .ensures)
+abbrev start : tie.After-judge → tie.Start
+start j = j .before .before
+
+code-is : (j : tie.After-judge) → j .judge .result .code ≡ codeOf (start j .args .s) (message (start j))
+code-is j = ap (λ (x : Judged). x .code) (j .judge .ensures)
+
+after-is : (j : tie.After-judge) → j .judge .result .settings ≡ settingsAfter (start j .args .s) (message (start j))
+after-is j = ap (λ (x : Judged). x .settings) (j .judge .ensures)
 
 returns : tie.Need-returns
 returns c =
-    let s = c .before .before .before .before in
-    answers-nothing (s .args .s) (message s) (now (s .args .reply)) (c .before .before .judge .result .code) (c .before .before .judge .result .settings)
-    (code-is (c .before .before)) (c .if1 .taken) (after-is (c .before .before))
+    let j = c .before .before in
+    let s = start j in
+    answers-nothing (s .args .s) (message s) (now (s .args .reply)) (j .judge .result .code) (j .judge .result .settings)
+    (code-is j) (c .if1 .taken) (after-is j)
 
 item-in-requires : tie.Need-item-in-requires
 item-in-requires c κs = search needs
@@ -42,36 +48,48 @@ write-requires : tie.Need-write-requires
 write-requires c κs =
     let j = c .before .before .before .before .before .before in
     let i = c .before .before .item-in .ensures in
-    let s = j .before .before .args .s in
-    let m = message (j .before .before) in
+    let s = start j .args .s in
+    let m = message (start j) in
     λ one. rw i (accepted-row s m (sym (code-is j) ∙ one), range-row s m (sym (code-is j) ∙ one))
 
 same-length : tie.Need-same-length
 same-length c = search needs
 
--- the message was answered, and there is a fifth byte
-abbrev written : tie.After-write → List ℕ
-written c =
-    let j = c .before .before .before .before .before .before .before in
-    due (j .judge .result .code) (j .before .before .args .kind) (c .before .before .before .item-in .result) (getD (now (j .before .before .args .opening)) 4 0) (j .judge .result .settings)
+-- ---- what is written: the message was answered, and there is a fifth byte
 
-is-reply : (c : tie.After-write) → written c ≡ replyOf (c .before .before .before .before .before .before .before .before .before .args .s) (message (c .before .before .before .before .before .before .before .before .before))
-is-reply c =
-    let j = c .before .before .before .before .before .before .before in
-    let s = j .before .before in
-    let long : 4 < length (now (s .args .opening)) = search needs in
-    rw (code-is j, c .before .before .before .item-in .ensures, after-is j) (due-reply (s .args .s) (message s) long (λ e. c .before .before .before .before .before .if1 .left (code-is j ∙ e)))
+abbrev judged : tie.After-write → tie.After-judge
+judged w = w .before .before .before .before .before .before .before
 
-some : (c : tie.After-write) → 0 < length (written c)
-some c =
-    let j = c .before .before .before .before .before .before .before in
-    some-due (j .judge .result .code) (j .before .before .args .kind) (c .before .before .before .item-in .result) (getD (now (j .before .before .args .opening)) 4 0) (j .judge .result .settings)
+module _ (w : tie.After-write) where
+  abbrev j : tie.After-judge
+  j = judged w
+
+  abbrev s : tie.Start
+  s = start j
+
+  abbrev item : ℕ
+  item = w .before .before .before .item-in .result
+
+  abbrev fifth : ℕ
+  fifth = getD (now (s .args .opening)) 4 0
+
+  abbrev written : List ℕ
+  written = due (j .judge .result .code) (s .args .kind) item fifth (j .judge .result .settings)
+
+  is-reply : written ≡ replyOf (s .args .s) (message s)
+  is-reply =
+      let long : 4 < length (now (s .args .opening)) = search needs in
+      judged-reply (s .args .s) (message s) (j .judge .result .code) item (j .judge .result .settings)
+      (code-is j) (w .before .before .before .item-in .ensures) (after-is j) long (w .before .before .before .before .before .if1 .left)
+
+  some : 0 < length written
+  some = some-due (j .judge .result .code) (s .args .kind) item fifth (j .judge .result .settings)
 
 returns-2 : tie.Need-returns-2
 returns-2 c =
     let w = c .before .before .before in
-    let s = w .before .before .before .before .before .before .before .before .before in
-    answers-short (s .args .s) (message s) (now (s .args .reply)) (w .write .result) (w .write .last .1 .1 .1 .1 .1 .0) (written w) (is-reply w)
+    let a = s w .args in
+    answers-short (a .s) (message (s w)) (now (a .reply)) (w .write .result) (w .write .last .1 .1 .1 .1 .1 .0) (written w) (is-reply w)
     (w .write .ensures .0) (w .write .ensures .1) (some w) (c .if2 .taken)
 
 same-length-2 : tie.Need-same-length-2
@@ -80,10 +98,10 @@ same-length-2 c = search needs
 returns-3 : tie.Need-returns-3
 returns-3 c =
     let w = c .before .before .before in
-    let j = w .before .before .before .before .before .before .before in
-    let s = w .before .before .before .before .before .before .before .before .before in
-    answers-whole (s .args .s) (message s) (now (s .args .reply)) (w .write .result) (w .write .last .1 .1 .1 .1 .1 .0) (written w) (is-reply w)
-    (w .write .ensures .0) (w .write .ensures .1) (j .judge .result .code) (j .judge .result .settings) (code-is j) (after-is j) (c .if2 .left)
+    let a = s w .args in
+    let r = j w .judge .result in
+    answers-whole (a .s) (message (s w)) (now (a .reply)) (w .write .result) (w .write .last .1 .1 .1 .1 .1 .0) (written w) (is-reply w)
+    (w .write .ensures .0) (w .write .ensures .1) (r .code) (r .settings) (code-is (j w)) (after-is (j w)) (c .if2 .left)
 
 pub answer-spec : {M : Type 1} → statement M
 answer-spec =

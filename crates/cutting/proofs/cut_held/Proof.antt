@@ -112,7 +112,8 @@ returns c =
     let v = c .before .before in
     let a = from v .args in
     let n = length (now (a .packet)) in
-    rw (c .refused .ensures, ← refuses (lent v) (now (a .samples)) n 21 (code-21 (lent v) (now (a .samples)) n (sym (v .is-sound .ensures) ∙ not-true _ (c .before .if1 .taken))) (λ e. omega arith)) (refl, refl)
+    let code = code-21 (lent v) (now (a .samples)) n (sym (v .is-sound .ensures) ∙ not-true _ (c .before .if1 .taken)) in
+    rw (c .refused .ensures, ← refuses (lent v) (now (a .samples)) n 21 code (λ e. omega arith)) (refl, refl)
 
 refused-requires-2 : tie.Need-refused-requires-2
 refused-requires-2 c κs = search needs
@@ -123,7 +124,8 @@ returns-2 c =
     let v = s .before in
     let a = from v .args in
     let n = length (now (a .packet)) in
-    rw (c .refused2 .ensures, ← refuses (lent v) (now (a .samples)) n 22 (code-22 (lent v) (now (a .samples)) n (valid-at s) (not-true _ (c .before .if2 .taken))) (λ e. omega arith)) (refl, refl)
+    let code = code-22 (lent v) (now (a .samples)) n (valid-at s) (not-true _ (c .before .if2 .taken)) in
+    rw (c .refused2 .ensures, ← refuses (lent v) (now (a .samples)) n 22 code (λ e. omega arith)) (refl, refl)
 
 refused-requires-3 : tie.Need-refused-requires-3
 refused-requires-3 c κs = search needs
@@ -135,7 +137,8 @@ returns-3 c =
     let v = s .before in
     let a = from v .args in
     let n = length (now (a .packet)) in
-    rw (c .refused3 .ensures, ← refuses (lent v) (now (a .samples)) n 25 (code-25 (lent v) (now (a .samples)) n (valid-at s) (running-at r) (c .before .if3 .taken)) (λ e. omega arith)) (refl, refl)
+    let code = code-25 (lent v) (now (a .samples)) n (valid-at s) (running-at r) (c .before .if3 .taken) in
+    rw (c .refused3 .ensures, ← refuses (lent v) (now (a .samples)) n 25 code (λ e. omega arith)) (refl, refl)
 
 form-for-requires : tie.Need-form-for-requires
 form-for-requires c κs = search needs
@@ -151,11 +154,9 @@ returns-4 c =
     let f = c .before .before .before in
     let other : length (given f) ≡ 2 * formNow (box f .settings) .pairs → ⊥ =
     λ e. c .before .if4 .taken (e ∙ ap (λ (g : Form). 2 * g .pairs) (sym (form-at f))) in
-    rw (
-      c .refused4 .ensures,
-      ← refuses (box f) (given f) (room f) 23
-          (code-23 (box f) (given f) (room f) (valid-at (sound (running f))) (running-at (running f)) (unfull f .if3 .left) other) (λ e. omega arith),
-    ) (refl, refl)
+    let code =
+    code-23 (box f) (given f) (room f) (valid-at (sound (running f))) (running-at (running f)) (unfull f .if3 .left) other in
+    rw (c .refused4 .ensures, ← refuses (box f) (given f) (room f) 23 code (λ e. omega arith)) (refl, refl)
 
 total-of-requires : tie.Need-total-of-requires
 total-of-requires c κs = search needs
@@ -168,10 +169,11 @@ returns-5 c =
     let t = c .before .before in
     let f = formed (counted t) in
     let total : t .total-of .result ≡ totalOf (formNow (box f .settings)) = total-at t ∙ ap totalOf (form-at f) in
+    let short = rw total at (c .before .if5 .taken) in
     rw (
       c .too-short .ensures,
       ← refuses-short (box f) (given f) (room f)
-          (valid-at (sound (running f))) (running-at (running f)) (unfull f .if3 .left) (count-at (counted t)) (rw total at (c .before .if5 .taken)),
+          (valid-at (sound (running f))) (running-at (running f)) (unfull f .if3 .left) (count-at (counted t)) short,
     ) (refl, refl)
 
 pack-requires : tie.Need-pack-requires
@@ -189,12 +191,11 @@ returns-6 c =
     let n = counted (totalled p) in
     let f = formed n in
     let bad : allSamples (given f) ≡ false = sym (packs-at p) ∙ not-true _ (c .before .if6 .taken) in
-    rw (
-      c .refused5 .ensures,
-      ← refuses (box f) (given f) (room f) 24
-          (code-24 (box f) (given f) (room f) (valid-at (sound (running f))) (running-at (running f)) (unfull f .if3 .left) (count-at n) bad) (λ e. omega arith),
-    )
-    (refl, p .pack .ensures .1 ∙ ap (sets (now (start f .args .packet)) 4) (packed-none (form f) (given f) (room f) (listed-at f) (many-at n) (fits-at p) bad))
+    let code =
+    code-24 (box f) (given f) (room f) (valid-at (sound (running f))) (running-at (running f)) (unfull f .if3 .left) (count-at n) bad in
+    let none = packed-none (form f) (given f) (room f) (listed-at f) (many-at n) (fits-at p) bad in
+    rw (c .refused5 .ensures, ← refuses (box f) (given f) (room f) 24 code (λ e. omega arith))
+    (refl, p .pack .ensures .1 ∙ ap (sets (now (start f .args .packet)) 4) none)
 
 cast-header-of : tie.Need-cast-header-of
 cast-header-of c =
@@ -248,14 +249,13 @@ returns-7 c =
     let form : f ≡ formNow (s .settings) = form-at formed in
     let fits : totalOf f ≤ n = fits-at packed in
     let good : allSamples (now (a .samples)) ≡ true = sym (packs-at packed) ∙ not-false _ (good6 .if6 .left) in
-    rw (
-      c .counted .ensures,
-      ← cuts s (now (a .samples)) n
-          (code-1 s (now (a .samples)) n (valid-at sound) (running-at running) (unfull .if3 .left) (count-at counted) good (rw form at fits)),
-    ) (
+    let code =
+    code-1 s (now (a .samples)) n (valid-at sound) (running-at running) (unfull .if3 .left) (count-at counted) good (rw form at fits) in
+    rw (c .counted .ensures, ← cuts s (now (a .samples)) n code) (
       rw (total-at totalled, form),
-      packet-stored f (now (a .samples)) n (listed-at formed) (many-at counted) fits (now (a .packet)) _ _ _ (s .settings .count) (totalled .total-of .result)
-          (headed .header-of .result) (numbered .number-at-position .result) good (total-at totalled) (headed .header-of .ensures) (numbered .number-at-position .ensures) (packed .pack .ensures .1)
+      packet-stored f (now (a .samples)) n (listed-at formed) (many-at counted) fits (now (a .packet)) _ _ _ (s .settings .count)
+          (totalled .total-of .result) (headed .header-of .result) (numbered .number-at-position .result) good (total-at totalled)
+          (headed .header-of .ensures) (numbered .number-at-position .ensures) (packed .pack .ensures .1)
           (put .put .ensures) (put2 .put2 .ensures)
           ∙ ap (λ (g : Form). sets (now (a .packet)) 0 (packetOf g (s .settings .count) (now (a .samples)))) form,
     )

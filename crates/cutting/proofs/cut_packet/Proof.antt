@@ -31,7 +31,8 @@ returns c =
     let r = c .before .before .before in
     let a = r .before .before .before .before .before .before .before .args in
     let n = length (now (a .packet)) in (
-      together (cuttingOf (a .s) (now (a .samples)) n .cut) (r .cut-held .result) (a .s .store) (r .cut-held .ensures .0) (cutting-holds (a .s) (now (a .samples)) n),
+      together (cuttingOf (a .s) (now (a .samples)) n .cut) (r .cut-held .result) (a .s .store) (r .cut-held .ensures .0)
+          (cutting-holds (a .s) (now (a .samples)) n),
       r .cut-held .ensures .1,
     )
 

@@ -28,8 +28,9 @@ returns-3 : tie.Need-returns-3
 returns-3 c =
     let f = c .before .before in
     let a = f .before .before .before .args in
+    let unfinished = sym (f .is-finished .ensures) ∙ c .before .if2 .left in
     c .unused .ensures
-    ∙ sym (left-unfinished (record { held = now (a .held); taken = a .taken }) (omega arith) (sym (f .is-finished .ensures) ∙ c .before .if2 .left))
+    ∙ sym (left-unfinished (record { held = now (a .held); taken = a .taken }) (omega arith) unfinished)
 
 pub could-be-left-spec : {M : Type 1} → statement M
 could-be-left-spec =

@@ -39,8 +39,29 @@ byte-of-requires-10 c κs = search needs
 
 returns : tie.Need-returns
 returns c =
-    let a = c .before .before .before .before .before .before .before .before .before .before .before .before .args in
-    rw (c .before .before .before .before .before .before .before .before .before .byte-of .ensures, c .before .before .before .before .before .before .before .before .byte-of2 .ensures, c .before .before .before .before .before .before .before .byte-of3 .ensures, c .before .before .before .before .before .before .byte-of4 .ensures, c .before .before .before .before .before .byte-of5 .ensures, c .before .before .before .before .byte-of6 .ensures, c .before .before .before .byte-of7 .ensures, c .before .before .byte-of8 .ensures, c .before .byte-of9 .ensures, c .byte-of10 .ensures)
+    -- the bytes, from the last back to the first
+    let ninth = c .before in
+    let eighth = ninth .before in
+    let seventh = eighth .before in
+    let sixth = seventh .before in
+    let fifth = sixth .before in
+    let fourth = fifth .before in
+    let third = fourth .before in
+    let second = third .before in
+    let first = second .before in
+    let a = first .before .before .before .args in
+    rw (
+      first .byte-of .ensures,
+      second .byte-of2 .ensures,
+      third .byte-of3 .ensures,
+      fourth .byte-of4 .ensures,
+      fifth .byte-of5 .ensures,
+      sixth .byte-of6 .ensures,
+      seventh .byte-of7 .ensures,
+      eighth .byte-of8 .ensures,
+      ninth .byte-of9 .ensures,
+      c .byte-of10 .ensures,
+    )
     (ten-bytes (take (a .n) (take (a .had) (now (a .held)) ++ now (a .host))))
 
 pub opening-spec : {M : Type 1} → statement M

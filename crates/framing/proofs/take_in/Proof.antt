@@ -41,7 +41,8 @@ returns-2 c =
     let t = m .before in
     let a = t .before .before .before .before .before .args in
     rw (c .open2 .ensures, k .copy .ensures)
-    (still-open (now (a .held)) (now (a .host)) (a .had) (t .total-ahead .result) (omega arith) (t .total-ahead .ensures) (omega (arith, m .left .ensures)))
+    (still-open (now (a .held)) (now (a .host)) (a .had) (t .total-ahead .result) (omega arith) (t .total-ahead .ensures)
+    (omega (arith, m .left .ensures)))
 
 opening-requires : tie.Need-opening-requires
 opening-requires c κs = search needs
@@ -60,8 +61,9 @@ returns-3 c =
     let t = m .before in
     let a = t .before .before .before .before .before .args in
     rw (c .ended .ensures)
-    (came-last (now (a .held)) (now (a .host)) (a .had) (t .total-ahead .result) (omega arith) (t .total-ahead .ensures) (o .opening .result)
-    (t .total-ahead .result) (t .total-ahead .result) (omega arith) (omega arith) (omega (arith, m .left .ensures)) (rw (n .if3 .taken) (o .opening .ensures)))
+    (came-last (now (a .held)) (now (a .host)) (a .had) (t .total-ahead .result) (omega arith) (t .total-ahead .ensures)
+    (o .opening .result) (t .total-ahead .result) (t .total-ahead .result) (omega arith) (omega arith)
+    (omega (arith, m .left .ensures)) (rw (n .if3 .taken) (o .opening .ensures)))
 
 add-now : tie.Need-add-now
 add-now c = search needs
@@ -82,8 +84,8 @@ returns-4 c =
     let t = m .before in
     let a = t .before .before .before .before .before .args in
     rw (c .ended2 .ensures)
-    (came-last (now (a .held)) (now (a .host)) (a .had) (t .total-ahead .result) (omega arith) (t .total-ahead .ensures) (o .opening2 .result)
-    (m .left .result) _ (m .left .ensures) refl (omega arith) (o .opening2 .ensures))
+    (came-last (now (a .held)) (now (a .host)) (a .had) (t .total-ahead .result) (omega arith) (t .total-ahead .ensures)
+    (o .opening2 .result) (m .left .result) _ (m .left .ensures) refl (omega arith) (o .opening2 .ensures))
 
 pub take-in-spec : {M : Type 1} → statement M
 take-in-spec =

@@ -1,5 +1,6 @@
 -- `framing::total_ahead` meets its contract: which two bytes make the header goes by how many are held already.
 use mathlib.Core.Path.{sym, _∙_}
+use Prim.Native.Nat.{_≤_}
 use native.Mathlib.Omega.{arith}
 use Rattle.framing.proofs.Headers.{ahead-bare, ahead-sent, ahead-half, ahead-held}
 use borrow.Author.Needs.{needs}
@@ -52,21 +53,25 @@ announced-by-requires-3 c κs = search needs
 
 returns-2 : tie.Need-returns-2
 returns-2 c =
-    let a = c .before .before .before .before .before .before .before .before .before .args in
+    let m = c .before .before .before .before in
+    let a = m .before .before .before .before .before .args in
     c .announced-by .ensures
-    ∙ ahead-sent (a .held .now) (a .host .now) (a .had) _ (c .before .before .before .before .match .keys1) (omega arith) (omega arith) (c .before .header .ensures)
+    ∙ ahead-sent (a .held .now) (a .host .now) (a .had) _ (m .match .keys1) (omega arith) (omega arith) (c .before .header .ensures)
 
 returns-3 : tie.Need-returns-3
 returns-3 c =
-    let a = c .before .before .before .before .before .before .before .before .before .args in
+    let m = c .before .before .before .before in
+    let a = m .before .before .before .before .before .args in
     c .announced-by2 .ensures
-    ∙ ahead-half (a .held .now) (a .host .now) (a .had) _ (c .before .before .before .before .match .keys2) (omega arith) (omega arith) (c .before .header2 .ensures)
+    ∙ ahead-half (a .held .now) (a .host .now) (a .had) _ (m .match .keys2) (omega arith) (omega arith) (c .before .header2 .ensures)
 
 returns-4 : tie.Need-returns-4
 returns-4 c =
-    let a = c .before .before .before .before .before .before .before .before .before .args in
+    let m = c .before .before .before .before in
+    let a = m .before .before .before .before .before .args in
+    let two : 2 ≤ a .had = omega (arith, m .match .rest .0 .1, m .match .rest .1) in
     c .announced-by3 .ensures
-    ∙ ahead-held (a .held .now) (a .host .now) (a .had) _ (omega (arith, c .before .before .before .before .match .rest .0 .1, c .before .before .before .before .match .rest .1)) (omega arith) (c .before .header3 .ensures)
+    ∙ ahead-held (a .held .now) (a .host .now) (a .had) _ two (omega arith) (c .before .header3 .ensures)
 
 pub total-ahead-spec : {M : Type 1} → statement M
 total-ahead-spec =

@@ -15,7 +15,10 @@ returns-3 : tie.Need-returns-3
 returns-3 c = rw (c .match .keys2) (sym (total-length (c .before .args .kind) 1 (omega arith)))
 
 returns-4 : tie.Need-returns-4
-returns-4 c = omega (arith, c .match .rest .0 .1, c .match .rest .1, total-length (c .before .args .kind) (c .before .args .length) (omega (arith, c .match .rest .0 .1)))
+returns-4 c =
+    let a = c .before .args in
+    let rest = c .match .rest in
+    omega (arith, rest .0 .1, rest .1, total-length (a .kind) (a .length) (omega (arith, rest .0 .1)))
 
 pub total-of-spec : {M : Type 1} → statement M
 total-of-spec = tie.close (tie.spec returns returns-2 returns-3 returns-4)

@@ -41,13 +41,17 @@ window-requires-4 c κs = search needs
 
 returns-2 : tie.Need-returns-2
 returns-2 c =
-    let third = c .before .before .before .before in
+    -- the windows from the last back to the first, and where the third and the second begin
+    let w3 = c .before in
+    let w2 = w3 .before in
+    let w1 = w2 .before in
+    let third = w1 .before in
     let second = third .before in
     let a = second .before .before .before .args in
     four-windows (now (a .held)) (omega arith) (a .from) (second .lesser .result) (third .lesser2 .result)
-    (c .before .before .before .window .result) (c .before .before .window2 .result) (c .before .window3 .result) (c .window4 .result) (omega arith)
+    (w1 .window .result) (w2 .window2 .result) (w3 .window3 .result) (c .window4 .result) (omega arith)
     (second .lesser .ensures) (third .lesser2 .ensures)
-    (c .before .before .before .window .ensures) (c .before .before .window2 .ensures) (c .before .window3 .ensures) (c .window4 .ensures)
+    (w1 .window .ensures) (w2 .window2 .ensures) (w3 .window3 .ensures) (c .window4 .ensures)
 
 pub unused-spec : {M : Type 1} → statement M
 unused-spec =

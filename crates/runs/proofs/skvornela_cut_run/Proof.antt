@@ -19,10 +19,15 @@ use Rattle.runs.proofs.skvornela_cut_run.Statement.{statement}
 use Rattle.runs.proofs.skvornela_cut_run.Tie as tie
 
 abbrev Inv-loop : tie.InvT-loop
-Inv-loop mode size n total samples out₀ s₀ left₀ count₀ i₀ at₀ out s left count i at = Under mode size n total samples out₀ out s left count i at
+Inv-loop mode size n total samples out₀ s₀ left₀ count₀ i₀ at₀ out s left count i at =
+    Under mode size n total samples out₀ out s left count i at
 
 abbrev μ-loop : tie.MeasureT-loop
 μ-loop mode size n total samples out₀ s₀ left₀ count₀ i₀ at₀ out s left count i at = left
+
+-- the call's arguments, from the loop
+abbrev from : tie.At-loop Inv-loop μ-loop → tie.Start Inv-loop μ-loop
+from l = l .before .before .before .before .before .before
 
 returns : tie.Need-returns Inv-loop μ-loop
 returns c = no-samples _ _ _ _ _ _ (c .if1 .taken)
@@ -43,12 +48,15 @@ lesser-requires : tie.Need-lesser-requires Inv-loop μ-loop
 lesser-requires c κs = search needs
 
 loop-holds : tie.Need-loop-holds Inv-loop μ-loop
-loop-holds c = begins _ _ _ _ _ _ _ _ (c .before .before .before .if1 .left) (c .before .before .if2 .left) (c .before .started .ensures) (c .lesser .ensures)
+loop-holds c =
+    let begun = c .before in
+    let some-bytes = begun .before in
+    begins _ _ (some-bytes .before .if1 .left) (some-bytes .if2 .left) (begun .started .ensures) (c .lesser .ensures)
 
 add-end : tie.Need-add-end Inv-loop μ-loop
 add-end c =
     let l = c .before .loop in
-    let s = c .before .before .before .before .before .before .before in
+    let s = from (c .before) in
     omega (arith, one-more (l .left) (s .args .n) (omega arith), l .inv .sampled, s .good)
 
 mul-cut-packet : tie.Need-mul-cut-packet Inv-loop μ-loop
@@ -63,7 +71,7 @@ part-cut-packet-start c = search needs
 part-cut-packet-end : tie.Need-part-cut-packet-end Inv-loop μ-loop
 part-cut-packet-end c =
     let l = c .before .loop in
-    let s = c .before .before .before .before .before .before .before in
+    let s = from (c .before) in
     omega (arith, one-more (l .left) (s .args .n) (omega arith), l .inv .sampled)
 
 sub-cut-packet-2 : tie.Need-sub-cut-packet-2 Inv-loop μ-loop
@@ -83,7 +91,7 @@ abbrev turn : tie.After-cut-packet Inv-loop μ-loop → tie.At-loop Inv-loop μ-
 turn c = c .before .before .before .before
 
 abbrev start : tie.After-cut-packet Inv-loop μ-loop → tie.Start Inv-loop μ-loop
-start c = turn c .before .before .before .before .before .before
+start c = from (turn c)
 
 abbrev box : tie.After-cut-packet Inv-loop μ-loop → Station
 box c = turn c .loop .s
@@ -115,16 +123,19 @@ next c = omega arith
 cut : (c : tie.After-cut-packet Inv-loop μ-loop) → c .cut-packet .result ≡ calling c .cut
 cut c = rw (next c, rest-long (place c) (out c)) at (c .cut-packet .ensures .0)
 
-stored : (c : tie.After-cut-packet Inv-loop μ-loop) → putMid (place c) (room c) (out c) (c .cut-packet .last .1 .1 .0) ≡ sets (out c) (place c) (calling c .bytes)
+stored : (c : tie.After-cut-packet Inv-loop μ-loop)
+    → putMid (place c) (room c) (out c) (c .cut-packet .last .1 .1 .0) ≡ sets (out c) (place c) (calling c .bytes)
 stored c =
     ap (λ (v : List ℕ). putMid (place c) (room c) (out c) v) (rw (next c, rest-long (place c) (out c)) at (c .cut-packet .ensures .1))
     ∙ part-sets (place c) (room c) (out c) (calling c .bytes) (omega (arith, going c .roomy))
 
 -- a refused packet leaves the lent bytes
-untouched : (c : tie.After-cut-packet Inv-loop μ-loop) → (c .cut-packet .result .code ≡ 1 → ⊥) → putMid (place c) (room c) (out c) (c .cut-packet .last .1 .1 .0) ≡ out c
+untouched : (c : tie.After-cut-packet Inv-loop μ-loop) → (c .cut-packet .result .code ≡ 1 → ⊥)
+    → putMid (place c) (room c) (out c) (c .cut-packet .last .1 .1 .0) ≡ out c
 untouched c bad =
     stored c
-    ∙ ap (λ (v : List ℕ). sets (out c) (place c) v) (none-cut (box c) (nexts c) (room c) (λ good. bad (ap (λ (r : Cut). r .code) (cut c) ∙ good)))
+    ∙ ap (λ (v : List ℕ). sets (out c) (place c) v)
+    (none-cut (box c) (nexts c) (room c) (λ good. bad (ap (λ (r : Cut). r .code) (cut c) ∙ good)))
 
 same-length : tie.Need-same-length Inv-loop μ-loop
 same-length c =
@@ -134,10 +145,8 @@ same-length c =
 returns-3 : tie.Need-returns-3 Inv-loop μ-loop
 returns-3 c =
     let f = c .before .before .before .before in
-    let l = turn f .loop in
-    let a = start f .args in
-    ap (λ (v : List ℕ). ran (l .count) v) (untouched f (c .if3 .taken))
-    ∙ refused (a .mode) (a .size) (a .n) (a .total) (a .samples .now) (a .out .now) (out f) (box f) (l .left) (l .count) (l .i) (place f) (going f) (calling f) (omega arith) refl
+    ap (λ (v : List ℕ). ran (turn f .loop .count) v) (untouched f (c .if3 .taken))
+    ∙ refused (going f) (calling f) (omega arith) refl
     (λ good. c .if3 .taken (ap (λ (r : Cut). r .code) (cut f) ∙ good))
 
 add-count : tie.Need-add-count Inv-loop μ-loop
@@ -159,19 +168,13 @@ loop-less c = search needs
 loop-again : tie.Need-loop-again Inv-loop μ-loop
 loop-again c =
     let f = c .before .before .before .before .before in
-    let l = turn f .loop in
-    let a = start f .args in
-    turns (a .mode) (a .size) (a .n) (a .total) (a .samples .now) (a .out .now) (out f) (box f) (l .left) (l .count) (l .i) (place f) (going f) (calling f) (omega arith) refl _
-    (f .cut-packet .result) (cut f) (c .before .if3 .left) (stored f)
+    turns (going f) (calling f) (omega arith) refl _ (f .cut-packet .result) (cut f) (c .before .if3 .left) (stored f)
 
 same-length-2 : tie.Need-same-length-2 Inv-loop μ-loop
 same-length-2 c = c .before .loop .inv .long
 
 returns-4 : tie.Need-returns-4 Inv-loop μ-loop
-returns-4 c =
-    let l = c .before .loop in
-    let a = c .before .before .before .before .before .before .before .args in
-    over (a .mode) (a .size) (a .n) (a .total) (a .samples .now) (a .out .now) (l .out) (l .s) (l .left) (l .count) (l .i) (l .at) (l .inv) (omega arith)
+returns-4 c = over (c .before .loop .inv) (omega arith)
 
 pub skvornela-cut-run-spec : {M : Type 1} → statement M
 skvornela-cut-run-spec =

@@ -13,10 +13,15 @@ use Rattle.runs.proofs.skvornela_read_run.Statement.{statement}
 use Rattle.runs.proofs.skvornela_read_run.Tie as tie
 
 abbrev Inv-loop : tie.InvT-loop
-Inv-loop packets total r₀ sample₀ at₀ left₀ r sample at left = (at + left * total ≤ length packets) × (heardRun left total r sample (drop at packets) ≡ readRun total packets)
+Inv-loop packets total r₀ sample₀ at₀ left₀ r sample at left =
+    (at + left * total ≤ length packets) × (heardRun left total r sample (drop at packets) ≡ readRun total packets)
 
 abbrev μ-loop : tie.MeasureT-loop
 μ-loop packets total r₀ sample₀ at₀ left₀ r sample at left = left
+
+-- the call's arguments, from the loop
+abbrev from : tie.At-loop Inv-loop μ-loop → tie.Start Inv-loop μ-loop
+from l = l .before .before .before .before
 
 returns : tie.Need-returns Inv-loop μ-loop
 returns c = rw (eq-eqb (c .before .before .args .total) 0 (c .if1 .taken))
@@ -34,7 +39,7 @@ loop-holds c =
     (omega arith, rw (c .silent .ensures, ne-eqb (a .total) 0 (c .before .if1 .left)))
 
 add-end : tie.Need-add-end Inv-loop μ-loop
-add-end c = omega (arith, one-more (c .before .loop .left) (c .before .before .before .before .before .args .total) (omega arith))
+add-end c = omega (arith, one-more (c .before .loop .left) (from (c .before) .args .total) (omega arith))
 
 sub-read : tie.Need-sub-read Inv-loop μ-loop
 sub-read c = search needs
@@ -43,7 +48,7 @@ part-read-start : tie.Need-part-read-start Inv-loop μ-loop
 part-read-start c = search needs
 
 part-read-end : tie.Need-part-read-end Inv-loop μ-loop
-part-read-end c = omega (arith, one-more (c .before .loop .left) (c .before .before .before .before .before .args .total) (omega arith))
+part-read-end c = omega (arith, one-more (c .before .loop .left) (from (c .before) .args .total) (omega arith))
 
 read-requires : tie.Need-read-requires Inv-loop μ-loop
 read-requires c κs = search needs
@@ -53,7 +58,7 @@ abbrev turn : tie.After-read Inv-loop μ-loop → tie.At-loop Inv-loop μ-loop
 turn c = c .before .before .before
 
 abbrev start : tie.After-read Inv-loop μ-loop → tie.Start Inv-loop μ-loop
-start c = turn c .before .before .before .before
+start c = from (turn c)
 
 -- the part that is read is the next packet
 heard : (c : tie.After-read Inv-loop μ-loop)
@@ -69,7 +74,8 @@ returns-2 c =
     let read = c .before .before in
     let l = turn read .loop in
     let a = start read .args in
-    run-refused (l .left) (a .total) (l .sample) (l .at) (l .r) (a .packets .now) (read .read .result) (omega arith) (heard read) (c .if2 .taken) (l .inv .1)
+    run-refused (l .left) (a .total) (l .sample) (l .at) (l .r) (a .packets .now) (read .read .result) (omega arith)
+    (heard read) (c .if2 .taken) (l .inv .1)
 
 sub-left : tie.Need-sub-left Inv-loop μ-loop
 sub-left c = search needs
@@ -84,13 +90,14 @@ loop-again c =
     let a = start read .args in
     let some : 0 < l .left = omega arith in (
       omega (arith, one-more (l .left) (a .total) some),
-      run-heard (l .left) (a .total) (l .sample) (l .at) (l .r) (a .packets .now) (read .read .result) some (heard read) (c .before .if2 .left) (l .inv .1),
+      run-heard (l .left) (a .total) (l .sample) (l .at) (l .r) (a .packets .now) (read .read .result) some
+          (heard read) (c .before .if2 .left) (l .inv .1),
     )
 
 returns-3 : tie.Need-returns-3 Inv-loop μ-loop
 returns-3 c =
     let l = c .before .loop in
-    let a = c .before .before .before .before .before .args in
+    let a = from (c .before) .args in
     run-over (l .left) (a .total) (l .sample) (l .r) (drop (l .at) (a .packets .now)) (omega arith) (l .inv .1)
 
 pub skvornela-read-run-spec : {M : Type 1} → statement M

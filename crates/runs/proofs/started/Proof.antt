@@ -3,14 +3,11 @@ use borrow.Author.Needs.{needs}
 use Rattle.runs.proofs.started.Statement.{statement}
 use Rattle.runs.proofs.started.Tie as tie
 
-slice-aggregate-fresh : tie.Need-slice-aggregate-fresh
-slice-aggregate-fresh c = search needs
-
-fresh-requires : tie.Need-fresh-requires
-fresh-requires c κs = search needs
+session-box-requires : tie.Need-session-box-requires
+session-box-requires c κs = search needs
 
 returns : tie.Need-returns
-returns c = rw (c .before .before .before .fresh .ensures)
+returns c = rw (c .before .before .session-box .ensures)
 
 pub started-spec : {M : Type 1} → statement M
-started-spec = tie.close (tie.spec slice-aggregate-fresh fresh-requires returns)
+started-spec = tie.close (tie.spec session-box-requires returns)

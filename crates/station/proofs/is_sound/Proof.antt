@@ -18,7 +18,9 @@ could-be-left-requires c κs = search needs
 
 returns-2 : tie.Need-returns-2
 unfolding valid
-returns-2 c = rw (c .could-be-left .ensures, ← c .before .before .in-range .ensures, not-false (c .before .before .in-range .result) (c .before .if1 .left))
+returns-2 c =
+    let ranged = c .before .before .in-range in
+    rw (c .could-be-left .ensures, ← ranged .ensures, not-false (ranged .result) (c .before .if1 .left))
 
 pub is-sound-spec : {M : Type 1} → statement M
 is-sound-spec = tie.close (tie.spec in-range-requires returns could-be-left-requires returns-2)

@@ -32,7 +32,8 @@ enum-told c = search needs
 returns-2 : tie.Need-returns-2
 returns-2 c =
     let asked = c .before .before .before in
-    word-told _ (whole (asked .before .before)) (c .before .w .given .0 .0) (ap tuning.told (sym (c .before .w .given .1)) ∙ asked .word-of .ensures)
+    let w = c .before .w .given in
+    word-told _ (whole (asked .before .before)) (w .0 .0) (ap tuning.told (sym (w .1)) ∙ asked .word-of .ensures)
 
 returns-3 : tie.Need-returns-3
 returns-3 c =

@@ -3,7 +3,7 @@ use native.Mathlib.Omega.{arith}
 use borrow.Author.Needs.{needs}
 use Prim.Native.Nat.{ℕ, _-_}
 use mathlib.Core.Path.{_≡_, refl, ap, _∙_}
-use mathlib.Core.List.{List}
+use mathlib.Core.List.{List, []}
 use borrow.Rule.Slice.PartMut.{putMid}
 use lib.Seq.{sets}
 use Rattle.wire.proofs.Stores.{part-sets, rest-part, rest-long}
@@ -12,6 +12,7 @@ use Rattle.station.specs.declared.Station.{Station}
 use lib.ListN.{length, drop, length-drop}
 use Rattle.station.specs.Feeding.{Feeding, feedingOf}
 use Rattle.station.proofs.Calls.{Within, feeding-within}
+use Rattle.talks.specs.Serving.{served, serveRun}
 use Rattle.talks.proofs.Serves.{Going, none-left, none-more, no-room, begins, ends, turns}
 use Rattle.talks.proofs.skvornela_serve.Statement.{statement}
 use Rattle.talks.proofs.skvornela_serve.Tie as tie
@@ -22,23 +23,37 @@ Inv-loop host replies₀ s₀ i₀ at₀ calls₀ replies s i at calls = Going h
 abbrev μ-loop : tie.MeasureT-loop
 μ-loop host replies₀ s₀ i₀ at₀ calls₀ replies s i at calls = calls
 
-slice-aggregate-fresh : tie.Need-slice-aggregate-fresh Inv-loop μ-loop
-slice-aggregate-fresh c = search needs
+-- the call's arguments, from the loop
+abbrev from : tie.At-loop Inv-loop μ-loop → tie.Start Inv-loop μ-loop
+from l = l .before .before .before .before
 
-fresh-requires : tie.Need-fresh-requires Inv-loop μ-loop
-fresh-requires c κs = search needs
+-- the host's bytes that are left at a turn of the loop
+abbrev left : tie.At-loop Inv-loop μ-loop → List ℕ
+left l = drop (l .loop .i) (from l .args .host .now)
+
+-- where nothing more is served the call ends
+done : (l : tie.At-loop Inv-loop μ-loop)
+    → let g = l .loop in
+    let whole = from l .args .replies .now in
+    served (g .calls) (length (g .replies) - g .at) (g .s) (left l) ≡ []
+    → (g .at ≡ length (serveRun (from l .args .host .now) (length whole)))
+    × (g .replies ≡ sets whole 0 (serveRun (from l .args .host .now) (length whole)))
+done l = let g = l .loop in ends _ _ (g .replies) (g .s) (g .i) (g .at) (g .calls) (g .inv)
+
+session-box-requires : tie.Need-session-box-requires Inv-loop μ-loop
+session-box-requires c κs = search needs
 
 loop-holds : tie.Need-loop-holds Inv-loop μ-loop
-loop-holds c = begins _ _ (c .before .fresh .result) (c .before .fresh .ensures)
+loop-holds c = begins _ _ (c .session-box .result) (c .session-box .ensures)
 
 same-length : tie.Need-same-length Inv-loop μ-loop
 same-length c = c .before .before .loop .inv .long
 
 returns : tie.Need-returns Inv-loop μ-loop
 returns c =
-    let l = c .before .before .loop in
-    let host = c .before .before .before .before .before .before .before .before .args .host .now in
-    ends _ _ (l .replies) (l .s) (l .i) (l .at) (l .calls) (l .inv) (none-more (l .calls) _ (l .s) (drop (l .i) host) (omega (arith, length-drop (l .i) host)))
+    let l = c .before .before in
+    let g = l .loop in
+    done l (none-more (g .calls) _ (g .s) (left l) (omega (arith, length-drop (g .i) (from l .args .host .now))))
 
 sub-if2 : tie.Need-sub-if2 Inv-loop μ-loop
 sub-if2 c = search needs
@@ -48,9 +63,8 @@ same-length-2 c = c .before .before .before .loop .inv .long
 
 returns-2 : tie.Need-returns-2 Inv-loop μ-loop
 returns-2 c =
-    let l = c .before .before .before .loop in
-    let host = c .before .before .before .before .before .before .before .before .before .args .host .now in
-    ends _ _ (l .replies) (l .s) (l .i) (l .at) (l .calls) (l .inv) (no-room (l .calls) _ (l .s) (drop (l .i) host) (c .if2 .taken))
+    let l = c .before .before .before in
+    done l (no-room (l .loop .calls) _ (l .loop .s) (left l) (c .if2 .taken))
 
 sub-feed : tie.Need-sub-feed Inv-loop μ-loop
 sub-feed c = search needs
@@ -78,7 +92,7 @@ abbrev turn : tie.After-feed Inv-loop μ-loop → tie.At-loop Inv-loop μ-loop
 turn c = c .before .before .before .before .before .before
 
 abbrev start : tie.After-feed Inv-loop μ-loop → tie.Start Inv-loop μ-loop
-start c = turn c .before .before .before .before .before .before
+start c = from (turn c)
 
 abbrev host : tie.After-feed Inv-loop μ-loop → List ℕ
 host c = start c .args .host .now
@@ -111,9 +125,11 @@ going c = turn c .loop .inv
 fed : (c : tie.After-feed Inv-loop μ-loop) → c .feed .result ≡ calling c .fed
 fed c = rw (rest-part (eaten c) (host c), rest-long (place c) (replies c)) at (c .feed .ensures .0)
 
-stored : (c : tie.After-feed Inv-loop μ-loop) → putMid (place c) (room c) (replies c) (c .feed .last .1 .1 .0) ≡ sets (replies c) (place c) (calling c .bytes)
+stored : (c : tie.After-feed Inv-loop μ-loop)
+    → putMid (place c) (room c) (replies c) (c .feed .last .1 .1 .0) ≡ sets (replies c) (place c) (calling c .bytes)
 stored c =
-    ap (λ (v : List ℕ). putMid (place c) (room c) (replies c) v) (rw (rest-part (eaten c) (host c), rest-long (place c) (replies c)) at (c .feed .ensures .1))
+    ap (λ (v : List ℕ). putMid (place c) (room c) (replies c) v)
+    (rw (rest-part (eaten c) (host c), rest-long (place c) (replies c)) at (c .feed .ensures .1))
     ∙ part-sets (place c) (room c) (replies c) (calling c .bytes) (omega (arith, going c .room))
 
 bound : (c : tie.After-feed Inv-loop μ-loop) → Within (rest c) (room c) (calling c)
@@ -138,17 +154,16 @@ loop-less c = search needs
 loop-again : tie.Need-loop-again Inv-loop μ-loop
 loop-again c =
     let f = c .before .before .before .before .before in
-    turns (host f) _ (replies f) _ (box f) (eaten f) (place f) _ (calling f) refl (going f) (omega arith) (omega arith) (f .before .before .before .if2 .left) (stored f)
-    (f .feed .result) (fed f)
+    turns (host f) _ (replies f) _ (box f) (eaten f) (place f) _ (calling f) refl (going f) (omega arith) (omega arith)
+    (f .before .before .before .if2 .left) (stored f) (f .feed .result) (fed f)
 
 same-length-3 : tie.Need-same-length-3 Inv-loop μ-loop
 same-length-3 c = c .before .loop .inv .long
 
 returns-3 : tie.Need-returns-3 Inv-loop μ-loop
 returns-3 c =
-    let l = c .before .loop in
-    let host = c .before .before .before .before .before .before .before .args .host .now in
-    ends _ _ (l .replies) (l .s) (l .i) (l .at) (l .calls) (l .inv) (none-left (l .calls) _ (l .s) (drop (l .i) host) (omega arith))
+    let l = c .before in
+    done l (none-left (l .loop .calls) _ (l .loop .s) (left l) (omega arith))
 
 pub skvornela-serve-spec : {M : Type 1} → statement M
 skvornela-serve-spec =
@@ -156,8 +171,7 @@ skvornela-serve-spec =
     (tie.spec
     Inv-loop
     μ-loop
-    slice-aggregate-fresh
-    fresh-requires
+    session-box-requires
     loop-holds
     same-length
     returns

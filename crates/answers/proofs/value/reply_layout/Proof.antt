@@ -1,8 +1,13 @@
 -- Each arm lays out its row's value.
-use mathlib.Core.Path.{refl, sym, ap, _∙_}
+use mathlib.Core.Path.{_≡_, refl, sym, ap, _∙_}
+use Prim.Native.Nat.{ℕ}
+use mathlib.Core.List.{List, [], _∷_}
 use Rattle.wire.specs.Number.{bytes}
+use Rattle.wire.specs.Header.{typeReply}
 use Rattle.layouts.specs.Layouts.{laid}
-use Rattle.items.specs.Items.{rowOf}
+use Rattle.items.specs.Items.{echoes, rowOf}
+use Rattle.items.specs.Answer.{framed, replyBody}
+use Rattle.answers.specs.Inside.{plainly, echoing}
 use Rattle.answers.proofs.Shown.{shows-plainly, shows-echoing, status-bytes, no-row}
 use borrow.Author.Needs.{needs}
 use Rattle.answers.proofs.value.reply_layout.Statement.{statement}
@@ -71,26 +76,44 @@ plain-requires-6 c κs = search needs
 plain-requires-7 : tie.Need-plain-requires-7
 plain-requires-7 c κs = search needs
 
+-- the item's value in so many bytes is the reply, without the byte that is echoed or with it
+module _ (a : tie.Start) (width value : ℕ)
+    (shown : rowOf (a .args .item) .rule .value (a .args .s) (a .args .echo ∷ []) ≡ bytes width value) where
+  abbrev item : ℕ
+  item = a .args .item
+
+  abbrev reply : List ℕ
+  reply = framed typeReply (replyBody (rowOf item) (a .args .s) (a .args .echo ∷ []))
+
+  plain-at : echoes (rowOf item .echoed) ≡ 0 → laid (plainly item width value) ≡ reply
+  plain-at = shows-plainly (rowOf item) item width value (a .args .s) (a .args .echo) (a .pre) shown
+
+  echo-at : echoes (rowOf item .echoed) ≡ 1 → laid (echoing item (a .args .echo) width value) ≡ reply
+  echo-at = shows-echoing (rowOf item) item width value (a .args .s) (a .args .echo) (a .pre) shown
+
 returns : tie.Need-returns
 unfolding rowOf
 returns c =
     let a = c .before .before in
+    let key = c .before .match .keys1 in
     ap laid (c .plain .ensures)
-    ∙ shows-plainly (rowOf (a .args .item)) (a .args .item) 7 0x00_52_44_53_74_65_4E (a .args .s) (a .args .echo) (a .pre) (rw (c .before .match .keys1) refl) (rw (c .before .match .keys1) refl)
+    ∙ plain-at a 7 0x00_52_44_53_74_65_4E (rw key refl) (rw key refl)
 
 returns-2 : tie.Need-returns-2
 unfolding rowOf
 returns-2 c =
     let a = c .before .before .before .before .before in
+    let key = c .before .before .before .before .match .keys2 in
     ap laid (c .plain2 .ensures)
-    ∙ shows-plainly (rowOf (a .args .item)) (a .args .item) 9 (c .before .serial-value .result) (a .args .s) (a .args .echo) (a .pre) (rw (c .before .before .before .before .match .keys2) (sym (c .before .serial-value .ensures))) (rw (c .before .before .before .before .match .keys2) refl)
+    ∙ plain-at a 9 (c .before .serial-value .result) (rw key (sym (c .before .serial-value .ensures))) (rw key refl)
 
 returns-3 : tie.Need-returns-3
 unfolding rowOf
 returns-3 c =
     let a = c .before .before in
+    let key = c .before .match .keys3 in
     ap laid (c .plain3 .ensures)
-    ∙ shows-plainly (rowOf (a .args .item)) (a .args .item) 2 105 (a .args .s) (a .args .echo) (a .pre) (rw (c .before .match .keys3) refl) (rw (c .before .match .keys3) refl)
+    ∙ plain-at a 2 105 (rw key refl) (rw key refl)
 
 returns-4 : tie.Need-returns-4
 unfolding rowOf
@@ -100,58 +123,72 @@ returns-5 : tie.Need-returns-5
 unfolding rowOf
 returns-5 c =
     let a = c .before .before .before in
+    let key = c .before .before .match .keys5 in
     ap laid (c .plain4 .ensures)
-    ∙ shows-plainly (rowOf (a .args .item)) (a .args .item) 1 (c .before .status-value .result) (a .args .s) (a .args .echo) (a .pre) (rw ((c .before .before .match .keys5), c .before .status-value .ensures) (status-bytes (a .args .s .running))) (rw (c .before .before .match .keys5) refl)
+    ∙ plain-at a 1 (c .before .status-value .result) (rw (key, c .before .status-value .ensures) (status-bytes (a .args .s .running)))
+    (rw key refl)
 
 returns-6 : tie.Need-returns-6
 unfolding rowOf
 returns-6 c =
     let a = c .before .before .before in
+    let key = c .before .before .match .keys6 in
     ap laid (c .plain5 .ensures)
-    ∙ shows-plainly (rowOf (a .args .item)) (a .args .item) 4 (c .before .state-value .result) (a .args .s) (a .args .echo) (a .pre) (rw (c .before .before .match .keys6) (sym (c .before .state-value .ensures))) (rw (c .before .before .match .keys6) refl)
+    ∙ plain-at a 4 (c .before .state-value .result) (rw key (sym (c .before .state-value .ensures))) (rw key refl)
 
 returns-7 : tie.Need-returns-7
 unfolding rowOf
 returns-7 c =
     let a = c .before .before in
+    let key = c .before .match .keys7 in
     ap laid (c .with-echo .ensures)
-    ∙ shows-echoing (rowOf (a .args .item)) (a .args .item) 5 (a .args .s .frequency) (a .args .s) (a .args .echo) (a .pre) (rw (c .before .match .keys7) refl) (rw (c .before .match .keys7) refl)
+    ∙ echo-at a 5 (a .args .s .frequency) (rw key refl) (rw key refl)
 
 returns-8 : tie.Need-returns-8
 unfolding rowOf
 returns-8 c =
     let a = c .before .before .before in
+    let key = c .before .before .match .keys8 in
     ap laid (c .with-echo2 .ensures)
-    ∙ shows-echoing (rowOf (a .args .item)) (a .args .item) 1 (a .args .s .gain) (a .args .s) (a .args .echo) (a .pre) (rw (c .before .before .match .keys8) refl) (rw (c .before .before .match .keys8) refl)
+    ∙ echo-at a 1 (a .args .s .gain) (rw key refl) (rw key refl)
 
 returns-9 : tie.Need-returns-9
 unfolding rowOf
 returns-9 c =
     let a = c .before .before .before in
+    let key = c .before .before .match .keys9 in
     ap laid (c .with-echo3 .ensures)
-    ∙ shows-echoing (rowOf (a .args .item)) (a .args .item) 4 (a .args .s .clock) (a .args .s) (a .args .echo) (a .pre) (rw (c .before .before .match .keys9) refl) (rw (c .before .before .match .keys9) refl)
+    ∙ echo-at a 4 (a .args .s .clock) (rw key refl) (rw key refl)
 
 returns-10 : tie.Need-returns-10
 unfolding rowOf
 returns-10 c =
     let a = c .before .before .before in
+    let key = c .before .before .match .keys10 in
     ap laid (c .with-echo4 .ensures)
-    ∙ shows-echoing (rowOf (a .args .item)) (a .args .item) 4 (c .before .achieved .result) (a .args .s) (a .args .echo) (a .pre) (rw (c .before .before .match .keys10) (ap (bytes 4) (sym (c .before .achieved .ensures)))) (rw (c .before .before .match .keys10) refl)
+    ∙ echo-at a 4 (c .before .achieved .result) (rw key (ap (bytes 4) (sym (c .before .achieved .ensures)))) (rw key refl)
 
 returns-11 : tie.Need-returns-11
 unfolding rowOf
 returns-11 c =
     let a = c .before .before .before in
+    let key = c .before .before .match .keys11 in
     ap laid (c .plain6 .ensures)
-    ∙ shows-plainly (rowOf (a .args .item)) (a .args .item) 1 (a .args .s .size) (a .args .s) (a .args .echo) (a .pre) (rw (c .before .before .match .keys11) refl) (rw (c .before .before .match .keys11) refl)
+    ∙ plain-at a 1 (a .args .s .size) (rw key refl) (rw key refl)
 
 returns-12 : tie.Need-returns-12
 returns-12 c =
     let a = c .before .before in
     let r = c .before .match .rest in
-    let none = no-row (a .args .item) (r .0 .0 .0 .0 .0 .0 .0 .0 .0 .0 .1) (r .0 .0 .0 .0 .0 .0 .0 .0 .0 .1) (r .0 .0 .0 .0 .0 .0 .0 .0 .1) (r .0 .0 .0 .0 .0 .0 .0 .1) (r .0 .0 .0 .0 .0 .0 .1) (r .0 .0 .0 .0 .0 .1) (r .0 .0 .0 .0 .1) (r .0 .0 .0 .1) (r .0 .0 .1) (r .0 .1) (r .1) in
+    -- the codes before the last two, the last five, the last eight
+    let r9 = r .0 .0 in
+    let r6 = r9 .0 .0 .0 in
+    let r3 = r6 .0 .0 .0 in
+    let none =
+    no-row (a .args .item) (r3 .0 .0 .1) (r3 .0 .1) (r3 .1) (r6 .0 .0 .1) (r6 .0 .1) (r6 .1) (r9 .0 .0 .1) (r9 .0 .1) (r9 .1)
+    (r .0 .1) (r .1) in
     ap laid (c .plain7 .ensures)
-    ∙ shows-plainly (rowOf (a .args .item)) (a .args .item) 0 0 (a .args .s) (a .args .echo) (a .pre) (rw none refl) (rw none refl)
+    ∙ plain-at a 0 0 (rw none refl) (rw none refl)
 
 pub reply-layout-spec : {M : Type 1} → statement M
 reply-layout-spec =

@@ -11,7 +11,8 @@ number-at-requires c κs = search needs
 returns : tie.Need-returns
 returns c =
     let s = c .before .before in
-    serial-bytes (now (s .args .serial)) (s .pre) (λ k. c .before .shared-slice-known .given k .fits) (c .number-at .result) (c .number-at .ensures)
+    serial-bytes (now (s .args .serial)) (s .pre) (λ k. c .before .shared-slice-known .given k .fits)
+    (c .number-at .result) (c .number-at .ensures)
 
 pub serial-value-spec : {M : Type 1} → statement M
 serial-value-spec = tie.close (tie.spec number-at-requires returns)

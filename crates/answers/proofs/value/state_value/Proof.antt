@@ -11,7 +11,8 @@ state-number-requires c κs = search needs
 returns : tie.Need-returns
 returns c =
     let s = c .before .before in
-    rw (c .before .if1 .taken) (state-bytes 2 (s .args .mode) (c .state-number .result) (lit< tt) (s .fits .mode .fits) (c .state-number .ensures))
+    rw (c .before .if1 .taken)
+    (state-bytes 2 (s .args .mode) (c .state-number .result) (lit< tt) (s .fits .mode .fits) (c .state-number .ensures))
 
 state-number-requires-2 : tie.Need-state-number-requires-2
 state-number-requires-2 c κs = search needs
@@ -19,7 +20,8 @@ state-number-requires-2 c κs = search needs
 returns-2 : tie.Need-returns-2
 returns-2 c =
     let s = c .before .before in
-    rw (c .before .if1 .left) (state-bytes 1 (s .args .mode) (c .state-number2 .result) (lit< tt) (s .fits .mode .fits) (c .state-number2 .ensures))
+    rw (c .before .if1 .left)
+    (state-bytes 1 (s .args .mode) (c .state-number2 .result) (lit< tt) (s .fits .mode .fits) (c .state-number2 .ensures))
 
 pub state-value-spec : {M : Type 1} → statement M
 state-value-spec =

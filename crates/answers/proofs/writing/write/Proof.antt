@@ -20,8 +20,9 @@ same-length c = search needs
 
 returns : tie.Need-returns
 returns c =
-    let a = c .before .before .before .before .before .before .args in
-    let is : nak ≡ due (a .code) (a .kind) (a .item) (a .echo) (a .s) = rw (ne-eqb (a .code) 1 (c .before .before .before .before .if1 .taken)) refl in
+    let refused = c .before .before .before .before in
+    let a = refused .before .before .args in
+    let is : nak ≡ due (a .code) (a .kind) (a .item) (a .echo) (a .s) = rw (ne-eqb (a .code) 1 (refused .if1 .taken)) refl in
     wrote-as (now (a .reply)) is (c .before .before .put-nak .ensures)
 
 put-range-reply-requires : tie.Need-put-range-reply-requires
@@ -32,10 +33,12 @@ same-length-2 c = search needs
 
 returns-2 : tie.Need-returns-2
 returns-2 c =
-    let start = c .before .before .before .before .before .before .before in
+    let ranged = c .before .before .before .before in
+    let obeyed = ranged .before in
+    let start = obeyed .before .before in
     let a = start .args in
-    let one = c .before .before .before .before .before .if1 .left in
-    let range = c .before .before .before .before .if2 .taken in
+    let one = obeyed .if1 .left in
+    let range = ranged .if2 .taken in
     let is : framed typeRangeReply (rangeBody frequency (a .echo ∷ [])) ≡ due (a .code) (a .kind) (a .item) (a .echo) (a .s)
     = rw (one, range, start .pre one .1 range) refl in
     wrote-as (now (a .reply)) is (c .before .before .put-range-reply .ensures)
@@ -51,11 +54,16 @@ same-length-3 c = search needs
 
 returns-3 : tie.Need-returns-3
 returns-3 c =
-    let a = c .before .before .before .before .before .before .before .before .args in
-    let is : framed typeReply (replyBody (rowOf (a .item)) (a .s) (a .echo ∷ [])) ≡ due (a .code) (a .kind) (a .item) (a .echo) (a .s)
-    = rw (c .before .before .before .before .before .before .if1 .left, ne-eqb (a .kind) 2 (c .before .before .before .before .before .if2 .left)) refl in
-    message-put (now (a .reply)) (due (a .code) (a .kind) (a .item) (a .echo) (a .s)) (c .before .before .before .reply-layout .result) (c .before .before .put-message .result)
-    (c .before .before .put-message .last .0) (c .before .before .before .reply-layout .ensures ∙ is) (c .before .before .put-message .ensures)
+    let put = c .before .before in
+    let laid-out = put .before in
+    let plain = laid-out .before .before in
+    let obeyed = plain .before in
+    let a = obeyed .before .before .args in
+    let owed = due (a .code) (a .kind) (a .item) (a .echo) (a .s) in
+    let is : framed typeReply (replyBody (rowOf (a .item)) (a .s) (a .echo ∷ [])) ≡ owed =
+    rw (obeyed .if1 .left, ne-eqb (a .kind) 2 (plain .if2 .left)) refl in
+    message-put (now (a .reply)) owed (laid-out .reply-layout .result) (put .put-message .result)
+    (put .put-message .last .0) (laid-out .reply-layout .ensures ∙ is) (put .put-message .ensures)
 
 pub write-spec : {M : Type 1} → statement M
 write-spec =

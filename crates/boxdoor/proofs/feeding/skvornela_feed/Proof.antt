@@ -92,8 +92,10 @@ returns-2 c =
 
 returns-3 : tie.Need-returns-3
 returns-3 c =
-    let a = c .before .before .before .before .args in
-    (feed-broken (now (a .state)) (now (a .host)) _ (c .if1 .left), replied-broken (now (a .state)) (now (a .host)) (now (a .reply)) _ (c .if1 .left))
+    let a = c .before .before .before .before .args in (
+      feed-broken (now (a .state)) (now (a .host)) _ (c .if1 .left),
+      replied-broken (now (a .state)) (now (a .host)) (now (a .reply)) _ (c .if1 .left),
+    )
 
 pub skvornela-feed-spec : {M : Type 1} → statement M
 skvornela-feed-spec =

@@ -73,7 +73,13 @@ returns c =
     let frequency = count .before in
     let serial = frequency .before .before in
     let start = serial .before .before .before .before in
-    rw (frequency .number-at .ensures, count .number-at2 .ensures, clock .number-at3 .ensures, divisor .number-at4 .ensures, filled 28 8 (now (start .args .b)) _ refl (omega (arith, start .pre)) (serial .copy .ensures)) refl
+    rw (
+      frequency .number-at .ensures,
+      count .number-at2 .ensures,
+      clock .number-at3 .ensures,
+      divisor .number-at4 .ensures,
+      filled 28 8 (now (start .args .b)) _ refl (omega (arith, start .pre)) (serial .copy .ensures),
+    ) refl
 
 pub settings-of-spec : {M : Type 1} → statement M
 settings-of-spec =

@@ -35,7 +35,8 @@ returns c =
     let copied = c .before .before .before in
     let start = copied .before .before .before .before in
     let b = now (start .args .b) in
-    rw (c .settings-of .ensures, c .before .taken-of .ensures, filled 36 64 b _ refl (omega (arith, start .pre)) (copied .copy .ensures)) refl
+    let held = filled 36 64 b _ refl (omega (arith, start .pre)) (copied .copy .ensures) in
+    rw (c .settings-of .ensures, c .before .taken-of .ensures, held) refl
 
 pub station-in-spec : {M : Type 1} → statement M
 station-in-spec =

@@ -31,7 +31,8 @@ module _ (l : List ℕ) (channel : ℕ) where
       (rw s refl, rw s refl)
 
   put-whole : (l₁ l₂ l₃ : List ℕ) (header : ℕ) → 36 ≤ length l → header ≡ headerOf typeRangeReply 36
-      → l₁ ≡ sets l 0 (bytes 2 header) → l₂ ≡ sets l₁ 2 (bytes 2 0x0020) → l₃ ≡ sets (set (set l₂ 4 channel) 5 0x02) 6 (rangeBytes bands) → Put 36 l₃
+      → l₁ ≡ sets l 0 (bytes 2 header) → l₂ ≡ sets l₁ 2 (bytes 2 0x0020)
+      → l₃ ≡ sets (set (set l₂ 4 channel) 5 0x02) 6 (rangeBytes bands) → Put 36 l₃
   put-whole l₁ l₂ l₃ header h head first second third =
       let s = le-ltb (length l) 36 h in
       (rw s refl, rw s (third ∙ rw (second, first, head) refl))
@@ -75,12 +76,14 @@ same-length c =
 
 returns-2 : tie.Need-returns-2
 returns-2 c =
-    let item = c .before .before .before .before .before .before in
+    let range = c .before .before in
+    let item = range .before .before .before .before in
     let first = item .before .before .before .before in
     let head = first .before .before in
     let s = head .before .before .before in
-    put-whole (now (s .args .dst)) (s .args .channel) (first .put .last .0) (item .put2 .last .0) (c .before .before .put-range .last .0) (head .header-of .result)
-    (head .before .if1 .left) (head .header-of .ensures) (first .put .ensures) (item .put2 .ensures) (c .before .before .put-range .ensures)
+    put-whole (now (s .args .dst)) (s .args .channel) (first .put .last .0) (item .put2 .last .0) (range .put-range .last .0)
+    (head .header-of .result) (head .before .if1 .left) (head .header-of .ensures) (first .put .ensures) (item .put2 .ensures)
+    (range .put-range .ensures)
 
 pub put-range-reply-spec : {M : Type 1} → statement M
 put-range-reply-spec =

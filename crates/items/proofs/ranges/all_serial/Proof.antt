@@ -35,7 +35,8 @@ loop-again : tie.Need-loop-again Inv-loop μ-loop
 loop-again c =
     let l = c .before .before .before in
     let serial = l .before .args .serial .now in
-    (search needs, serial-turn serial (l .loop .i) (l .loop .all) (c .is-serial-byte .result) (omega arith) (c .is-serial-byte .ensures) (l .loop .inv .1))
+    let b = c .is-serial-byte in
+    (search needs, serial-turn serial (l .loop .i) (l .loop .all) (b .result) (omega arith) (b .ensures) (l .loop .inv .1))
 
 returns : tie.Need-returns Inv-loop μ-loop
 returns c =

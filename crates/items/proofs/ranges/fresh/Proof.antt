@@ -47,11 +47,15 @@ all-serial-requires c κs = search needs
 started-requires-2 : tie.Need-started-requires-2
 started-requires-2 c κs = search needs
 
+-- there are eight bytes
+abbrev counted : tie.After-all-serial → tie.Else1
+counted c = c .before .before .before .before .before .before .before .before .before .before
+
 abbrev bytes : tie.After-all-serial → List ℕ
-bytes c = now (c .before .before .before .before .before .before .before .before .before .before .before .before .args .serial)
+bytes c = now (counted c .before .before .args .serial)
 
 long : (c : tie.After-all-serial) → length (bytes c) ≡ 8
-long c = c .before .before .before .before .before .before .before .before .before .before .if1 .left
+long c = counted c .if1 .left
 
 tested : (c : tie.After-all-serial) → c .all-serial .result ≡ allSerial (bytes c)
 tested c = c .all-serial .ensures ∙ ap allSerial (eight (bytes c) (long c))
@@ -59,7 +63,8 @@ tested c = c .all-serial .ensures ∙ ap allSerial (eight (bytes c) (long c))
 returns-2 : tie.Need-returns-2
 returns-2 c =
     let d = c .before .before in
-    rw (c .started2 .ensures, eq-eqb (length (bytes d)) 8 (long d), sym (tested d) ∙ not-true (d .all-serial .result) (c .before .if2 .taken)) refl
+    let bad = sym (tested d) ∙ not-true (d .all-serial .result) (c .before .if2 .taken) in
+    rw (c .started2 .ensures, eq-eqb (length (bytes d)) 8 (long d), bad) refl
 
 started-requires-3 : tie.Need-started-requires-3
 started-requires-3 c κs = search needs
@@ -67,9 +72,8 @@ started-requires-3 c κs = search needs
 returns-3 : tie.Need-returns-3
 returns-3 c =
     let d = c .before .before in
-    rw
-    (c .started3 .ensures, eq-eqb (length (bytes d)) 8 (long d), sym (tested d) ∙ not-false (d .all-serial .result) (c .before .if2 .left), eight (bytes d) (long d))
-    refl
+    let good = sym (tested d) ∙ not-false (d .all-serial .result) (c .before .if2 .left) in
+    rw (c .started3 .ensures, eq-eqb (length (bytes d)) 8 (long d), good, eight (bytes d) (long d)) refl
 
 pub fresh-spec : {M : Type 1} → statement M
 fresh-spec =

@@ -1,5 +1,5 @@
 -- The eight tests are the definition's, the serial's before the others.
-use mathlib.Core.Path.{_≡_, refl, _∙_, sym}
+use mathlib.Core.Path.{_≡_, _∙_, sym}
 use mathlib.Core.Bool.{and-true, and-false}
 use lib.ListN.{length}
 use borrow.Author.Needs.{needs}
@@ -19,8 +19,11 @@ unfolding inRange
 returns c =
     let d = c .before in
     let start = d .before .before .before in
-    simp
-    (eq-eqb (length (start .args .t1 .serial)) 8 (long start), sym (d .all-serial .ensures) ∙ not-true (d .all-serial .result) (c .if1 .taken), and-false)
+    simp (
+      eq-eqb (length (start .args .t1 .serial)) 8 (long start),
+      sym (d .all-serial .ensures) ∙ not-true (d .all-serial .result) (c .if1 .taken),
+      and-false,
+    )
 
 in-bands-requires : tie.Need-in-bands-requires
 in-bands-requires c κs = search needs
@@ -43,15 +46,20 @@ is-size-requires c κs = search needs
 returns-2 : tie.Need-returns-2
 unfolding inRange
 returns-2 c =
-    let bands = c .before .before .before .before .before in
+    -- the tests, from the last back to the first
+    let gain = c .before in
+    let mode = gain .before in
+    let divisor = mode .before in
+    let clock = divisor .before in
+    let bands = clock .before in
     let d = bands .before .before in
     let start = d .before .before .before in
     rw (
       bands .in-bands .ensures,
-      c .before .before .before .before .is-clock .ensures,
-      c .before .before .before .is-d .ensures,
-      c .before .before .is-mode .ensures,
-      c .before .is-gain .ensures,
+      clock .is-clock .ensures,
+      divisor .is-d .ensures,
+      mode .is-mode .ensures,
+      gain .is-gain .ensures,
       c .is-size .ensures,
       eq-eqb (length (start .args .t1 .serial)) 8 (long start),
       sym (d .all-serial .ensures) ∙ not-false (d .all-serial .result) (bands .before .if1 .left),

@@ -37,7 +37,8 @@ returns c = row (c .before .before .args .id) (below c)
 
 returns-2 : tie.Need-returns-2
 returns-2 c =
-    let past : 4 ≤ c .before .before .args .id = ltb-false (c .before .before .args .id) 4 (sym (c .before .is-version .ensures) ∙ c .if1 .left) in
+    let id = c .before .before .args .id in
+    let past : 4 ≤ id = ltb-false id 4 (sym (c .before .is-version .ensures) ∙ c .if1 .left) in
     sym (ap number (List·getD-eq-default versionTable [] past))
 
 pub version-of-spec : {M : Type 1} → statement M

@@ -11,8 +11,12 @@ number-at-requires c κs = search needs
 
 cast-result : tie.Need-cast-result
 cast-result c =
-    omega
-    (arith, c .number-at .ensures, field-below 2 2 (now (c .before .before .args .message)) (λ k. c .before .shared-slice-known .given k .fits))
+    let known = c .before in
+    omega (
+      arith,
+      c .number-at .ensures,
+      field-below 2 2 (now (known .before .args .message)) (λ k. known .shared-slice-known .given k .fits),
+    )
 
 returns : tie.Need-returns
 returns c = c .number-at .ensures

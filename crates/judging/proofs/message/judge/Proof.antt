@@ -1,5 +1,5 @@
 -- Header, table and item decide in turn; what the first of them refuses keeps its code and every setting.
-use Prim.Native.Nat.{ℕ, _-_}
+use Prim.Native.Nat.{ℕ}
 use mathlib.Core.Path.{_≡_, sym, ap, _∙_}
 use mathlib.Core.List.{List}
 use denote.Ref.{now}
@@ -56,7 +56,8 @@ header-passed : (c : tie.Else1) → (let a = began c .args in
     firstOf (headerChecks (a .kind) (a .size) (getD (now (a .opening)) 2 0)) 1 ≡ 1)
 header-passed c = sym (c .before .header-code .ensures) ∙ c .if1 .left
 
-table-says : (c : tie.After-listed-code) → c .listed-code .result ≡ firstOf (tableChecks (itemIn (message (asked c))) (asked c .args .kind) (asked c .args .size)) 1
+table-says : (c : tie.After-listed-code) → (let a = asked c in
+    c .listed-code .result ≡ firstOf (tableChecks (itemIn (message a)) (a .args .kind) (a .args .size)) 1)
 table-says c = rw (c .before .item-in .ensures) at (c .listed-code .ensures)
 
 table-passed : (c : tie.Else2) → (let a = asked (c .before) in

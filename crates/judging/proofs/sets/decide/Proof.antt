@@ -25,18 +25,22 @@ refused-requires-3 c κs = search needs
 
 returns-3 : tie.Need-returns-3
 returns-3 c =
-    let a = c .before .before .before .before .args in
+    let value = c .before .before in
+    let channel = value .before in
+    let a = channel .before .args in
     c .refused3 .ensures
-    ∙ rw (not-false (a .channel) (c .before .before .before .if1 .left), not-false (a .value) (c .before .before .if2 .left), c .before .if3 .taken) refl
+    ∙ rw (not-false (a .channel) (channel .if1 .left), not-false (a .value) (value .if2 .left), c .before .if3 .taken) refl
 
 accepted-requires : tie.Need-accepted-requires
 accepted-requires c κs = search needs
 
 returns-4 : tie.Need-returns-4
 returns-4 c =
-    let a = c .before .before .before .before .args in
+    let value = c .before .before in
+    let channel = value .before in
+    let a = channel .before .args in
     c .accepted .ensures
-    ∙ rw (not-false (a .channel) (c .before .before .before .if1 .left), not-false (a .value) (c .before .before .if2 .left), c .before .if3 .left) refl
+    ∙ rw (not-false (a .channel) (channel .if1 .left), not-false (a .value) (value .if2 .left), c .before .if3 .left) refl
 
 pub decide-spec : {M : Type 1} → statement M
 decide-spec =

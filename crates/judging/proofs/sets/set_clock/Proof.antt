@@ -14,7 +14,9 @@ number-at-requires : tie.Need-number-at-requires
 number-at-requires c κs = search needs
 
 cast-hz : tie.Need-cast-hz
-cast-hz c = omega (arith, c .number-at .ensures, field-below 1 4 (now (c .before .before .args .p)) (λ k. c .before .shared-slice-known .given k .fits))
+cast-hz c =
+    let known = c .before in
+    omega (arith, c .number-at .ensures, field-below 1 4 (now (known .before .args .p)) (λ k. known .shared-slice-known .given k .fits))
 
 is-clock-requires : tie.Need-is-clock-requires
 is-clock-requires c κs = search needs

@@ -19,7 +19,9 @@ number-at-requires : tie.Need-number-at-requires
 number-at-requires c κs = search needs
 
 cast-asked : tie.Need-cast-asked
-cast-asked c = omega (arith, c .number-at .ensures, field-below 1 4 (now (c .before .before .args .p)) (λ k. c .before .shared-slice-known .given k .fits))
+cast-asked c =
+    let known = c .before in
+    omega (arith, c .number-at .ensures, field-below 1 4 (now (known .before .args .p)) (λ k. known .shared-slice-known .given k .fits))
 
 nearest-requires : tie.Need-nearest-requires
 nearest-requires c κs = search needs
@@ -36,7 +38,8 @@ returns c =
     let hz = c .before .before .before .number-at .ensures in
     let asked = field 1 4 (now (a .p)) in
     set-by rate (a .s) (now (a .p)) (c .decide .ensures) refl (rw hz at (c .before .may-ask .ensures)) (sym (and-true (a .s .running)))
-    (λ e. ap (λ (d : ℕ). withDivisor d (a .s)) (rw hz at (c .before .before .nearest .ensures) ∙ pick-true (mayAsk asked) (nearestOf asked) 0 e))
+    (λ e.
+    ap (λ (d : ℕ). withDivisor d (a .s)) (rw hz at (c .before .before .nearest .ensures) ∙ pick-true (mayAsk asked) (nearestOf asked) 0 e))
 
 pub set-rate-spec : {M : Type 1} → statement M
 set-rate-spec =

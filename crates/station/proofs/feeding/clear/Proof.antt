@@ -26,9 +26,10 @@ returns c =
     let k = c .before .before in
     let b = k .before .before .before .before .before in
     let s = b .before .before .before in
+    let held = now (s .args .held) in
     k .copy .ensures
-    ∙ ap (λ (t : Store). sets (now (s .args .held)) 0 (t .held)) (b .between .ensures)
-    ∙ sets-whole (now (s .args .held)) (between .held) (omega (arith, left-long (record { held = now (s .args .held); taken = s .args .taken }) (s .pre)))
+    ∙ ap (λ (t : Store). sets held 0 (t .held)) (b .between .ensures)
+    ∙ sets-whole held (between .held) (omega (arith, left-long (record { held = held; taken = s .args .taken }) (s .pre)))
 
 returns-2 : tie.Need-returns-2
 returns-2 c =

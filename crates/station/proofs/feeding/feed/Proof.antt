@@ -3,11 +3,13 @@
 use mathlib.Core.Path.{_≡_, refl}
 use mathlib.Core.List.{List}
 use Prim.Native.Nat.{ℕ}
+use denote.Ref.{now}
+use lib.ListN.{length}
 use borrow.Author.Needs.{needs}
 use Rattle.station.specs.declared.Fed.{Fed}
 use Rattle.station.specs.declared.FedHeld.{FedHeld}
 use Rattle.station.specs.Station.{boxOf}
-use Rattle.station.specs.Feeding.{partsOf}
+use Rattle.station.specs.Feeding.{feedingOf, partsOf}
 use Rattle.station.proofs.feeding.feed.Statement.{statement}
 use Rattle.station.proofs.feeding.feed.Tie as tie
 
@@ -18,6 +20,9 @@ whole f held =
 
 together : (fed : Fed) (f : FedHeld) (held : List ℕ) → f ≡ partsOf fed → held ≡ fed .station .store .held → whole f held ≡ fed
 together fed f held parts kept = rw (parts, kept) refl
+
+abbrev start : tie.After-feed-held → tie.Start
+start c = c .before .before .before .before .before .before .before .before
 
 slice-aggregate-feed-held : tie.Need-slice-aggregate-feed-held
 slice-aggregate-feed-held c = search needs
@@ -30,8 +35,13 @@ same-length c = search needs
 
 returns : tie.Need-returns
 returns c =
-    let f = c .before .before .before .before in
-    (together _ (f .feed-held .result) (f .feed-held .last .1 .0) (f .feed-held .ensures .0) (f .feed-held .ensures .1), f .feed-held .ensures .2)
+    let fed = c .before .before .before .before in
+    let f = fed .feed-held in
+    let a = start fed .args in (
+      together (feedingOf (a .s) (now (a .host)) (length (now (a .reply))) .fed) (f .result) (f .last .1 .0) (f .ensures .0)
+          (f .ensures .1),
+      f .ensures .2,
+    )
 
 pub feed-spec : {M : Type 1} → statement M
 feed-spec = tie.close (tie.spec slice-aggregate-feed-held feed-held-requires same-length returns)

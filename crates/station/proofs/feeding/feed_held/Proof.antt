@@ -2,15 +2,16 @@
 -- Assumes nothing.
 use Prim.Native.Nat.{ℕ}
 use mathlib.Core.Path.{_≡_, refl, sym, ap, _∙_}
-use mathlib.Core.Bool.{true}
+use mathlib.Core.Bool.{true, false}
 use mathlib.Core.List.{List}
 use denote.Ref.{now}
 use lib.ListN.{length}
 use borrow.Author.Tests.{not-true, not-false}
+use Rattle.framing.specs.declared.Took.{Took}
 use Rattle.station.specs.declared.Station.{Station}
 use Rattle.station.specs.declared.Fed.{Fed}
 use Rattle.station.specs.Station.{boxOf, valid}
-use Rattle.station.specs.Feeding.{feedingOf, partsOf}
+use Rattle.station.specs.Feeding.{feedingOf, waiting, partsOf}
 use Rattle.station.specs.Inside.{opened, openedMessage, answering}
 use Rattle.station.proofs.Valid.{feeding-broken, valid-store}
 use Rattle.station.proofs.Opened.{waits, answers, same-held}
@@ -41,10 +42,10 @@ lent v = let a = start v .args in boxOf (a .settings) (now (a .held)) (a .taken)
 is-valid : (t : tie.After-take-in) → valid (lent (sound t)) ≡ true
 is-valid t = sym (sound t .is-sound .ensures) ∙ not-false _ (t .before .before .if1 .left)
 
--- of a finished message
-module _ (r : tie.After-answer) where
-  abbrev t : tie.After-take-in
-  t = took r
+-- what is known once the host's bytes are taken
+module _ (t : tie.After-take-in) where
+  abbrev box : Station
+  box = lent (sound t)
 
   abbrev host : List ℕ
   host = now (start (sound t) .args .host)
@@ -52,14 +53,32 @@ module _ (r : tie.After-answer) where
   abbrev reply : List ℕ
   reply = now (start (sound t) .args .reply)
 
-  ended : t .take-in .result .finished ≡ true
-  ended = not-false _ (r .before .before .before .if2 .left)
+  abbrev result : Took
+  result = t .take-in .result
 
-  answered : answering (lent (sound t)) (opened (t .take-in .result)) (length reply) ≡ feedingOf (lent (sound t)) host (length reply)
-  answered = answers (lent (sound t)) host (length reply) (t .take-in .result) (t .take-in .last .0) (is-valid t) (t .take-in .ensures .0) (t .take-in .ensures .1) ended
+  -- the bytes held after them
+  abbrev left : List ℕ
+  left = t .take-in .last .0
 
-  kept : t .take-in .last .0 ≡ now (start (sound t) .args .held)
-  kept = same-held (lent (sound t)) host (length reply) (t .take-in .result) (t .take-in .last .0) (is-valid t) (t .take-in .ensures .0) (t .take-in .ensures .1) ended
+  open-at : result .finished ≡ false
+      → waiting (box .settings) (record {
+        store = record { held = left; taken = result .taken };
+        count =
+            result .count;
+        finished = result .finished;
+      })
+      ≡ feedingOf box host (length reply)
+  open-at = waits box host (length reply) result left (is-valid t) (t .take-in .ensures .0) (t .take-in .ensures .1)
+
+  done-at : result .finished ≡ true → answering box (opened result) (length reply) ≡ feedingOf box host (length reply)
+  done-at = answers box host (length reply) result left (is-valid t) (t .take-in .ensures .0) (t .take-in .ensures .1)
+
+  kept-at : result .finished ≡ true → left ≡ now (start (sound t) .args .held)
+  kept-at = same-held box host (length reply) result left (is-valid t) (t .take-in .ensures .0) (t .take-in .ensures .1)
+
+-- and once a finished message is answered
+ended : (r : tie.After-answer) → result (took r) .finished ≡ true
+ended r = not-false _ (r .before .before .before .if2 .left)
 
 is-sound-requires : tie.Need-is-sound-requires
 is-sound-requires c κs = search needs
@@ -74,8 +93,8 @@ returns : tie.Need-returns
 returns c =
     let v = c .before .before in
     let a = start v .args in
-    rw (c .refused .ensures, feeding-broken (lent v) (now (a .host)) (length (now (a .reply))) (sym (v .is-sound .ensures) ∙ not-true _ (c .before .if1 .taken)))
-    (refl, refl, refl)
+    let broken = sym (v .is-sound .ensures) ∙ not-true _ (c .before .if1 .taken) in
+    rw (c .refused .ensures, feeding-broken (lent v) (now (a .host)) (length (now (a .reply))) broken) (refl, refl, refl)
 
 take-in-requires : tie.Need-take-in-requires
 take-in-requires c κs = search needs
@@ -86,9 +105,7 @@ same-length-2 c = search needs
 returns-2 : tie.Need-returns-2
 returns-2 c =
     let t = c .before .before .before .before in
-    let a = start (sound t) .args in
-    rw (← waits (lent (sound t)) (now (a .host)) (length (now (a .reply))) (t .take-in .result) (t .take-in .last .0) (is-valid t) (t .take-in .ensures .0) (t .take-in .ensures .1) (not-true _ (c .if2 .taken)))
-    (refl, refl, refl)
+    rw (← open-at t (not-true _ (c .if2 .taken))) (refl, refl, refl)
 
 answer-requires : tie.Need-answer-requires
 answer-requires c κs = search needs
@@ -105,14 +122,17 @@ same-length-4 c = search needs
 returns-3 : tie.Need-returns-3
 returns-3 c =
     let r = c .before .before .before .before .before in
-    let short = out-short (lent (sound (took r))) (opened (took r .take-in .result)) (reply r) _ (r .answer .result) (openedMessage (took r .take-in .result .opening)) refl (r .answer .ensures .0) (r .answer .ensures .1) (c .before .if3 .taken) in
-    rw (c .refused2 .ensures, ← answered r) (ap partsOf (short .0), kept r ∙ ap heldOf (short .0), short .1)
+    let t = took r in
+    let short =
+    out-short (box t) (opened (result t)) (reply t) _ (r .answer .result) (openedMessage (result t .opening)) refl
+    (r .answer .ensures .0) (r .answer .ensures .1) (c .before .if3 .taken) in
+    rw (c .refused2 .ensures, ← done-at t (ended r)) (ap partsOf (short .0), kept-at t (ended r) ∙ ap heldOf (short .0), short .1)
 
 clear-requires : tie.Need-clear-requires
 clear-requires c κs =
     let r = c .before .before .before .before .before in
-    let v = sound (took r) in
-    rw (kept r) (valid-store (lent v .settings) (lent v .store) (is-valid (took r)))
+    let t = took r in
+    rw (kept-at t (ended r)) (valid-store (box t .settings) (box t .store) (is-valid t))
 
 same-length-5 : tie.Need-same-length-5
 same-length-5 c = search needs
@@ -125,8 +145,11 @@ returns-4 c =
     let k = c .before .before .before in
     let e = k .before .before in
     let r = e .before .before .before .before in
-    let whole = out-whole (lent (sound (took r))) (opened (took r .take-in .result)) (reply r) _ (r .answer .result) (openedMessage (took r .take-in .result .opening)) refl (r .answer .ensures .0) (r .answer .ensures .1) (e .if3 .left) in
-    rw (← answered r) (ap partsOf (whole .0), k .clear .ensures ∙ ap heldOf (whole .0), whole .1)
+    let t = took r in
+    let whole =
+    out-whole (box t) (opened (result t)) (reply t) _ (r .answer .result) (openedMessage (result t .opening)) refl
+    (r .answer .ensures .0) (r .answer .ensures .1) (e .if3 .left) in
+    rw (← done-at t (ended r)) (ap partsOf (whole .0), k .clear .ensures ∙ ap heldOf (whole .0), whole .1)
 
 pub feed-held-spec : {M : Type 1} → statement M
 feed-held-spec =
