@@ -12,7 +12,7 @@ ghost use Rattle.wire.specs.Choice.{pick};
 ghost use lib.Seq.{sets};
 ghost use Rattle.replies.specs.Reading.{told as toldBy, toldOf as readAs};
 ghost use Rattle.wishes.specs.Writing.{told, toldOf, bytesWritten};
-ghost use Rattle.harvestdoor.specs.Asking.{wishOf, shown as shownOf, saidOf, refusedBy};
+ghost use Rattle.harvestdoor.specs.Asking.{wishOf, shown as shownOf, asShown, saidOf, refusedBy};
 
 // The wish of a number, with the fields of every case; a wish that no box grants where the number names none.
 fn wish_of(which: u8, byte: u8, mode: u8, gain: i8, word: u32, hertz: u64) -> Wish
@@ -104,7 +104,7 @@ struct Shown {
 // A reply of up to two values.
 fn saying(item: u16, count: usize, first: u64, second: u64) -> Shown
     ensures { λ r.
-        ⌜ record { code = r .code; item = r .item; count = r .count; first = r .first; second = r .second; gain = r .gain }
+        ⌜ asShown (r .code) (r .item) (r .count) (r .first) (r .second) (r .gain)
         ≡ saidOf item count first second ⌝ }
 {
     Shown {
@@ -119,7 +119,7 @@ fn saying(item: u16, count: usize, first: u64, second: u64) -> Shown
 
 fn refusing(code: u8) -> Shown
     ensures { λ r.
-        ⌜ record { code = r .code; item = r .item; count = r .count; first = r .first; second = r .second; gain = r .gain } ≡ refusedBy code ⌝ }
+        ⌜ asShown (r .code) (r .item) (r .count) (r .first) (r .second) (r .gain) ≡ refusedBy code ⌝ }
 {
     Shown {
         code: code,
@@ -143,7 +143,7 @@ fn status_byte(running: bool) -> u64
 
 fn shown_by(reply: Reply) -> Shown
     ensures { λ r.
-        ⌜ record { code = r .code; item = r .item; count = r .count; first = r .first; second = r .second; gain = r .gain }
+        ⌜ asShown (r .code) (r .item) (r .count) (r .first) (r .second) (r .gain)
         ≡ shownOf (toldBy reply) ⌝ }
 {
     match reply {
@@ -191,7 +191,7 @@ pub extern "C" fn skvornela_reply(
     level: &mut i8,
 ) -> u8
     ensures { λ r.
-        ⌜ record { code = r; item = now (item .exit); count = now (count .exit); first = now (first .exit); second = now (second .exit); gain = now (level .exit) }
+        ⌜ asShown r (now (item .exit)) (now (count .exit)) (now (first .exit)) (now (second .exit)) (now (level .exit))
         ≡ shownOf (readAs (wishOf which byte mode gain word hertz) (now (bytes .entry))) ⌝ }
 {
     let s = shown_by(replies::read(wish_of(which, byte, mode, gain, word, hertz), bytes));

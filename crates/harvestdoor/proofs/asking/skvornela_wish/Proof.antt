@@ -24,7 +24,8 @@ returns c =
     let wish = write .before .before in
     let start = wish .before .before in
     let a = start .args in
-    let is = wished (a .which) (a .byte) (a .mode) (a .word) (a .hertz) (a .gain) _ _ (toZ-ofZ (start .fits .gain)) (wish .wish-of .ensures) in
+    let gain = toZ-ofZ (start .fits .gain) in
+    let is = wished (a .which) (a .byte) (a .mode) (a .word) (a .hertz) (a .gain) _ _ gain (wish .wish-of .ensures) in
     rw (← is) (c .told-by .ensures ∙ write .write .ensures .0, write .write .ensures .1)
 
 pub skvornela-wish-spec : {M : Type 1} → statement M
