@@ -19,12 +19,15 @@ use Rattle.layouts.specs.declared.Layout.{Layout}
 use Rattle.layouts.specs.Layouts.{laid}
 use Rattle.items.specs.declared.Settings.{Settings}
 use Rattle.items.specs.Settings.{gains, isMode, isSize, withFrequency, withClock, withDivisor, withGain, withSize}
-use Rattle.items.specs.Items.{echoes, Offer, total, dash, Item, items, name, serial, interface, versions, status, state, frequency, gain, clock, rate, packetSize, idle, run, isVersion, stateTo}
+use Rattle.items.specs.Items.{echoes, Offer, total, dash, Item, items, name, serial, interface, versions, status}
+use Rattle.items.specs.Items.{state, frequency, gain, clock, rate, packetSize, idle, run, isVersion, stateTo}
 use Rattle.items.specs.Table.{offered}
 use Rattle.items.specs.Answer.{Message}
 use Rattle.wishes.specs.declared.StateFields.{StateFields}
 use Rattle.wishes.specs.declared.Wish.{Wish}
-use Rattle.wishes.specs.declared.Wish.the-variants.{AskName, AskSerial, AskInterface, AskVersion, AskStatus, SetState, AskState, SetFrequency, AskFrequency, AskFrequencyRange, SetGain, AskGain, SetClock, AskClock, SetRate, AskRate, SetPacketSize, AskPacketSize}
+use Rattle.wishes.specs.declared.Wish.the-variants.{AskName, AskSerial, AskInterface, AskVersion, AskStatus, SetState}
+use Rattle.wishes.specs.declared.Wish.the-variants.{AskState, SetFrequency, AskFrequency, AskFrequencyRange, SetGain, AskGain}
+use Rattle.wishes.specs.declared.Wish.the-variants.{SetClock, AskClock, SetRate, AskRate, SetPacketSize, AskPacketSize}
 
 -- A value as it is sent: a number, least significant byte first; a signed byte; or byte after byte.
 pub data Value : Type 0 where

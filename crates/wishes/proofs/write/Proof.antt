@@ -55,7 +55,8 @@ returns-3 c =
     let a = room .before .before .before .before .args in
     let e = code-written (a .w) (length (a .buffer .now)) (taken (room .before)) (room .if2 .left) in
     let put = rw (l .layout-of .ensures) at (p .put-message .ensures) in
-    let whole = written-whole (a .buffer .now) (layoutOf (a .w)) _ _ (le-trans (short-message (a .w)) (le-trans (lit≤ tt) (room .if2 .left))) put in
+    let fits = le-trans (short-message (a .w)) (le-trans (lit≤ tt) (room .if2 .left)) in
+    let whole = written-whole (a .buffer .now) (layoutOf (a .w)) _ _ fits put in
     (rw e (ap (λ n. record { code = 1; wrote = n }) (whole .0)), rw e (whole .1))
 
 pub write-spec : {M : Type 1} → statement M
