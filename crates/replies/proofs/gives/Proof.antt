@@ -1,12 +1,11 @@
 -- The reply is written and compared.
 use Prim.Native.Nat.{_≤_}
-use mathlib.Core.Path.{sym, ap, subst, _∙_}
+use mathlib.Core.Path.{sym, ap, _∙_}
 use native.Mathlib.Omega.{arith}
 use lib.ListN.{length, replicate}
 use lib.Seq.{length-take-le}
 use denote.Ref.{now}
 use borrow.Author.Needs.{needs}
-use Rattle.layouts.specs.declared.Layout.{Layout}
 use Rattle.layouts.proofs.Writing.{Put}
 use Rattle.replies.specs.Awaited.{replyLayout}
 use Rattle.wire.specs.Lists.{same}
@@ -18,8 +17,7 @@ use Rattle.replies.proofs.gives.Tie as tie
 put : (c : tie.After-put-message)
     → (let a = c .before .before .before .before .args in
     Put (replicate 16 0) (replyLayout (a .w) (a .n)) (c .put-message .result) (c .put-message .last .0))
-put c =
-    subst (λ (a : Layout). Put (replicate 16 0) a (c .put-message .result) (c .put-message .last .0)) (c .before .reply-layout .ensures) (c .put-message .ensures)
+put c = rw (c .before .reply-layout .ensures) at (c .put-message .ensures)
 
 room : (c : tie.After-put-message) → c .put-message .result ≤ length (c .put-message .last .0)
 room c =

@@ -48,7 +48,9 @@ returns-3 c =
 read-value-requires : tie.Need-read-value-requires
 unfolding unranged
 read-value-requires c κs =
-    (allowed-here (c .before .before .before), not-range (c .before .before .before .before .before .before .args .w) (matched unranged unranged _ refl (c .match .keys2)), no-nak (c .before))
+    let e = c .before .before .before in
+    let other = not-range (e .before .before .before .args .w) (matched unranged unranged _ refl (c .match .keys2)) in
+    (allowed-here e, other, no-nak (c .before))
 
 returns-4 : tie.Need-returns-4
 returns-4 c = c .read-value .ensures
