@@ -3,7 +3,7 @@ use borrow.Author.Needs.{needs}
 use Prim.Native.Nat.{_+_, _*_, _≤_}
 use native.Mathlib.Omega.{arith}
 use borrow.Author.Tests.{eq-eqb, ne-eqb}
-use Rattle.lines.specs.Lines.{captureLine}
+use Rattle.lines.specs.Due.{captureIn}
 use Rattle.lines.proofs.Texts.{stored-within, nothing-stored}
 use Rattle.lines.proofs.Dues.{one-line, sizes, samples-fit, time-fits}
 use Rattle.lines.proofs.telling.put_capture.Statement.{statement}
@@ -47,8 +47,7 @@ returns-2 c =
     let put = c .before .before in
     let tested = put .before .before .before .before .before .before in
     let d = tested .before .before .before .args .d in
-    rw (ne-eqb _ 0 (tested .if1 .left))
-    (one-line (captureLine (record { bits = d .bits; pairs = d .pairs }) (d .divisor) (d .capture) (d .heard) (d .position)) (put .put-line .ensures))
+    rw (ne-eqb _ 0 (tested .if1 .left)) (one-line (captureIn d) (put .put-line .ensures))
 
 pub put-capture-spec : {M : Type 1} → statement M
 put-capture-spec =

@@ -43,7 +43,8 @@ returns c =
     let copied = c .before .before in
     let put = copied .before .before .before .before .before in
     let d = put .before .before in
-    number-stored _ _ _ _ _ _ _ (put .put .ensures) (copied .copy .ensures) (d .decimal .ensures .0 .1) (few d) (d .decimal .ensures .1 .0) (d .decimal .ensures .1 .1)
+    let digits = d .decimal .ensures in
+    number-stored _ _ _ _ _ _ _ (put .put .ensures) (copied .copy .ensures) (digits .0 .1) (few d) (digits .1 .0) (digits .1 .1)
 
 pub put-number-spec : {M : Type 1} → statement M
 put-number-spec =
