@@ -22,61 +22,65 @@ use Rattle.hearing.specs.declared.Reach.{Reach}
 use Rattle.spans.specs.declared.Span.{Span}
 use Rattle.lines.specs.Lines.{Line, textOf, openingLine, refusalLine}
 use Rattle.hearing.specs.Hearing.{farthest, accepting, reaching}
-use Rattle.spans.specs.Eating.{freshSpan, headOf, withTally, lacking, headTaken, headLines, headRead, heardLines, heardSpan, Eating, silently, saying, opening, openingBy, listening, listeningBy, eatingOf, lastLines, finishingOf}
+use Rattle.spans.specs.Eating.{freshSpan, headOf, withTally, lacking, headTaken, headLines, headRead, heardLines, heardSpan, Eating}
+use Rattle.spans.specs.Eating.{silently, saying, opening, openingBy, listening, listeningBy, eatingOf, lastLines, finishingOf}
 use Rattle.lines.specs.Due.{Telling, telling}
 use Rattle.spans.specs.Pieces.{room, Handed, handing, handed, handedAll, printedFrom, printed, CutsDoNotMatter}
 use Rattle.lines.proofs.Dues.{text-append}
 use Rattle.hearing.proofs.Heard.{accepted-fits, heard-small, sane-accepting}
 use Rattle.hearing.proofs.Goings.{Is-due, reach-due}
-use Rattle.spans.proofs.Eats.{opening-waits, opening-says, listening-by, listening-waits, listening-says, eating-stopped, eating-head, eating-packets, finishing-stopped, finishing-says}
+use Rattle.spans.proofs.Eats.{opening-waits, opening-says, listening-by, listening-waits, listening-says}
+use Rattle.spans.proofs.Eats.{eating-stopped, eating-head, eating-packets, finishing-stopped, finishing-says}
 use Rattle.spans.proofs.Rooms.{Short, head-room, heard-room, end-room}
-use Rattle.spans.proofs.Telling.{endLines, toldBy, reach-ahead, reach-used, told-on, told-first}
+use Rattle.spans.proofs.Telling.{endLines, comingBy, reach-ahead, reach-used, coming-on, coming-first}
 use Rattle.spans.proofs.Within.{reach-within}
-use Rattle.spans.proofs.Going.{Counted, Going, fresh-going, going-valid, going-short, stopped-valid, passedBy, passed-reach, passed-accepting, counted-sane, sane-counted}
+use Rattle.spans.proofs.Going.{Counted, Going, fresh-going, going-valid, going-short, stopped-valid}
+use Rattle.spans.proofs.Going.{passedBy, passed-reach, passed-accepting, counted-sane, sane-counted}
 use Rattle.hearing.proofs.Ranges.{reach-sane}
 
 -- ---- all lines of the bytes to come
 
 -- from a span whose head is not whole
-abbrev pub toldHead : Span → List ℕ → List Line
-toldHead s bs =
+abbrev pub comingHead : Span → List ℕ → List Line
+comingHead s bs =
     pick (ltb (headTaken s bs .taken) headLength) (openingLine ∷ refusalLine 40 0 ∷ [])
     (headLines (headCode (headTaken s bs .held))
-    ++ pick (eqb (headCode (headTaken s bs .held)) 1) (toldBy (headOf (headTaken s bs)) (s .tally) (drop (lacking s bs) bs)) [])
+    ++ pick (eqb (headCode (headTaken s bs .held)) 1) (comingBy (headOf (headTaken s bs)) (s .tally) (drop (lacking s bs) bs)) [])
 
-unfoldable pub told : Span → List ℕ → List Line
-told s bs = pick (s .stopped) [] (pick (ltb (s .taken) headLength) (toldHead s bs) (toldBy (headOf s) (s .tally) bs))
+unfoldable pub coming : Span → List ℕ → List Line
+coming s bs = pick (s .stopped) [] (pick (ltb (s .taken) headLength) (comingHead s bs) (comingBy (headOf s) (s .tally) bs))
 
-told-stopped : (s : Span) (bs : List ℕ) → s .stopped ≡ true → told s bs ≡ []
-unfolding told
-told-stopped s bs e = rw e
+coming-stopped : (s : Span) (bs : List ℕ) → s .stopped ≡ true → coming s bs ≡ []
+unfolding coming
+coming-stopped s bs e = rw e
 
-pub told-head : (s : Span) (bs : List ℕ) → s .stopped ≡ false → s .taken < headLength → told s bs ≡ toldHead s bs
-unfolding told
-told-head s bs e h = rw (e, lt-ltb (s .taken) headLength h)
+pub coming-head : (s : Span) (bs : List ℕ) → s .stopped ≡ false → s .taken < headLength → coming s bs ≡ comingHead s bs
+unfolding coming
+coming-head s bs e h = rw (e, lt-ltb (s .taken) headLength h)
 
-told-packets : (s : Span) (bs : List ℕ) → s .stopped ≡ false → headLength ≤ s .taken → told s bs ≡ toldBy (headOf s) (s .tally) bs
-unfolding told
-told-packets s bs e h = rw (e, le-ltb (s .taken) headLength h)
+coming-packets : (s : Span) (bs : List ℕ) → s .stopped ≡ false → headLength ≤ s .taken → coming s bs ≡ comingBy (headOf s) (s .tally) bs
+unfolding coming
+coming-packets s bs e h = rw (e, le-ltb (s .taken) headLength h)
 
-told-end : (h : Head) (t : Tally) → toldBy h t [] ≡ endLines h t
-unfolding toldBy
-told-end h t = refl
+coming-end : (h : Head) (t : Tally) → comingBy h t [] ≡ endLines h t
+unfolding comingBy
+coming-end h t = refl
 
 -- ---- one call
 
 -- A call for a piece, in front of the rest of the input.
 pub record OneCall (s : Span) (used : ℕ) (piece rest : List ℕ) (e : Eating) : Type 0 where
-  pub text : textOf (told s (piece ++ rest)) ≡ e .bytes ++ textOf (told (e .eaten .span) (drop (e .eaten .consumed) piece ++ rest))
+  pub text : textOf (coming s (piece ++ rest)) ≡ e .bytes ++ textOf (coming (e .eaten .span) (drop (e .eaten .consumed) piece ++ rest))
   pub moves : 1 ≤ e .eaten .consumed
   pub inside : e .eaten .consumed ≤ length piece
   pub goes : e .eaten .span .stopped ≡ false → Going (e .eaten .span) (used + e .eaten .consumed)
 
 -- a span that has stopped takes all, and says nothing
-call-stopped : (s : Span) (used : ℕ) (piece rest : List ℕ) → s .stopped ≡ true → 1 ≤ length piece → OneCall s used piece rest (silently 2 (length piece) s)
+call-stopped : (s : Span) (used : ℕ) (piece rest : List ℕ) → s .stopped ≡ true → 1 ≤ length piece
+    → OneCall s used piece rest (silently 2 (length piece) s)
 call-stopped s used piece rest e some =
     record {
-      text = ap textOf (told-stopped s (piece ++ rest) e ∙ sym (told-stopped s (drop (length piece) piece ++ rest) e));
+      text = ap textOf (coming-stopped s (piece ++ rest) e ∙ sym (coming-stopped s (drop (length piece) piece ++ rest) e));
       moves = some;
       inside = omega arith;
       goes = λ g. absurd (true-not-false (sym e ∙ g));
@@ -84,11 +88,14 @@ call-stopped s used piece rest e some =
 
 -- lines that fit are said
 says : (s : Span) (n : ℕ) (lines : List Line) (after : Span) → length (textOf lines) ≤ room
-    → saying s room n lines after ≡ record { eaten = record { code = 1; consumed = n; wrote = length (textOf lines); span = after }; bytes = textOf lines }
+    → saying s room n lines after
+    ≡ record { eaten = record { code = 1; consumed = n; wrote = length (textOf lines); span = after }; bytes = textOf lines }
 says s n lines after fits = rw (le-ltb room (length (textOf lines)) fits)
 
 -- the packets' part of a piece b ∷ bs
-module _ (s : Span) (used : ℕ) (b : ℕ) (bs rest : List ℕ) (goes : s .stopped ≡ false) (whole : headLength ≤ s .taken) (g : Going s used) (near : used + length (b ∷ bs) ≤ farthest) where
+module _ (s : Span)
+    (used : ℕ) (b : ℕ) (bs rest : List ℕ) (goes : s .stopped ≡ false) (whole : headLength ≤ s .taken) (g : Going s used) (near : used + length
+    (b ∷ bs) ≤ farthest) where
   abbrev h : Head
   h = headOf s
 
@@ -125,10 +132,10 @@ module _ (s : Span) (used : ℕ) (b : ℕ) (bs rest : List ℕ) (goes : s .stopp
       record {
         text =
             ap textOf
-            (told-packets s (piece ++ rest) goes whole
-            ∙ told-on h (s .tally) piece rest none
-            ∙ sym (told-packets (withTally false s (r .tally)) rest refl whole)
-            ∙ ap (λ (l : List ℕ). told (withTally false s (r .tally)) (l ++ rest)) (sym all));
+            (coming-packets s (piece ++ rest) goes whole
+            ∙ coming-on h (s .tally) piece rest none
+            ∙ sym (coming-packets (withTally false s (r .tally)) rest refl whole)
+            ∙ ap (λ (l : List ℕ). coming (withTally false s (r .tally)) (l ++ rest)) (sym all));
         moves = reach-ahead b bs 0 (formIn h) (s .tally);
         inside = within;
         goes = λ e. goes-on-with (r .tally) behind counted;
@@ -158,15 +165,18 @@ module _ (s : Span) (used : ℕ) (b : ℕ) (bs rest : List ℕ) (goes : s .stopp
         goes-on-with (accepting (r .tally)) (passed-accepting (r .tally) ∙ behind)
         (sane-counted (sane-accepting 0 (r .tally) (counted-sane (r .tally) 0 counted (omega (arith, behind, within))) (packet .some) (accepted-fits (formIn h) (r .tally) (sym (packet .code) ∙ one))))
 
-    rest-told : pick (eqb (r .code) 1) (toldBy h (accepting (r .tally)) (drop (r .at) (piece ++ rest))) [] ≡ told (heardSpan s r) (drop (r .at) piece ++ rest)
-    rest-told = by (eqb (r .code) 1) refl
+    rest-coming : pick (eqb (r .code) 1) (comingBy h (accepting (r .tally)) (drop (r .at) (piece ++ rest))) []
+        ≡ coming (heardSpan s r) (drop (r .at) piece ++ rest)
+    rest-coming = by (eqb (r .code) 1) refl
       where
-        by : (one : Bool) → eqb (r .code) 1 ≡ one → pick (eqb (r .code) 1) (toldBy h (accepting (r .tally)) (drop (r .at) (piece ++ rest))) [] ≡ told (heardSpan s r) (drop (r .at) piece ++ rest)
+        by : (one : Bool) → eqb (r .code) 1 ≡ one
+            → pick (eqb (r .code) 1) (comingBy h (accepting (r .tally)) (drop (r .at) (piece ++ rest))) []
+            ≡ coming (heardSpan s r) (drop (r .at) piece ++ rest)
         by true e =
             rw e
-            (ap (toldBy h (accepting (r .tally))) (drop-append-le (r .at) piece rest within)
-            ∙ sym (told-packets (withTally false s (accepting (r .tally))) (drop (r .at) piece ++ rest) refl whole))
-        by false e = rw e (sym (told-stopped (withTally true s (r .tally)) (drop (r .at) piece ++ rest) refl))
+            (ap (comingBy h (accepting (r .tally))) (drop-append-le (r .at) piece rest within)
+            ∙ sym (coming-packets (withTally false s (accepting (r .tally))) (drop (r .at) piece ++ rest) refl whole))
+        by false e = rw e (sym (coming-stopped (withTally true s (r .tally)) (drop (r .at) piece ++ rest) refl))
 
     after-going : heardSpan s r .stopped ≡ false → Going (heardSpan s r) (used + r .at)
     after-going = by (eqb (r .code) 1) refl
@@ -179,8 +189,8 @@ module _ (s : Span) (used : ℕ) (b : ℕ) (bs rest : List ℕ) (goes : s .stopp
     call-says =
         record {
           text =
-              ap textOf (told-packets s (piece ++ rest) goes whole ∙ told-first h (s .tally) piece rest due ∙ ap (λ (ls : List Line). heardLines h r ++ ls) rest-told)
-              ∙ text-append (heardLines h r) (told (heardSpan s r) (drop (r .at) piece ++ rest));
+              ap textOf (coming-packets s (piece ++ rest) goes whole ∙ coming-first h (s .tally) piece rest due ∙ ap (λ (ls : List Line). heardLines h r ++ ls) rest-coming)
+              ∙ text-append (heardLines h r) (coming (heardSpan s r) (drop (r .at) piece ++ rest));
           moves = reach-ahead b bs 0 (formIn h) (s .tally);
           inside = within;
           goes = after-going;
@@ -205,10 +215,10 @@ unfolding headCode
 head-code-small s = given-below 42 (readChecks s) 1 refl (omega arith)
 
 -- the lines of a head that has been taken so far, with what is left of the bytes
-abbrev pub headToldBy : Span → List ℕ → List Line
-headToldBy after left =
+abbrev pub headComing : Span → List ℕ → List Line
+headComing after left =
     pick (ltb (after .taken) headLength) (openingLine ∷ refusalLine 40 0 ∷ [])
-    (headLines (headCode (after .held)) ++ pick (eqb (headCode (after .held)) 1) (toldBy (headOf after) (after .tally) left) [])
+    (headLines (headCode (after .held)) ++ pick (eqb (headCode (after .held)) 1) (comingBy (headOf after) (after .tally) left) [])
 
 -- the head's part of a piece b ∷ bs
 module _ (s : Span) (used : ℕ) (b : ℕ) (bs rest : List ℕ) (goes : s .stopped ≡ false) (few : s .taken < headLength) (g : Going s used) where
@@ -229,7 +239,8 @@ module _ (s : Span) (used : ℕ) (b : ℕ) (bs rest : List ℕ) (goes : s .stopp
     more : lacking s (chunk ++ rest) ≡ length chunk + lacking after rest
     more = omega (arith, length-append chunk rest, all)
 
-    same-held : sets (s .held) (s .taken) (take (lacking s (chunk ++ rest)) (chunk ++ rest)) ≡ sets (after .held) (after .taken) (take (lacking after rest) rest)
+    same-held : sets (s .held) (s .taken) (take (lacking s (chunk ++ rest)) (chunk ++ rest))
+        ≡ sets (after .held) (after .taken) (take (lacking after rest) rest)
     same-held =
         let first : take (lacking s chunk) chunk ≡ chunk = take-all (lacking s chunk) chunk (omega (arith, all)) in
         let both : take (lacking s (chunk ++ rest)) (chunk ++ rest) ≡ chunk ++ take (lacking after rest) rest
@@ -254,11 +265,11 @@ module _ (s : Span) (used : ℕ) (b : ℕ) (bs rest : List ℕ) (goes : s .stopp
         record {
           text =
               ap textOf
-              (told-head s (chunk ++ rest) goes few
-              ∙ ap (λ (x : Span). headToldBy x (drop (lacking s (chunk ++ rest)) (chunk ++ rest))) same-taken
-              ∙ ap (headToldBy (headTaken after rest)) same-left
-              ∙ sym (told-head after rest refl (omega (arith, all)))
-              ∙ ap (λ (l : List ℕ). told after (l ++ rest)) (sym used-up));
+              (coming-head s (chunk ++ rest) goes few
+              ∙ ap (λ (x : Span). headComing x (drop (lacking s (chunk ++ rest)) (chunk ++ rest))) same-taken
+              ∙ ap (headComing (headTaken after rest)) same-left
+              ∙ sym (coming-head after rest refl (omega (arith, all)))
+              ∙ ap (λ (l : List ℕ). coming after (l ++ rest)) (sym used-up));
           moves = omega (arith, all);
           inside = omega (arith, all);
           goes = λ e. record { long = after-long; head = λ h. (omega (arith, g .head few .0), g .head few .1); packets = λ h. absurd (omega (arith, all)); counted = g .counted };
@@ -288,12 +299,15 @@ module _ (s : Span) (used : ℕ) (b : ℕ) (bs rest : List ℕ) (goes : s .stopp
     left-over : drop (lacking s (chunk ++ rest)) (chunk ++ rest) ≡ drop (lacking s chunk) chunk ++ rest
     left-over = ap (λ (k : ℕ). drop k (chunk ++ rest)) lacks-same ∙ drop-append-le (lacking s chunk) chunk rest (omega (arith, lacks))
 
-    rest-after : pick (eqb code 1) (toldBy (headOf after) (after .tally) (drop (lacking s chunk) chunk ++ rest)) [] ≡ told (headRead code after) (drop (lacking s chunk) chunk ++ rest)
+    rest-after : pick (eqb code 1) (comingBy (headOf after) (after .tally) (drop (lacking s chunk) chunk ++ rest)) []
+        ≡ coming (headRead code after) (drop (lacking s chunk) chunk ++ rest)
     rest-after = by (eqb code 1) refl
       where
-        by : (one : Bool) → eqb code 1 ≡ one → pick (eqb code 1) (toldBy (headOf after) (after .tally) (drop (lacking s chunk) chunk ++ rest)) [] ≡ told (headRead code after) (drop (lacking s chunk) chunk ++ rest)
-        by true e = rw e (sym (told-packets (record { stopped = false; taken = after .taken; held = after .held; tally = after .tally }) (drop (lacking s chunk) chunk ++ rest) refl (omega (arith, whole))))
-        by false e = rw e (sym (told-stopped (record { stopped = true; taken = after .taken; held = after .held; tally = after .tally }) (drop (lacking s chunk) chunk ++ rest) refl))
+        by : (one : Bool) → eqb code 1 ≡ one
+            → pick (eqb code 1) (comingBy (headOf after) (after .tally) (drop (lacking s chunk) chunk ++ rest)) []
+            ≡ coming (headRead code after) (drop (lacking s chunk) chunk ++ rest)
+        by true e = rw e (sym (coming-packets (record { stopped = false; taken = after .taken; held = after .held; tally = after .tally }) (drop (lacking s chunk) chunk ++ rest) refl (omega (arith, whole))))
+        by false e = rw e (sym (coming-stopped (record { stopped = true; taken = after .taken; held = after .held; tally = after .tally }) (drop (lacking s chunk) chunk ++ rest) refl))
 
     read-going : headRead code after .stopped ≡ false → Going (headRead code after) (used + lacking s chunk)
     read-going e =
@@ -311,12 +325,12 @@ module _ (s : Span) (used : ℕ) (b : ℕ) (bs rest : List ℕ) (goes : s .stopp
         record {
           text =
               ap textOf
-              (told-head s (chunk ++ rest) goes few
-              ∙ ap (λ (x : Span). headToldBy x (drop (lacking s (chunk ++ rest)) (chunk ++ rest))) same-after
-              ∙ ap (headToldBy after) left-over
+              (coming-head s (chunk ++ rest) goes few
+              ∙ ap (λ (x : Span). headComing x (drop (lacking s (chunk ++ rest)) (chunk ++ rest))) same-after
+              ∙ ap (headComing after) left-over
               ∙ (rw (le-ltb (after .taken) headLength (omega (arith, whole))))
               ∙ ap (λ (ls : List Line). headLines code ++ ls) rest-after)
-              ∙ text-append (headLines code) (told (headRead code after) (drop (lacking s chunk) chunk ++ rest));
+              ∙ text-append (headLines code) (coming (headRead code after) (drop (lacking s chunk) chunk ++ rest));
           moves = omega (arith, lacks);
           inside = omega (arith, lacks);
           goes = read-going;
@@ -339,7 +353,8 @@ module _ (s : Span) (used : ℕ) (b : ℕ) (bs rest : List ℕ) (goes : s .stopp
 
 -- ---- any call, all calls of a piece, all pieces
 
-pub one-call : (s : Span) (used : ℕ) (b : ℕ) (bs rest : List ℕ) → (s .stopped ≡ false → Going s used) → used + length (b ∷ bs) ≤ farthest → OneCall s used (b ∷ bs) rest (eatingOf s (b ∷ bs) room)
+pub one-call : (s : Span) (used : ℕ) (b : ℕ) (bs rest : List ℕ) → (s .stopped ≡ false → Going s used)
+    → used + length (b ∷ bs) ≤ farthest → OneCall s used (b ∷ bs) rest (eatingOf s (b ∷ bs) room)
 one-call s used b bs rest good near = by (s .stopped) refl
   where
     by : (stop : Bool) → s .stopped ≡ stop → OneCall s used (b ∷ bs) rest (eatingOf s (b ∷ bs) room)
@@ -354,13 +369,15 @@ one-call s used b bs rest good near = by (s .stopped) refl
 
 -- What handing a piece over comes to, in front of the rest of the input.
 pub record AllCalls (s : Span) (used : ℕ) (piece rest : List ℕ) (d : Handed) : Type 0 where
-  pub text : textOf (told s (piece ++ rest)) ≡ d .text ++ textOf (told (d .span) rest)
+  pub text : textOf (coming s (piece ++ rest)) ≡ d .text ++ textOf (coming (d .span) rest)
   pub goes : d .span .stopped ≡ false → Going (d .span) (used + length piece)
 
-none-handed : (s : Span) (used : ℕ) (rest : List ℕ) → (s .stopped ≡ false → Going s used) → AllCalls s used [] rest (record { text = []; span = s })
+none-handed : (s : Span) (used : ℕ) (rest : List ℕ) → (s .stopped ≡ false → Going s used)
+    → AllCalls s used [] rest (record { text = []; span = s })
 none-handed s used rest good = record { text = refl; goes = λ e. subst (Going s) (omega arith) (good e) }
 
-pub all-calls : (n : ℕ) (s : Span) (used : ℕ) (piece rest : List ℕ) → length piece ≤ n → (s .stopped ≡ false → Going s used) → used + length piece ≤ farthest → AllCalls s used piece rest (handing n s piece)
+pub all-calls : (n : ℕ) (s : Span) (used : ℕ) (piece rest : List ℕ) → length piece ≤ n → (s .stopped ≡ false → Going s used)
+    → used + length piece ≤ farthest → AllCalls s used piece rest (handing n s piece)
 unfolding handing
 all-calls zero s used [] rest few good near = none-handed s used rest good
 all-calls zero s used (b ∷ bs) rest few good near = absurd (omega arith)
@@ -375,50 +392,52 @@ all-calls (suc n) s used (b ∷ bs) rest few good near =
     let count : used + e .eaten .consumed + length left ≡ used + length (b ∷ bs) = omega (arith, one .inside, long) in
     rw (ne-eqb (suc (length bs)) 0 (λ z. omega arith))
     (record {
-      text = one .text ∙ ap (λ (l : List ℕ). e .bytes ++ l) (next .text) ∙ sym (append-assoc (e .bytes) (handing n (e .eaten .span) left .text) (textOf (told (handing n (e .eaten .span) left .span) rest)));
+      text = one .text ∙ ap (λ (l : List ℕ). e .bytes ++ l) (next .text) ∙ sym (append-assoc (e .bytes) (handing n (e .eaten .span) left .text) (textOf (coming (handing n (e .eaten .span) left .span) rest)));
       goes = λ z. subst (Going (handing n (e .eaten .span) left .span)) count (next .goes z);
     })
 
 -- the end of the input
-end-told : (s : Span) (used : ℕ) → (s .stopped ≡ false → Going s used) → used ≤ farthest → finishingOf s room .bytes ≡ textOf (told s [])
-end-told s used good near = by (s .stopped) refl
+end-coming : (s : Span) (used : ℕ) → (s .stopped ≡ false → Going s used) → used ≤ farthest
+    → finishingOf s room .bytes ≡ textOf (coming s [])
+end-coming s used good near = by (s .stopped) refl
   where
     whole-text : (lines : List Line) → length (textOf lines) ≤ room → telling (textOf lines) room .bytes ≡ textOf lines
     whole-text lines fits = rw (le-ltb room (length (textOf lines)) fits)
 
-    by : (stop : Bool) → s .stopped ≡ stop → finishingOf s room .bytes ≡ textOf (told s [])
-    by true e = ap (λ (t : Telling). t .bytes) (finishing-stopped s room (stopped-valid s e) e) ∙ ap textOf (sym (told-stopped s [] e))
+    by : (stop : Bool) → s .stopped ≡ stop → finishingOf s room .bytes ≡ textOf (coming s [])
+    by true e = ap (λ (t : Telling). t .bytes) (finishing-stopped s room (stopped-valid s e) e) ∙ ap textOf (sym (coming-stopped s [] e))
     by false e = elim (decLt (s .taken) headLength) [ yes few ↦ cut few | no few ↦ ended (omega arith) ]
       where
         says′ : finishingOf s room .bytes ≡ telling (textOf (lastLines s)) room .bytes
         says′ = ap (λ (t : Telling). t .bytes) (finishing-says s room (going-valid s used (good e) near e) e)
 
-        cut : s .taken < headLength → finishingOf s room .bytes ≡ textOf (told s [])
+        cut : s .taken < headLength → finishingOf s room .bytes ≡ textOf (coming s [])
         cut few =
             let lines : List Line = headLines 40 in
             let last : lastLines s ≡ lines = rw (lt-ltb (s .taken) headLength few) in
-            let short : toldHead s [] ≡ lines = rw (lt-ltb (headTaken s [] .taken) headLength (omega arith)) in
-            says′ ∙ ap (λ (ls : List Line). telling (textOf ls) room .bytes) last ∙ whole-text lines (head-room 40 (omega arith)) ∙ ap textOf (sym (told-head s [] e few ∙ short))
+            let short : comingHead s [] ≡ lines = rw (lt-ltb (headTaken s [] .taken) headLength (omega arith)) in
+            says′ ∙ ap (λ (ls : List Line). telling (textOf ls) room .bytes) last ∙ whole-text lines (head-room 40 (omega arith)) ∙ ap textOf (sym (coming-head s [] e few ∙ short))
 
-        ended : headLength ≤ s .taken → finishingOf s room .bytes ≡ textOf (told s [])
+        ended : headLength ≤ s .taken → finishingOf s room .bytes ≡ textOf (coming s [])
         ended all′ =
             let lines : List Line = endLines (headOf s) (s .tally) in
             let last : lastLines s ≡ lines = rw (le-ltb (s .taken) headLength all′) in
-            says′ ∙ ap (λ (ls : List Line). telling (textOf ls) room .bytes) last ∙ whole-text lines (end-room (headOf s) (s .tally) (going-short s used (good e) near all′)) ∙ ap textOf (sym (told-packets s [] e all′ ∙ told-end (headOf s) (s .tally)))
+            says′ ∙ ap (λ (ls : List Line). telling (textOf ls) room .bytes) last ∙ whole-text lines (end-room (headOf s) (s .tally) (going-short s used (good e) near all′)) ∙ ap textOf (sym (coming-packets s [] e all′ ∙ coming-end (headOf s) (s .tally)))
 
-pub printed-told : (pieces : List (List ℕ)) (s : Span) (used : ℕ) → (s .stopped ≡ false → Going s used) → used + length (joined pieces) ≤ farthest → printedFrom s pieces ≡ textOf (told s (joined pieces))
+pub prints-coming : (pieces : List (List ℕ)) (s : Span) (used : ℕ) → (s .stopped ≡ false → Going s used)
+    → used + length (joined pieces) ≤ farthest → printedFrom s pieces ≡ textOf (coming s (joined pieces))
 unfolding handedAll
-printed-told [] s used good near = end-told s used good (omega arith)
-printed-told (p ∷ ps) s used good near =
+prints-coming [] s used good near = end-coming s used good (omega arith)
+prints-coming (p ∷ ps) s used good near =
     let calls = all-calls (length p) s used p (joined ps) (omega arith) good (omega (arith, length-append p (joined ps))) in
     let next : Handed = handedAll (handed s p .span) ps in
     append-assoc (handed s p .text) (next .text) (finishingOf (next .span) room .bytes)
-    ∙ ap (λ (l : List ℕ). handed s p .text ++ l) (printed-told ps (handed s p .span) (used + length p) (calls .goes) (omega (arith, length-append p (joined ps)))) ∙ sym (calls .text)
+    ∙ ap (λ (l : List ℕ). handed s p .text ++ l) (prints-coming ps (handed s p .span) (used + length p) (calls .goes) (omega (arith, length-append p (joined ps)))) ∙ sym (calls .text)
 
 -- All that is printed for pieces is what their bytes bring.
-pub printed-is : (pieces : List (List ℕ)) → length (joined pieces) ≤ farthest → printed pieces ≡ textOf (told freshSpan (joined pieces))
-printed-is pieces near = printed-told pieces freshSpan 0 (λ e. fresh-going) (omega arith)
+pub printed-is : (pieces : List (List ℕ)) → length (joined pieces) ≤ farthest → printed pieces ≡ textOf (coming freshSpan (joined pieces))
+printed-is pieces near = prints-coming pieces freshSpan 0 (λ e. fresh-going) (omega arith)
 
 pub cuts-do-not-matter : CutsDoNotMatter
 cuts-do-not-matter ps qs same near =
-    printed-is ps near ∙ ap (λ (l : List ℕ). textOf (told freshSpan l)) same ∙ sym (printed-is qs (subst (λ (l : List ℕ). length l ≤ farthest) same near))
+    printed-is ps near ∙ ap (λ (l : List ℕ). textOf (coming freshSpan l)) same ∙ sym (printed-is qs (subst (λ (l : List ℕ). length l ≤ farthest) same near))

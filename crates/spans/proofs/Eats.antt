@@ -27,7 +27,9 @@ use Rattle.lines.specs.Lines.{Line, textOf}
 use Rattle.lines.specs.Due.{dueLines, sized, Telling, silentWith, telling, tellingOf}
 use Rattle.lines.proofs.Dues.{is-sized, telling-sized}
 use Rattle.hearing.specs.Hearing.{inRange, reaching}
-use Rattle.spans.specs.Eating.{headOk, validSpan, headOf, withTally, lacking, headTaken, headLines, headRead, heardLines, heardSpan, Eating, refused, silently, saying, opening, openingBy, listening, listeningBy, eatingOf, lastLines, finishingOf}
+use Rattle.spans.specs.Eating.{headOk, validSpan, headOf, withTally, lacking, headTaken, headLines}
+use Rattle.spans.specs.Eating.{headRead, heardLines, heardSpan, Eating, refused, silently, saying, opening}
+use Rattle.spans.specs.Eating.{openingBy, listening, listeningBy, eatingOf, lastLines, finishingOf}
 use Rattle.spans.specs.Inside.{dueNow}
 
 -- the number of what was read is the code
@@ -44,7 +46,8 @@ valid-by s p q r = cc
 pub lacked : (s : Span) (piece : List ℕ) (k : ℕ) → k ≡ min (headLength - s .taken) (length piece) → k ≡ length (take k piece)
 lacked s piece k is = sym (length-take-le k piece (omega arith))
 
-pub head-taken : (s : Span) (piece held : List ℕ) (k : ℕ) → k ≡ min (headLength - s .taken) (length piece) → held ≡ sets (s .held) (s .taken) (take k piece)
+pub head-taken : (s : Span) (piece held : List ℕ) (k : ℕ) → k ≡ min (headLength - s .taken) (length piece)
+    → held ≡ sets (s .held) (s .taken) (take k piece)
     → record { stopped = false; taken = s .taken + k; held = held; tally = s .tally } ≡ headTaken s piece
 head-taken s piece held k is stored = rw (stored, is)
 
@@ -90,7 +93,8 @@ module _ (lines : List Line) (room : ℕ) (told : Told) (is : told ≡ telling (
   text-told fits = rw (long fits)
 
   pub said : (s after : Span) (n : ℕ) → (told .code ≡ 20 → ⊥)
-      → saying s room n lines after ≡ record { eaten = record { code = 1; consumed = n; wrote = told .wrote; span = after }; bytes = textOf lines }
+      → saying s room n lines after
+      ≡ record { eaten = record { code = 1; consumed = n; wrote = told .wrote; span = after }; bytes = textOf lines }
   said s after n fits =
       let wrote : told .wrote ≡ length (textOf lines) = ap (λ (t : Told). t .wrote) is ∙ rw (long fits) in
       rw (long fits, wrote)
@@ -100,7 +104,8 @@ pub answers : {e : Eaten} (out : List ℕ) {after : List ℕ} {x : Eating} (y : 
     → (e ≡ x .eaten) × (after ≡ sets out 0 (x .bytes))
 answers {e} out {after} y same p q = subst (λ (z : Eating). (e ≡ z .eaten) × (after ≡ sets out 0 (z .bytes))) (sym same) (p, q)
 
-pub opening-by : (s : Span) (piece : List ℕ) (room : ℕ) (after : Span) → after ≡ headTaken s piece → opening s piece room ≡ openingBy s room (after .taken - s .taken) after
+pub opening-by : (s : Span) (piece : List ℕ) (room : ℕ) (after : Span) → after ≡ headTaken s piece
+    → opening s piece room ≡ openingBy s room (after .taken - s .taken) after
 unfolding opening
 opening-by s piece room after is =
     let taken : after .taken ≡ s .taken + lacking s piece = ap (λ (x : Span). x .taken) is in
@@ -112,17 +117,21 @@ pub opening-waits : (s after : Span) (room n : ℕ) → after .taken < headLengt
 opening-waits s after room n h = rw (lt-ltb (after .taken) headLength h)
 
 -- a whole head
-pub opening-says : (s after : Span) (room n code : ℕ) → headLength ≤ after .taken → code ≡ headCode (after .held) → openingBy s room n after ≡ saying s room n (headLines code) (headRead code after)
+pub opening-says : (s after : Span) (room n code : ℕ) → headLength ≤ after .taken → code ≡ headCode (after .held)
+    → openingBy s room n after ≡ saying s room n (headLines code) (headRead code after)
 opening-says s after room n code h is = rw (le-ltb (after .taken) headLength h, is)
 
-pub listening-by : (s : Span) (piece : List ℕ) (room : ℕ) (r : Reach) → r ≡ reaching 0 (formIn (headOf s)) (s .tally) piece → listening s piece room ≡ listeningBy s room r
+pub listening-by : (s : Span) (piece : List ℕ) (room : ℕ) (r : Reach) → r ≡ reaching 0 (formIn (headOf s)) (s .tally) piece
+    → listening s piece room ≡ listeningBy s room r
 unfolding listening
 listening-by s piece room r is = ap (listeningBy s room) (sym is)
 
-pub listening-waits : (s : Span) (room : ℕ) (r : Reach) → r .code ≡ 0 → listeningBy s room r ≡ silently 0 (r .at) (withTally false s (r .tally))
+pub listening-waits : (s : Span) (room : ℕ) (r : Reach) → r .code ≡ 0
+    → listeningBy s room r ≡ silently 0 (r .at) (withTally false s (r .tally))
 listening-waits s room r e = rw (eq-eqb (r .code) 0 e)
 
-pub listening-says : (s : Span) (room : ℕ) (r : Reach) → (r .code ≡ 0 → ⊥) → listeningBy s room r ≡ saying s room (r .at) (heardLines (headOf s) r) (heardSpan s r)
+pub listening-says : (s : Span) (room : ℕ) (r : Reach) → (r .code ≡ 0 → ⊥)
+    → listeningBy s room r ≡ saying s room (r .at) (heardLines (headOf s) r) (heardSpan s r)
 listening-says s room r e = rw (ne-eqb (r .code) 0 e)
 
 -- The two answers of a call for which lines are due: those of d, told in a slice `out` that is `after` then.
@@ -142,7 +151,8 @@ module _ (s next : Span) (n : ℕ) (lines : List Line) (d : Due) (are : dueLines
       answers out (refused 20 s) (is ∙ refused-20 lines (length out) told told-is s next n short) same
       (after-is ∙ ap (sets out 0) (nothing-told lines (length out) told told-is short))
 
-  pub room : (e : Eaten) → e ≡ record { code = 1; consumed = n; wrote = told .wrote; span = next } → (told .code ≡ 20 → ⊥) → (e ≡ x .eaten) × (after ≡ sets out 0 (x .bytes))
+  pub room : (e : Eaten) → e ≡ record { code = 1; consumed = n; wrote = told .wrote; span = next } → (told .code ≡ 20 → ⊥)
+      → (e ≡ x .eaten) × (after ≡ sets out 0 (x .bytes))
   room e same fits =
       answers out (record { eaten = record { code = 1; consumed = n; wrote = told .wrote; span = next }; bytes = textOf lines }) (is ∙ said lines (length out) told told-is s next n fits) same
       (after-is ∙ ap (sets out 0) (text-told lines (length out) told told-is fits))
@@ -196,6 +206,7 @@ module _ (s : Span) (room′ : ℕ) where
   finishing-says v p = rw (v, p)
 
 -- as `answers`, for the end
-pub finishes : {e : Told} (out : List ℕ) {after : List ℕ} {x : Telling} (y : Telling) → x ≡ y → (e ≡ y .told) × (after ≡ sets out 0 (y .bytes))
+pub finishes : {e : Told} (out : List ℕ) {after : List ℕ} {x : Telling} (y : Telling) → x ≡ y
+    → (e ≡ y .told) × (after ≡ sets out 0 (y .bytes))
     → (e ≡ x .told) × (after ≡ sets out 0 (x .bytes))
 finishes {e} out {after} y same did = subst (λ (z : Telling). (e ≡ z .told) × (after ≡ sets out 0 (z .bytes))) (sym same) did

@@ -100,7 +100,8 @@ passed-settled n f t =
     pick-keeps (λ (r : Reach). passedBy (r .tally) ≡ passedBy t) (eqb (heardCode f t) 0) _ _ (λ e. refl)
     (λ e. pick-keeps (λ (r : Reach). passedBy (r .tally) ≡ passedBy t) (eqb (heardCode f t) 1 && not (closes t)) (record { at = n; code = 0; tally = accepting t }) (record { at = n; code = heardCode f t; tally = t }) (λ d. passed-accepting t) (λ d. refl))
 
-pub passed-reach : (bs : List ℕ) (n : ℕ) (f : Form) (t : Tally) → passedBy (reaching n f t bs .tally) + n ≡ passedBy t + reaching n f t bs .at
+pub passed-reach : (bs : List ℕ) (n : ℕ) (f : Form) (t : Tally)
+    → passedBy (reaching n f t bs .tally) + n ≡ passedBy t + reaching n f t bs .at
 unfolding reaching
 passed-reach [] n f t = refl
 passed-reach (b ∷ bs) n f t =

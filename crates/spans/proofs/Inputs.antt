@@ -25,9 +25,9 @@ use Rattle.lines.specs.Lines.{Line, textOf, openingLine, refusalLine}
 use Rattle.spans.specs.Report.{nothing, packetsIn, linesFrom, linesOf, report}
 use Rattle.spans.specs.Eating.{freshTally, freshSpan, lacking, headTaken, headLines}
 use Rattle.spans.specs.Pieces.{PrintsTheReport}
-use Rattle.spans.proofs.Telling.{toldBy}
-use Rattle.spans.proofs.Cuts.{toldHead, told, told-head, headToldBy, printed-is}
-use Rattle.spans.proofs.Reported.{Knows, told-lines}
+use Rattle.spans.proofs.Telling.{comingBy}
+use Rattle.spans.proofs.Cuts.{comingHead, coming, coming-head, headComing, printed-is}
+use Rattle.spans.proofs.Reported.{Knows, coming-lines}
 
 -- ---- a head in the first 14 bytes
 
@@ -61,7 +61,7 @@ nothing-known = record { taken = refl; offset = refl; captures = refl; heard = r
 
 module _ (input : List ℕ) where
   -- the head is cut off
-  cut-head : length input < headLength → toldHead freshSpan input ≡ linesOf input
+  cut-head : length input < headLength → comingHead freshSpan input ≡ linesOf input
   unfolding linesOf
   cut-head short =
       let code : headCode input ≡ 40 = code-by input (lt-ltb (length input) headLength short) refl refl refl in
@@ -77,30 +77,31 @@ module _ (input : List ℕ) where
         ap (λ (k : ℕ). record { stopped = false; taken = 0 + k; held = sets (replicate 14 0) 0 (take k input); tally = freshTally }) lacks
         ∙ ap (λ (l : List ℕ). record { stopped = false; taken = headLength; held = l; tally = freshTally }) (sets-whole (replicate 14 0) (take headLength input) (length-take-le headLength input long))
 
-    after-head : toldHead freshSpan input ≡ headLines (headCode input) ++ pick (eqb (headCode input) 1) (toldBy (headIn input) freshTally (drop headLength input)) []
+    after-head : comingHead freshSpan input
+        ≡ headLines (headCode input) ++ pick (eqb (headCode input) 1) (comingBy (headIn input) freshTally (drop headLength input)) []
     after-head =
-        ap (λ (x : Span). headToldBy x (drop (lacking freshSpan input) input)) held
-        ∙ ap (λ (k : ℕ). headLines (headCode (take headLength input)) ++ pick (eqb (headCode (take headLength input)) 1) (toldBy (headIn (take headLength input)) freshTally (drop k input)) []) lacks
-        ∙ ap (λ (c : ℕ). headLines c ++ pick (eqb c 1) (toldBy (headIn (take headLength input)) freshTally (drop headLength input)) []) (head-code-taken input long)
-        ∙ ap (λ (x : Head). headLines (headCode input) ++ pick (eqb (headCode input) 1) (toldBy x freshTally (drop headLength input)) []) (head-taken-in input)
+        ap (λ (x : Span). headComing x (drop (lacking freshSpan input) input)) held
+        ∙ ap (λ (k : ℕ). headLines (headCode (take headLength input)) ++ pick (eqb (headCode (take headLength input)) 1) (comingBy (headIn (take headLength input)) freshTally (drop k input)) []) lacks
+        ∙ ap (λ (c : ℕ). headLines c ++ pick (eqb c 1) (comingBy (headIn (take headLength input)) freshTally (drop headLength input)) []) (head-code-taken input long)
+        ∙ ap (λ (x : Head). headLines (headCode input) ++ pick (eqb (headCode input) 1) (comingBy x freshTally (drop headLength input)) []) (head-taken-in input)
 
-    whole-head : allBytes input → toldHead freshSpan input ≡ linesOf input
+    whole-head : allBytes input → comingHead freshSpan input ≡ linesOf input
     unfolding linesOf
     whole-head small = after-head ∙ by (eqb (headCode input) 1) refl
       where
         by : (one : Bool) → eqb (headCode input) 1 ≡ one
-            → headLines (headCode input) ++ pick (eqb (headCode input) 1) (toldBy (headIn input) freshTally (drop headLength input)) []
+            → headLines (headCode input) ++ pick (eqb (headCode input) 1) (comingBy (headIn input) freshTally (drop headLength input)) []
             ≡ openingLine ∷ pick (eqb (headCode input) 1) (linesFrom (headIn input) nothing (packetsIn (length input) (drop headLength input))) (refusalLine (headCode input) 0 ∷ [])
         by true e =
             let ok = passed input (eqb-true (headCode input) 1 e) .ok in
             rw e
             (ap (λ (ls : List Line). openingLine ∷ ls)
-            (told-lines (length input) (headIn input) (form-listed (headIn input) ok) freshTally nothing (drop headLength input) (simp length-drop (omega arith)) nothing-known (bytes-drop headLength input small)))
+            (coming-lines (length input) (headIn input) (form-listed (headIn input) ok) freshTally nothing (drop headLength input) (simp length-drop (omega arith)) nothing-known (bytes-drop headLength input small)))
         by false e = rw e
 
-  pub told-input : allBytes input → told freshSpan input ≡ linesOf input
-  told-input small = told-head freshSpan input refl (omega arith) ∙ elim (decLt (length input) headLength) [ yes short ↦ cut-head short | no short ↦ whole-head (omega arith) small ]
+  pub coming-input : allBytes input → coming freshSpan input ≡ linesOf input
+  coming-input small = coming-head freshSpan input refl (omega arith) ∙ elim (decLt (length input) headLength) [ yes short ↦ cut-head short | no short ↦ whole-head (omega arith) small ]
 
 pub report-is : PrintsTheReport
 unfolding report
-report-is pieces small near = printed-is pieces near ∙ ap textOf (told-input (joined pieces) small)
+report-is pieces small near = printed-is pieces near ∙ ap textOf (coming-input (joined pieces) small)

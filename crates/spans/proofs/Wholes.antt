@@ -21,7 +21,8 @@ use Rattle.hearing.proofs.Reaches.{form-with-own}
 pub header-length : (h : ℕ) → listed (formWithHeader h) ≡ true → lengthIn h ≡ totalOf (formWithHeader h)
 header-length h l = first (eqb h 0x85A4) refl
   where
-    fourth : (b : Bool) → eqb h 0x85A4 ≡ false → eqb h 0x8184 ≡ false → eqb h 0x8404 ≡ false → eqb h 0x8204 ≡ b → lengthIn h ≡ totalOf (formWithHeader h)
+    fourth : (b : Bool) → eqb h 0x85A4 ≡ false → eqb h 0x8184 ≡ false → eqb h 0x8404 ≡ false → eqb h 0x8204 ≡ b
+        → lengthIn h ≡ totalOf (formWithHeader h)
     fourth true p q r e = rw (eqb-true h 0x8204 e)
     fourth false p q r e = absurd (true-not-false (sym (rw (p, q, r, e) at l)))
 
