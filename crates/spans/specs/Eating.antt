@@ -61,10 +61,15 @@ abbrev pub silently : ℕ → ℕ → Span → Eating
 silently code n after = record { eaten = record { code = code; consumed = n; wrote = 0; span = after }; bytes = [] }
 
 -- 1: lines are due after n bytes; 20 where the slice has no room for all of them
+abbrev pub sayingAll : ℕ → List Line → Span → Eating
+sayingAll n lines after =
+    record {
+      eaten = record { code = Code.done; consumed = n; wrote = length (textOf lines); span = after };
+      bytes = textOf lines;
+    }
+
 abbrev pub saying : Span → ℕ → ℕ → List Line → Span → Eating
-saying s room n lines after =
-    pick (ltb room (length (textOf lines))) (refused Code.noRoom s)
-    (record { eaten = record { code = Code.done; consumed = n; wrote = length (textOf lines); span = after }; bytes = textOf lines })
+saying s room n lines after = pick (ltb room (length (textOf lines))) (refused Code.noRoom s) (sayingAll n lines after)
 
 -- The head: as many bytes as it lacks are taken of a piece.
 abbrev pub lacking : Span → List ℕ → ℕ
