@@ -235,7 +235,7 @@ unfolding headCode
 head-code-small s = given-below 42 (readChecks s) 1 refl (omega arith)
 
 -- a span that goes on, with so many bytes of its head
-abbrev filled : Span → ℕ → List ℕ → Span
+abbrev pub filled : Span → ℕ → List ℕ → Span
 filled s taken held = record { stopped = false; taken = taken; held = held; tally = s .tally }
 
 -- the head's part of a piece b ∷ bs

@@ -134,28 +134,37 @@ pub listening-says : (s : Span) (room : ℕ) (r : Reach) → (r .code ≡ 0 → 
     → listeningBy s room r ≡ saying s room (r .at) (heardLines (headOf s) r) (heardSpan s r)
 listening-says s room r e = rw (ne-eqb (r .code) 0 e)
 
--- The two answers of a call for which lines are due: those of d, told in a slice `out` that is `after` then.
-module _ (s next : Span) (n : ℕ) (lines : List Line) (d : Due) (are : dueLines d ≡ lines) (fit : sized d ≡ true) (out after : List ℕ) (told : Told)
-    (did : (told ≡ tellingOf d (length out) .told) × (after ≡ sets out 0 (tellingOf d (length out) .bytes))) (x : Eating) (is : x ≡ saying s (length out) n lines next) where
-  same-lines : tellingOf d (length out) ≡ telling (textOf lines) (length out)
-  same-lines = telling-sized d (length out) fit ∙ ap (λ (ls : List Line). telling (textOf ls) (length out)) are
+-- What was told of lines that are due: those of d, into a slice `out` that is `after` then, in a call that comes to x.
+pub record Tells (s next : Span) (n : ℕ) (lines : List Line) (out after : List ℕ) (told : Told) (x : Eating) : Type 0 where
+  pub due : Due
+  pub are : dueLines due ≡ lines
+  pub fit : sized due ≡ true
+  pub did : (told ≡ tellingOf due (length out) .told) × (after ≡ sets out 0 (tellingOf due (length out) .bytes))
+  pub is : x ≡ saying s (length out) n lines next
+
+-- The two answers of such a call.
+module _ {s next : Span} {n : ℕ} {lines : List Line} {out after : List ℕ} {told : Told} {x : Eating}
+    (t : Tells s next n lines out after told x) where
+  same-lines : tellingOf (t .due) (length out) ≡ telling (textOf lines) (length out)
+  same-lines = telling-sized (t .due) (length out) (t .fit) ∙ ap (λ (ls : List Line). telling (textOf ls) (length out)) (t .are)
 
   told-is : told ≡ telling (textOf lines) (length out) .told
-  told-is = did .0 ∙ ap (λ (t : Telling). t .told) same-lines
+  told-is = t .did .0 ∙ ap (λ (y : Telling). y .told) same-lines
 
   after-is : after ≡ sets out 0 (telling (textOf lines) (length out) .bytes)
-  after-is = did .1 ∙ ap (λ (t : Telling). sets out 0 (t .bytes)) same-lines
+  after-is = t .did .1 ∙ ap (λ (y : Telling). sets out 0 (y .bytes)) same-lines
 
   pub no-room : (e : Eaten) → e ≡ refused 20 s .eaten → told .code ≡ 20 → (e ≡ x .eaten) × (after ≡ sets out 0 (x .bytes))
   no-room e same short =
-      answers out (refused 20 s) (is ∙ refused-20 lines (length out) told told-is s next n short) same
+      answers out (refused 20 s) (t .is ∙ refused-20 lines (length out) told told-is s next n short) same
       (after-is ∙ ap (sets out 0) (nothing-told lines (length out) told told-is short))
 
   pub room : (e : Eaten) → e ≡ record { code = 1; consumed = n; wrote = told .wrote; span = next } → (told .code ≡ 20 → ⊥)
       → (e ≡ x .eaten) × (after ≡ sets out 0 (x .bytes))
   room e same fits =
-      answers out (record { eaten = record { code = 1; consumed = n; wrote = told .wrote; span = next }; bytes = textOf lines }) (is ∙ said lines (length out) told told-is s next n fits) same
-      (after-is ∙ ap (sets out 0) (text-told lines (length out) told told-is fits))
+      let all = said lines (length out) told told-is s next n fits in
+      answers out (record { eaten = record { code = 1; consumed = n; wrote = told .wrote; span = next }; bytes = textOf lines })
+      (t .is ∙ all) same (after-is ∙ ap (sets out 0) (text-told lines (length out) told told-is fits))
 
 -- ---- valid spans
 
@@ -170,7 +179,8 @@ module _ (s : Span) (ok : validSpan s ≡ true) (goes : s .stopped ≡ false) wh
   pub valid-head : headLength ≤ s .taken → allowed (headOf s) ≡ true
   valid-head whole =
       let here : headOk s ≡ true = and-right (inRange (s .tally)) (headOk s) unbroken in
-      let read : eqb (s .taken) headLength && eqb (headCode (s .held)) 1 ≡ true = or-rest (ltb (s .taken) headLength) _ here (le-ltb (s .taken) headLength whole) in
+      let read : eqb (s .taken) headLength && eqb (headCode (s .held)) 1 ≡ true
+      = or-rest (ltb (s .taken) headLength) _ here (le-ltb (s .taken) headLength whole) in
       passed (s .held) (eqb-true _ _ (and-right (eqb (s .taken) headLength) (eqb (headCode (s .held)) 1) read)) .ok
 
 -- ---- which part of a call

@@ -55,7 +55,9 @@ module _ (s : Span) (used : ℕ) (g : Going s used) (near : used ≤ farthest) w
 
   going-range : inRange (s .tally) ≡ true
   going-range =
-      range-by (s .tally) (le-leb (s .tally .begins + s .tally .taken) farthest near-end) (le-leb _ _ (g .counted .heard)) (le-leb _ _ (g .counted .captures)) (le-leb _ _ (g .counted .position))
+      let c = g .counted in
+      range-by (s .tally) (le-leb (s .tally .begins + s .tally .taken) farthest near-end)
+      (le-leb _ _ (c .heard)) (le-leb _ _ (c .captures)) (le-leb _ _ (c .position))
 
   going-head : headOk s ≡ true
   going-head = elim (decLt (s .taken) headLength) [ yes h ↦ or-left _ _ (lt-ltb _ _ h) | no h ↦ whole (g .packets (omega arith)) ]
@@ -97,8 +99,11 @@ passed-accepting t = omega arith
 passed-settled : (n : ℕ) (f : Form) (t : Tally) → passedBy (settled n f t .tally) ≡ passedBy t
 unfolding settled
 passed-settled n f t =
-    pick-keeps (λ (r : Reach). passedBy (r .tally) ≡ passedBy t) (eqb (heardCode f t) 0) _ _ (λ e. refl)
-    (λ e. pick-keeps (λ (r : Reach). passedBy (r .tally) ≡ passedBy t) (eqb (heardCode f t) 1 && not (closes t)) (record { at = n; code = 0; tally = accepting t }) (record { at = n; code = heardCode f t; tally = t }) (λ d. passed-accepting t) (λ d. refl))
+    let stays : Reach → Type 0 = λ r. passedBy (r .tally) ≡ passedBy t in
+    let quiet : Reach = record { at = n; code = 0; tally = accepting t } in
+    let due : Reach = record { at = n; code = heardCode f t; tally = t } in
+    pick-keeps stays (eqb (heardCode f t) 0) _ _ (λ e. refl)
+    (λ e. pick-keeps stays (eqb (heardCode f t) 1 && not (closes t)) quiet due (λ d. passed-accepting t) (λ d. refl))
 
 pub passed-reach : (bs : List ℕ) (n : ℕ) (f : Form) (t : Tally)
     → passedBy (reaching n f t bs .tally) + n ≡ passedBy t + reaching n f t bs .at

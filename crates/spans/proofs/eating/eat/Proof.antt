@@ -24,7 +24,8 @@ returns : tie.Need-returns
 returns c =
     let v = c .before .before in
     let a = v .before .before .before .args in
-    answers (now (a .out)) _ (eating-broken (a .s) (now (a .piece)) (length (now (a .out))) (sym (v .is-valid .ensures) ∙ not-true _ (c .before .if1 .taken))) (c .refuse .ensures) refl
+    let bad = sym (v .is-valid .ensures) ∙ not-true _ (c .before .if1 .taken) in
+    answers (now (a .out)) _ (eating-broken (a .s) (now (a .piece)) (length (now (a .out))) bad) (c .refuse .ensures) refl
 
 returns-2 : tie.Need-returns-2
 returns-2 c =
@@ -43,14 +44,16 @@ returns-3 c =
     let tested = o .before .before in
     let e = tested .before .before in
     let a = e .before .before .before .before .before .args in
-    answers (now (a .out)) _ (eating-head (a .s) (now (a .piece)) (length (now (a .out))) (valid (e .before)) (e .if2 .left) (tested .if3 .taken)) (o .«open» .ensures .0) (o .«open» .ensures .1)
+    let is = eating-head (a .s) (now (a .piece)) (length (now (a .out))) (valid (e .before)) (e .if2 .left) (tested .if3 .taken) in
+    answers (now (a .out)) _ is (o .«open» .ensures .0) (o .«open» .ensures .1)
 
 listen-requires : tie.Need-listen-requires
 listen-requires c κs =
     let tested = c .before in
     let e = tested .before .before in
     let s = e .before .before .before .before .before in
-    (valid-head (s .args .s) (valid (e .before)) (e .if2 .left) (tested .if3 .left), valid-range (s .args .s) (valid (e .before)) (e .if2 .left))
+    let ok = valid (e .before) in
+    (valid-head (s .args .s) ok (e .if2 .left) (tested .if3 .left), valid-range (s .args .s) ok (e .if2 .left))
 
 same-length-2 : tie.Need-same-length-2
 same-length-2 c = search needs
@@ -61,7 +64,8 @@ returns-4 c =
     let tested = l .before .before in
     let e = tested .before .before in
     let a = e .before .before .before .before .before .args in
-    answers (now (a .out)) _ (eating-packets (a .s) (now (a .piece)) (length (now (a .out))) (valid (e .before)) (e .if2 .left) (tested .if3 .left)) (l .listen .ensures .0) (l .listen .ensures .1)
+    let is = eating-packets (a .s) (now (a .piece)) (length (now (a .out))) (valid (e .before)) (e .if2 .left) (tested .if3 .left) in
+    answers (now (a .out)) _ is (l .listen .ensures .0) (l .listen .ensures .1)
 
 pub eat-spec : {M : Type 1} → statement M
 eat-spec =
