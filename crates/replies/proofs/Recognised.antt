@@ -1,12 +1,12 @@
 -- A reply with a value that a valid box could give is read as that value.
-use Prim.Native.Nat.{ℕ, zero, suc, _^_, _<_}
+use Prim.Native.Nat.{ℕ, _^_, _<_}
 use mathlib.Core.Path.{_≡_, refl, sym, ap, subst, _∙_}
 use mathlib.Core.Bool.{Bool, true, false, _||_, not}
 use mathlib.Core.List.{List, [], _∷_, _++_}
 use native.Mathlib.Nat.{lt-of-lt-of-le}
 use native.Mathlib.Omega.{arith}
 use lib.Dec.{eqb, ltb, lit<, lit≤}
-use lib.ListN.{length, getD, take, replicate}
+use lib.ListN.{length, take, replicate}
 use lib.Seq.{sets}
 use borrow.Author.Tests.{eq-eqb, eqb-true, eqb-false, ltb-true}
 use Rattle.wire.specs.Choice.{pick, oneOf}
@@ -21,7 +21,7 @@ use Rattle.tuning.specs.Bands.{bands, rangeBytes}
 use Rattle.layouts.specs.Layouts.{laid}
 use Rattle.layouts.proofs.Sizes.{least, length-laid}
 use Rattle.layouts.proofs.Values.{value-read}
-use Rattle.items.specs.Items.{nameBytes, versionTable, isVersion, frequency}
+use Rattle.items.specs.Items.{nameBytes, frequency}
 use Rattle.items.specs.Answer.{framed, rangeBody}
 use Rattle.wire.proofs.Signed.{coded-below}
 use Rattle.items.proofs.Versions.{version-has}

@@ -1,12 +1,11 @@
 -- Wishes case by case, and by their rows.
 use Prim.Native.Nat.{ℕ, _+_, _≤_}
-use mathlib.Core.Path.{_≡_, refl}
-use mathlib.Core.List.{map}
+use mathlib.Core.Path.{refl}
 use lib.Dec.{eqb, lit≤}
 use lib.IntN.{ℤ, pos}
 use Rattle.wire.specs.Choice.{pick}
 use Rattle.layouts.specs.Layouts.{sizeOf}
-use Rattle.items.specs.Items.{echoes, Item, items, name, serial, interface, versions}
+use Rattle.items.specs.Items.{echoes, Item, name, serial, interface, versions}
 use Rattle.items.specs.Items.{status, state, frequency, gain, clock, rate, packetSize}
 use Rattle.items.specs.Table.{offered}
 use Rattle.wishes.specs.declared.StateFields.{StateFields}

@@ -1,6 +1,6 @@
 -- What the harvester asks is what the box understands: the message of an allowed wish is refused only where the box is
 -- running and its row is locked, and a box that takes it has the settings that the wish means.
-use Prim.Native.Nat.{ℕ, _<_}
+use Prim.Native.Nat.{ℕ}
 use mathlib.Core.Path.{_≡_, refl, sym, ap, _∙_}
 use mathlib.Core.Bool.{Bool, true, false, not, _&&_, _||_}
 use mathlib.Core.List.{List, [], _∷_, _++_}
@@ -9,7 +9,7 @@ use native.Mathlib.Nat.{mod-eq-of-lt}
 use native.Mathlib.Omega.{arith}
 use lib.Dec.{eqb, ltb}
 use borrow.Author.Tests.{eqb-false}
-use lib.ListN.{getD, replicate}
+use lib.ListN.{replicate}
 use Rattle.wire.specs.Choice.{pick, check, firstOf}
 use Rattle.wire.specs.Lists.{allBytes}
 use Rattle.wire.specs.Number.{number, bytes}
