@@ -11,7 +11,7 @@ ghost use lib.ListN.{length};
 ghost use Rattle.wire.specs.Choice.{pick};
 ghost use lib.Seq.{sets};
 ghost use Rattle.replies.specs.Reading.{told as toldBy, toldOf as readAs};
-ghost use Rattle.wishes.specs.Writing.{told, toldOf, bytesWritten};
+ghost use Rattle.wishes.specs.Writing.{writtenSays, writingOf, bytesWritten};
 ghost use Rattle.harvestdoor.specs.Asking.{wishOf, shown as shownOf, asShown, saidOf, refusedBy};
 
 // The wish of a number, with the fields of every case; a wish that no box grants where the number names none.
@@ -44,25 +44,25 @@ fn wish_of(which: u8, byte: u8, mode: u8, gain: i8, word: u32, hertz: u64) -> Wi
     }
 }
 
-// What the writer told: its code, and how many bytes it wrote.
-struct Told {
+// What the writer answered: its code, and how many bytes it wrote.
+struct Wrote {
     code: u8,
     wrote: usize,
 }
 
-fn told_by(w: Written) -> Told
-    ensures { λ r. ⌜ record { code = r .code; wrote = r .wrote } ≡ told w ⌝ }
+fn wrote_by(w: Written) -> Wrote
+    ensures { λ r. ⌜ record { code = r .code; wrote = r .wrote } ≡ writtenSays w ⌝ }
 {
     match w {
-        Written::Message(n) => Told {
+        Written::Message(n) => Wrote {
             code: codes::DONE,
             wrote: n,
         },
-        Written::NotAllowed => Told {
+        Written::NotAllowed => Wrote {
             code: codes::VALUE_NOT_ALLOWED,
             wrote: 0,
         },
-        Written::NoRoom => Told {
+        Written::NoRoom => Wrote {
             code: codes::NO_ROOM,
             wrote: 0,
         },
@@ -82,13 +82,13 @@ pub extern "C" fn skvornela_wish(
     wrote: &mut usize,
 ) -> u8
     ensures { λ r.
-        ⌜ (record { code = r; wrote = now (wrote .exit) } ≡ toldOf (wishOf which byte mode gain word hertz) (length (now (buffer .entry))))
+        ⌜ (record { code = r; wrote = now (wrote .exit) } ≡ writingOf (wishOf which byte mode gain word hertz) (length (now (buffer .entry))))
         × (now (buffer .exit)
         ≡ sets (now (buffer .entry)) 0 (bytesWritten (wishOf which byte mode gain word hertz) (length (now (buffer .entry))))) ⌝ }
 {
-    let told = told_by(wishes::write(wish_of(which, byte, mode, gain, word, hertz), buffer));
-    *wrote = told.wrote;
-    told.code
+    let answer = wrote_by(wishes::write(wish_of(which, byte, mode, gain, word, hertz), buffer));
+    *wrote = answer.wrote;
+    answer.code
 }
 
 // What a reply says, as numbers: the code, the item's code, how many values there are, the first two of them, and a gain.

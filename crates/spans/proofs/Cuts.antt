@@ -45,8 +45,8 @@ use Rattle.hearing.proofs.Ranges.{reach-sane}
 -- from a head on that has been taken so far, with what is left of the bytes
 abbrev pub headComing : Span → List ℕ → List Line
 headComing after left =
-    let code = headCode (after .held) in
-    pick (ltb (after .taken) headLength) (openingLine ∷ refusalLine 40 0 ∷ [])
+    let code = headCode (after .head) in
+    pick (ltb (after .came) headLength) (openingLine ∷ refusalLine 40 0 ∷ [])
     (headLines code ++ ifOne code (comingBy (headOf after) (after .tally) left))
 
 -- from a span on whose head is not whole
@@ -54,19 +54,19 @@ abbrev pub comingHead : Span → List ℕ → List Line
 comingHead s bs = headComing (headTaken s bs) (drop (lacking s bs) bs)
 
 unfoldable pub coming : Span → List ℕ → List Line
-coming s bs = pick (s .stopped) [] (pick (ltb (s .taken) headLength) (comingHead s bs) (comingBy (headOf s) (s .tally) bs))
+coming s bs = pick (s .stopped) [] (pick (ltb (s .came) headLength) (comingHead s bs) (comingBy (headOf s) (s .tally) bs))
 
 coming-stopped : (s : Span) (bs : List ℕ) → s .stopped ≡ true → coming s bs ≡ []
 unfolding coming
 coming-stopped s bs e = rw e
 
-pub coming-head : (s : Span) (bs : List ℕ) → s .stopped ≡ false → s .taken < headLength → coming s bs ≡ comingHead s bs
+pub coming-head : (s : Span) (bs : List ℕ) → s .stopped ≡ false → s .came < headLength → coming s bs ≡ comingHead s bs
 unfolding coming
-coming-head s bs e h = rw (e, lt-ltb (s .taken) headLength h)
+coming-head s bs e h = rw (e, lt-ltb (s .came) headLength h)
 
-coming-packets : (s : Span) (bs : List ℕ) → s .stopped ≡ false → headLength ≤ s .taken → coming s bs ≡ comingBy (headOf s) (s .tally) bs
+coming-packets : (s : Span) (bs : List ℕ) → s .stopped ≡ false → headLength ≤ s .came → coming s bs ≡ comingBy (headOf s) (s .tally) bs
 unfolding coming
-coming-packets s bs e h = rw (e, le-ltb (s .taken) headLength h)
+coming-packets s bs e h = rw (e, le-ltb (s .came) headLength h)
 
 coming-end : (h : Head) (t : Tally) → comingBy h t [] ≡ endLines h t
 unfolding comingBy
@@ -98,7 +98,7 @@ says : (s : Span) (n : ℕ) (lines : List Line) (after : Span) → length (textO
 says s n lines after fits = rw (le-ltb room (length (textOf lines)) fits)
 
 -- the packets' part of a piece b ∷ bs
-module _ (s : Span) (used b : ℕ) (bs rest : List ℕ) (goes : s .stopped ≡ false) (whole : headLength ≤ s .taken)
+module _ (s : Span) (used b : ℕ) (bs rest : List ℕ) (goes : s .stopped ≡ false) (whole : headLength ≤ s .came)
     (g : Going s used) (near : used + length (b ∷ bs) ≤ farthest) where
   abbrev h : Head
   h = headOf s
@@ -236,10 +236,10 @@ head-code-small s = given-below 42 (readChecks s) 1 refl (omega arith)
 
 -- a span that goes on, with so many bytes of its head
 abbrev pub filled : Span → ℕ → List ℕ → Span
-filled s taken held = record { stopped = false; taken = taken; held = held; tally = s .tally }
+filled s came head = record { stopped = false; came = came; head = head; tally = s .tally }
 
 -- the head's part of a piece b ∷ bs
-module _ (s : Span) (used b : ℕ) (bs rest : List ℕ) (goes : s .stopped ≡ false) (few : s .taken < headLength) (g : Going s used) where
+module _ (s : Span) (used b : ℕ) (bs rest : List ℕ) (goes : s .stopped ≡ false) (few : s .came < headLength) (g : Going s used) where
   abbrev chunk : List ℕ
   chunk = b ∷ bs
 
@@ -253,11 +253,11 @@ module _ (s : Span) (used b : ℕ) (bs rest : List ℕ) (goes : s .stopped ≡ f
   abbrev after : Span
   after = headTaken s chunk
 
-  after-long : length (after .held) ≡ 14
-  after-long = length-sets (s .held) (s .taken) (take lacked chunk) ∙ g .long
+  after-long : length (after .head) ≡ 14
+  after-long = length-sets (s .head) (s .came) (take lacked chunk) ∙ g .long
 
   -- the piece ends before the head does
-  module _ (early : s .taken + length chunk < headLength) where
+  module _ (early : s .came + length chunk < headLength) where
     all : lacked ≡ length chunk
     all = omega arith
 
@@ -268,21 +268,21 @@ module _ (s : Span) (used b : ℕ) (bs rest : List ℕ) (goes : s .stopped ≡ f
     split : lackedOf ≡ length chunk + more
     split = omega (arith, length-append chunk rest, all)
 
-    same-held : sets (s .held) (s .taken) (take lackedOf (chunk ++ rest)) ≡ sets (after .held) (after .taken) (take more rest)
+    same-held : sets (s .head) (s .came) (take lackedOf (chunk ++ rest)) ≡ sets (after .head) (after .came) (take more rest)
     same-held =
         let first : take lacked chunk ≡ chunk = take-all lacked chunk (omega (arith, all)) in
         let both : take lackedOf (chunk ++ rest) ≡ chunk ++ take more rest
         = ap (λ (k : ℕ). take k (chunk ++ rest)) split ∙ take-append-add chunk rest more in
-        ap (sets (s .held) (s .taken)) both
-        ∙ sym (sets-append (s .held) (s .taken) chunk (take more rest))
-        ∙ ap (λ (l : List ℕ). sets (sets (s .held) (s .taken) l) (s .taken + length chunk) (take more rest)) (sym first)
-        ∙ ap (λ (k : ℕ). sets (after .held) (s .taken + k) (take more rest)) (sym all)
+        ap (sets (s .head) (s .came)) both
+        ∙ sym (sets-append (s .head) (s .came) chunk (take more rest))
+        ∙ ap (λ (l : List ℕ). sets (sets (s .head) (s .came) l) (s .came + length chunk) (take more rest)) (sym first)
+        ∙ ap (λ (k : ℕ). sets (after .head) (s .came + k) (take more rest)) (sym all)
 
     same-taken : headTaken s (chunk ++ rest) ≡ headTaken after rest
     same-taken =
-        let count : s .taken + lackedOf ≡ after .taken + more = omega (arith, split, all) in
-        ap (λ (k : ℕ). filled s k (sets (s .held) (s .taken) (take lackedOf (chunk ++ rest)))) count
-        ∙ ap (filled s (after .taken + more)) same-held
+        let count : s .came + lackedOf ≡ after .came + more = omega (arith, split, all) in
+        ap (λ (k : ℕ). filled s k (sets (s .head) (s .came) (take lackedOf (chunk ++ rest)))) count
+        ∙ ap (filled s (after .came + more)) same-held
 
     same-left : drop lackedOf (chunk ++ rest) ≡ drop more rest
     same-left = ap (λ (k : ℕ). drop k (chunk ++ rest)) split ∙ drop-append-add chunk rest more
@@ -313,18 +313,18 @@ module _ (s : Span) (used b : ℕ) (bs rest : List ℕ) (goes : s .stopped ≡ f
         }
 
   -- the head ends within the piece
-  module _ (late : headLength ≤ s .taken + length chunk) where
-    lacks : lacked ≡ headLength - s .taken
+  module _ (late : headLength ≤ s .came + length chunk) where
+    lacks : lacked ≡ headLength - s .came
     lacks = omega arith
 
     lacks-same : lackedOf ≡ lacked
     lacks-same = omega (arith, length-append chunk rest)
 
-    whole : after .taken ≡ headLength
+    whole : after .came ≡ headLength
     whole = omega (arith, lacks)
 
     abbrev code : ℕ
-    code = headCode (after .held)
+    code = headCode (after .head)
 
     abbrev left : List ℕ
     left = drop lacked chunk ++ rest
@@ -333,8 +333,8 @@ module _ (s : Span) (used b : ℕ) (bs rest : List ℕ) (goes : s .stopped ≡ f
     same-after =
         let part : take lackedOf (chunk ++ rest) ≡ take lacked chunk
         = ap (λ (k : ℕ). take k (chunk ++ rest)) lacks-same ∙ take-append-le lacked chunk rest (omega (arith, lacks)) in
-        ap (λ (k : ℕ). filled s (s .taken + k) (sets (s .held) (s .taken) (take lackedOf (chunk ++ rest)))) lacks-same
-        ∙ ap (λ (l : List ℕ). filled s (after .taken) (sets (s .held) (s .taken) l)) part
+        ap (λ (k : ℕ). filled s (s .came + k) (sets (s .head) (s .came) (take lackedOf (chunk ++ rest)))) lacks-same
+        ∙ ap (λ (l : List ℕ). filled s (after .came) (sets (s .head) (s .came) l)) part
 
     same-rest : drop lackedOf (chunk ++ rest) ≡ left
     same-rest = ap (λ (k : ℕ). drop k (chunk ++ rest)) lacks-same ∙ drop-append-le lacked chunk rest (omega (arith, lacks))
@@ -369,7 +369,7 @@ module _ (s : Span) (used b : ℕ) (bs rest : List ℕ) (goes : s .stopped ≡ f
               (coming-head s (chunk ++ rest) goes few
               ∙ ap (λ (x : Span). headComing x (drop lackedOf (chunk ++ rest))) same-after
               ∙ ap (headComing after) same-rest
-              ∙ (rw (le-ltb (after .taken) headLength (omega (arith, whole))))
+              ∙ (rw (le-ltb (after .came) headLength (omega (arith, whole))))
               ∙ ap (λ (ls : List Line). headLines code ++ ls) rest-follows)
               ∙ text-append (headLines code) (coming (headRead code after) left);
           moves = omega (arith, lacks);
@@ -379,18 +379,18 @@ module _ (s : Span) (used b : ℕ) (bs rest : List ℕ) (goes : s .stopped ≡ f
 
   call-head : OneCall s used chunk rest (opening s chunk room)
   unfolding opening
-  call-head = elim (decLt (s .taken + length chunk) headLength) [ yes early ↦ waits early | no late ↦ said (omega arith) ]
+  call-head = elim (decLt (s .came + length chunk) headLength) [ yes early ↦ waits early | no late ↦ said (omega arith) ]
     where
-      waits : s .taken + length chunk < headLength → OneCall s used chunk rest (openingBy s room lacked after)
+      waits : s .came + length chunk < headLength → OneCall s used chunk rest (openingBy s room lacked after)
       waits early =
           let by = opening-waits s after room lacked (omega (arith, all early)) in
           subst (OneCall s used chunk rest) (sym by) (call-early early)
 
-      said : headLength ≤ s .taken + length chunk → OneCall s used chunk rest (openingBy s room lacked after)
+      said : headLength ≤ s .came + length chunk → OneCall s used chunk rest (openingBy s room lacked after)
       said late =
-          let n : ℕ = headCode (after .held) in
+          let n : ℕ = headCode (after .head) in
           let by = opening-says s after room lacked n (omega (arith, whole late)) refl in
-          let fits = head-room n (omega (arith, head-code-small (after .held))) in
+          let fits = head-room n (omega (arith, head-code-small (after .head))) in
           subst (OneCall s used chunk rest) (sym (by ∙ says s lacked (headLines n) (headRead n after) fits)) (call-late late)
 
 -- ---- any call, all calls of a piece, all pieces
@@ -410,12 +410,12 @@ one-call s used b bs rest good near = by (s .stopped) refl
 
     by : (stop : Bool) → s .stopped ≡ stop → Call (eatingOf s piece′ room)
     by true e = subst Call (sym (eating-stopped s piece′ room (stopped-valid s e) e)) (call-stopped s used piece′ rest e (omega arith))
-    by false e = elim (decLt (s .taken) headLength) [ yes few ↦ opened few | no few ↦ heard (omega arith) ]
+    by false e = elim (decLt (s .came) headLength) [ yes few ↦ opened few | no few ↦ heard (omega arith) ]
       where
-        opened : s .taken < headLength → Call (eatingOf s piece′ room)
+        opened : s .came < headLength → Call (eatingOf s piece′ room)
         opened few = subst Call (sym (eating-head s piece′ room (valid e) e few)) (call-head s used b bs rest e few (good e))
 
-        heard : headLength ≤ s .taken → Call (eatingOf s piece′ room)
+        heard : headLength ≤ s .came → Call (eatingOf s piece′ room)
         heard all′ =
             subst Call (sym (eating-packets s piece′ room (valid e) e all′)) (call-packets s used b bs rest e all′ (good e) near)
 
@@ -464,7 +464,7 @@ end-comes s used good near = by (s .stopped) refl
     by : (stop : Bool) → s .stopped ≡ stop → finishingOf s room .bytes ≡ textOf (coming s [])
     by true e =
         ap (λ (t : Telling). t .bytes) (finishing-stopped s room (stopped-valid s e) e) ∙ ap textOf (sym (coming-stopped s [] e))
-    by false e = elim (decLt (s .taken) headLength) [ yes few ↦ cut few | no few ↦ ended (omega arith) ]
+    by false e = elim (decLt (s .came) headLength) [ yes few ↦ cut few | no few ↦ ended (omega arith) ]
       where
         -- the last lines are said, where they are those and fit
         last : (lines : List Line) → lastLines s ≡ lines → length (textOf lines) ≤ room → finishingOf s room .bytes ≡ textOf lines
@@ -473,17 +473,17 @@ end-comes s used good near = by (s .stopped) refl
             ∙ ap (λ (ls : List Line). telling (textOf ls) room .bytes) are
             ∙ whole-text lines fits
 
-        cut : s .taken < headLength → finishingOf s room .bytes ≡ textOf (coming s [])
+        cut : s .came < headLength → finishingOf s room .bytes ≡ textOf (coming s [])
         cut few =
-            let short : comingHead s [] ≡ headLines 40 = rw (lt-ltb (headTaken s [] .taken) headLength (omega arith)) in
-            last (headLines 40) (rw (lt-ltb (s .taken) headLength few)) (head-room 40 (omega arith))
+            let short : comingHead s [] ≡ headLines 40 = rw (lt-ltb (headTaken s [] .came) headLength (omega arith)) in
+            last (headLines 40) (rw (lt-ltb (s .came) headLength few)) (head-room 40 (omega arith))
             ∙ ap textOf (sym (coming-head s [] e few ∙ short))
 
-        ended : headLength ≤ s .taken → finishingOf s room .bytes ≡ textOf (coming s [])
+        ended : headLength ≤ s .came → finishingOf s room .bytes ≡ textOf (coming s [])
         ended all′ =
             let h′ : Head = headOf s in
             let fits = end-room h′ (s .tally) (going-short s used (good e) near all′) in
-            last (endLines h′ (s .tally)) (rw (le-ltb (s .taken) headLength all′)) fits
+            last (endLines h′ (s .tally)) (rw (le-ltb (s .came) headLength all′)) fits
             ∙ ap textOf (sym (coming-packets s [] e all′ ∙ coming-end h′ (s .tally)))
 
 pub prints-coming : (pieces : List (List ℕ)) (s : Span) (used : ℕ) → (s .stopped ≡ false → Going s used)

@@ -43,12 +43,12 @@ valid-by s p q r = cc
 
 -- ---- the head
 
-pub lacked : (s : Span) (piece : List ℕ) (k : ℕ) → k ≡ min (headLength - s .taken) (length piece) → k ≡ length (take k piece)
+pub lacked : (s : Span) (piece : List ℕ) (k : ℕ) → k ≡ min (headLength - s .came) (length piece) → k ≡ length (take k piece)
 lacked s piece k is = sym (length-take-le k piece (omega arith))
 
-pub head-taken : (s : Span) (piece held : List ℕ) (k : ℕ) → k ≡ min (headLength - s .taken) (length piece)
-    → held ≡ sets (s .held) (s .taken) (take k piece)
-    → record { stopped = false; taken = s .taken + k; held = held; tally = s .tally } ≡ headTaken s piece
+pub head-taken : (s : Span) (piece held : List ℕ) (k : ℕ) → k ≡ min (headLength - s .came) (length piece)
+    → held ≡ sets (s .head) (s .came) (take k piece)
+    → record { stopped = false; came = s .came + k; head = held; tally = s .tally } ≡ headTaken s piece
 head-taken s piece held k is stored = rw (stored, is)
 
 -- ---- the lines that are due
@@ -105,21 +105,21 @@ pub answers : {e : Eaten} (out : List ℕ) {after : List ℕ} {x : Eating} (y : 
 answers {e} out {after} y same p q = subst (λ (z : Eating). (e ≡ z .eaten) × (after ≡ sets out 0 (z .bytes))) (sym same) (p, q)
 
 pub opening-by : (s : Span) (piece : List ℕ) (room : ℕ) (after : Span) → after ≡ headTaken s piece
-    → opening s piece room ≡ openingBy s room (after .taken - s .taken) after
+    → opening s piece room ≡ openingBy s room (after .came - s .came) after
 unfolding opening
 opening-by s piece room after is =
-    let taken : after .taken ≡ s .taken + lacking s piece = ap (λ (x : Span). x .taken) is in
-    let count : after .taken - s .taken ≡ lacking s piece = omega arith in
+    let taken : after .came ≡ s .came + lacking s piece = ap (λ (x : Span). x .came) is in
+    let count : after .came - s .came ≡ lacking s piece = omega arith in
     ap (λ (x : Span). openingBy s room (lacking s piece) x) (sym is) ∙ ap (λ (n : ℕ). openingBy s room n after) (sym count)
 
 -- a head that is not whole
-pub opening-waits : (s after : Span) (room n : ℕ) → after .taken < headLength → openingBy s room n after ≡ silently 0 n after
-opening-waits s after room n h = rw (lt-ltb (after .taken) headLength h)
+pub opening-waits : (s after : Span) (room n : ℕ) → after .came < headLength → openingBy s room n after ≡ silently 0 n after
+opening-waits s after room n h = rw (lt-ltb (after .came) headLength h)
 
 -- a whole head
-pub opening-says : (s after : Span) (room n code : ℕ) → headLength ≤ after .taken → code ≡ headCode (after .held)
+pub opening-says : (s after : Span) (room n code : ℕ) → headLength ≤ after .came → code ≡ headCode (after .head)
     → openingBy s room n after ≡ saying s room n (headLines code) (headRead code after)
-opening-says s after room n code h is = rw (le-ltb (after .taken) headLength h, is)
+opening-says s after room n code h is = rw (le-ltb (after .came) headLength h, is)
 
 pub listening-by : (s : Span) (piece : List ℕ) (room : ℕ) (r : Reach) → r ≡ reaching 0 (formIn (headOf s)) (s .tally) piece
     → listening s piece room ≡ listeningBy s room r
@@ -176,12 +176,12 @@ module _ (s : Span) (ok : validSpan s ≡ true) (goes : s .stopped ≡ false) wh
   valid-range = and-left (inRange (s .tally)) (headOk s) unbroken
 
   -- the head of a valid span that has all of it is one that may be written
-  pub valid-head : headLength ≤ s .taken → allowed (headOf s) ≡ true
+  pub valid-head : headLength ≤ s .came → allowed (headOf s) ≡ true
   valid-head whole =
       let here : headOk s ≡ true = and-right (inRange (s .tally)) (headOk s) unbroken in
-      let read : eqb (s .taken) headLength && eqb (headCode (s .held)) 1 ≡ true
-      = or-rest (ltb (s .taken) headLength) _ here (le-ltb (s .taken) headLength whole) in
-      passed (s .held) (eqb-true _ _ (and-right (eqb (s .taken) headLength) (eqb (headCode (s .held)) 1) read)) .ok
+      let read : eqb (s .came) headLength && eqb (headCode (s .head)) 1 ≡ true
+      = or-rest (ltb (s .came) headLength) _ here (le-ltb (s .came) headLength whole) in
+      passed (s .head) (eqb-true _ _ (and-right (eqb (s .came) headLength) (eqb (headCode (s .head)) 1) read)) .ok
 
 -- ---- which part of a call
 
@@ -194,13 +194,13 @@ module _ (s : Span) (piece : List ℕ) (room′ : ℕ) where
   unfolding eatingOf
   eating-stopped v p = rw (v, p)
 
-  pub eating-head : validSpan s ≡ true → s .stopped ≡ false → s .taken < headLength → eatingOf s piece room′ ≡ opening s piece room′
+  pub eating-head : validSpan s ≡ true → s .stopped ≡ false → s .came < headLength → eatingOf s piece room′ ≡ opening s piece room′
   unfolding eatingOf
-  eating-head v p h = rw (v, p, lt-ltb (s .taken) headLength h)
+  eating-head v p h = rw (v, p, lt-ltb (s .came) headLength h)
 
-  pub eating-packets : validSpan s ≡ true → s .stopped ≡ false → headLength ≤ s .taken → eatingOf s piece room′ ≡ listening s piece room′
+  pub eating-packets : validSpan s ≡ true → s .stopped ≡ false → headLength ≤ s .came → eatingOf s piece room′ ≡ listening s piece room′
   unfolding eatingOf
-  eating-packets v p h = rw (v, p, le-ltb (s .taken) headLength h)
+  eating-packets v p h = rw (v, p, le-ltb (s .came) headLength h)
 
 module _ (s : Span) (room′ : ℕ) where
   pub finishing-broken : validSpan s ≡ false → finishingOf s room′ ≡ silentWith 21

@@ -68,7 +68,7 @@ module _ (input : List ℕ) where
   unfolding linesOf
   cut-head short =
       let code : headCode input ≡ 40 = code-by input (lt-ltb (length input) headLength short) refl refl refl in
-      rw (lt-ltb (headTaken freshSpan input .taken) headLength (omega arith), code)
+      rw (lt-ltb (headTaken freshSpan input .came) headLength (omega arith), code)
 
   -- the head is whole
   abbrev first : List ℕ

@@ -52,8 +52,8 @@ module _ (s : Span) (piece : List ℕ) (room : ℕ) where
   unfolding opening
   opening-within =
       let after : Span = headTaken s piece in
-      let code : ℕ = headCode (after .held) in
-      pick-keeps (Within piece room) (ltb (after .taken) headLength) _ _ (λ e. silently-within 0 (lacking s piece) after (omega arith))
+      let code : ℕ = headCode (after .head) in
+      pick-keeps (Within piece room) (ltb (after .came) headLength) _ _ (λ e. silently-within 0 (lacking s piece) after (omega arith))
       (λ e. saying-within (lacking s piece) (headLines code) (headRead code after) (omega arith))
 
   listening-within : Within piece room (listening s piece room)
@@ -70,7 +70,7 @@ module _ (s : Span) (piece : List ℕ) (room : ℕ) where
       pick-keeps (Within piece room) (not (validSpan s)) _ _ (λ e. refused-within 21)
       (λ e.
       pick-keeps (Within piece room) (s .stopped) _ _ (λ q. silently-within 2 (length piece) s (omega arith))
-      (λ q. pick-keeps (Within piece room) (ltb (s .taken) headLength) _ _ (λ h. opening-within) (λ h. listening-within)))
+      (λ q. pick-keeps (Within piece room) (ltb (s .came) headLength) _ _ (λ h. opening-within) (λ h. listening-within)))
 
 pub record TellsWithin (room : ℕ) (t : Telling) : Type 0 where
   pub wrote : t .told .wrote ≤ room

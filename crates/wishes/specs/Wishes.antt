@@ -111,7 +111,7 @@ cellsIn (i ∷ is) =
     ++ cellsIn is
 
 -- the values that wishes hold
-pub record Held : Type 0 where
+pub record WishValues : Type 0 where
   pub id : ℕ
   pub state : StateFields
   pub frequency : ℕ
@@ -120,7 +120,7 @@ pub record Held : Type 0 where
   pub rate : ℕ
   pub size : ℕ
 
-abbrev pub eachWish : Held → List Wish
+abbrev pub eachWish : WishValues → List Wish
 eachWish v =
     AskName
     ∷ AskSerial
@@ -147,13 +147,13 @@ cellAsked w = record { code = asking w .item .code; kind = asking w .kind }
 
 -- they ask for the same, in the table's order
 abbrev pub OneForEach : Type 0
-OneForEach = (v : Held) → map cellAsked (eachWish v) ≡ cellsIn items
+OneForEach = (v : WishValues) → map cellAsked (eachWish v) ≡ cellsIn items
 
 -- and there is no other wish
 pub record Among (w : Wish) : Type 0 where
-  pub held : Held
+  pub values : WishValues
   pub place : ℕ
-  pub is : getD (eachWish held) place AskName ≡ w
+  pub is : getD (eachWish values) place AskName ≡ w
 
 -- "Lengths are totals": header and item code are four bytes, then comes the echoed byte, and the rest is the value
 abbrev pub widthIn : Item → Offer → ℕ

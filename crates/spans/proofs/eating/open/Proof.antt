@@ -29,10 +29,10 @@ abbrev after : tie.After-take-head → Span
 after c = c .take-head .result
 
 abbrev count : tie.After-take-head → ℕ
-count c = after c .taken - given c .taken
+count c = after c .came - given c .came
 
-grows : (c : tie.After-take-head) → given c .taken ≤ after c .taken
-grows c = omega (arith, ap (λ (x : Span). x .taken) (c .take-head .ensures))
+grows : (c : tie.After-take-head) → given c .came ≤ after c .came
+grows c = omega (arith, ap (λ (x : Span). x .came) (c .take-head .ensures))
 
 opens : (c : tie.After-take-head) → opening (given c) (piece c) (length (out c)) ≡ openingBy (given c) (length (out c)) (count c) (after c)
 opens c = opening-by (given c) (piece c) (length (out c)) (after c) (c .take-head .ensures)
