@@ -82,7 +82,8 @@ pub extern "C" fn skvornela_wish(
     wrote: &mut usize,
 ) -> u8
     ensures { λ r.
-        ⌜ (record { code = r; wrote = now (wrote .exit) } ≡ writingOf (wishOf which byte mode gain word hertz) (length (now (buffer .entry))))
+        ⌜ (record { code = r; wrote = now (wrote .exit) }
+        ≡ writingOf (wishOf which byte mode gain word hertz) (length (now (buffer .entry))))
         × (now (buffer .exit)
         ≡ sets (now (buffer .entry)) 0 (bytesWritten (wishOf which byte mode gain word hertz) (length (now (buffer .entry))))) ⌝ }
 {
