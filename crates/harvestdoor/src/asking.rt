@@ -157,8 +157,13 @@ fn shown_by(reply: Reply) -> Shown
         Reply::Status(running) => saying(table::STATUS, 1, status_byte(running), 0),
         Reply::State(fields) => saying(table::STATE, 2, fields.run as u64, fields.mode as u64),
         Reply::Frequency(hz) => saying(table::FREQUENCY, 1, hz, 0),
-        // minimum, maximum and oscillator of each band; the first two are those of the first band, which tuning keeps to itself
-        Reply::FrequencyRange => saying(table::FREQUENCY, 6, 100_000, 34_000_000),
+        // minimum, maximum and oscillator of each band; the first two are those of the first band
+        Reply::FrequencyRange => saying(
+            table::FREQUENCY,
+            6,
+            tuning::FIRST_MINIMUM,
+            tuning::FIRST_MAXIMUM,
+        ),
         Reply::Gain(g) => Shown {
             code: codes::DONE,
             item: table::GAIN,
