@@ -17,7 +17,8 @@ flag-byte : (b : Bool) → boolByte b ≡ pick b 1 0
 flag-byte true = refl
 flag-byte false = refl
 
-pub reader-stored : (r : Reader) (l a b c d : List ℕ) → length l ≡ 25 → a ≡ sets l 0 (bytes 8 (r .position)) → b ≡ sets a 8 (bytes 8 (r .form .bits))
+pub reader-stored : (r : Reader) (l a b c d : List ℕ) → length l ≡ 25
+    → a ≡ sets l 0 (bytes 8 (r .position)) → b ≡ sets a 8 (bytes 8 (r .form .bits))
     → c ≡ sets b 16 (bytes 8 (r .form .pairs)) → d ≡ sets c 24 (bytes 1 (boolByte (r .heard))) → d ≡ readerBytes r
 unfolding readerBytes
 reader-stored r l a b c d room p q t u =

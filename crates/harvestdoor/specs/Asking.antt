@@ -19,7 +19,16 @@ noWish = AskVersion 255
 -- the wishes in the table's order, with these fields
 unfoldable pub wishTable : ℕ → ℕ → ℤ → ℕ → ℕ → List Wish
 wishTable byte mode gain word hertz =
-    eachWish (record { id = byte; state = record { run = byte; mode = mode }; frequency = hertz; gain = gain; clock = word; rate = word; size = byte })
+    eachWish
+    (record {
+      id = byte;
+      state = record { run = byte; mode = mode };
+      frequency = hertz;
+      gain = gain;
+      clock = word;
+      rate = word;
+      size = byte;
+    })
 
 abbrev pub wishOf : ℕ → ℕ → ℕ → ℤ → ℕ → ℕ → Wish
 wishOf which byte mode gain word hertz = getD (wishTable byte mode gain word hertz) which noWish
@@ -41,13 +50,16 @@ abbrev pub natural : ℤ → ℕ
 natural (pos n) = n
 natural (negsuc n) = 0
 
+abbrev pub asShown : ℕ → ℕ → ℕ → ℕ → ℕ → ℤ → Shown
+asShown code item count first second gain =
+    record { code = code; item = item; count = count; first = first; second = second; gain = gain }
+
 -- a reply of so many values, of which none is signed, and a refusal
 abbrev pub saidOf : ℕ → ℕ → ℕ → ℕ → Shown
-saidOf item count first second =
-    record { code = Code.done; item = item; count = count; first = first; second = second; gain = pos 0 }
+saidOf item count first second = asShown Code.done item count first second (pos 0)
 
 abbrev pub refusedBy : ℕ → Shown
-refusedBy code = record { code = code; item = 0; count = 0; first = 0; second = 0; gain = pos 0 }
+refusedBy code = asShown code 0 0 0 0 (pos 0)
 
 unfoldable pub shown : Told → Shown
 shown t =

@@ -9,8 +9,12 @@ pub record Found : Type 0 where
   pub code : ℕ
   pub head : Head
 
+-- the head of four values
+abbrev pub headWith : ℕ → ℕ → ℕ → ℕ → Head
+headWith divisor frequency mode size = record { divisor = divisor; frequency = frequency; mode = mode; size = size }
+
 abbrev pub noHead : Head
-noHead = record { divisor = 0; frequency = 0; mode = 0; size = 0 }
+noHead = headWith 0 0 0 0
 
 abbrev pub firstHead : List Head → Head
 firstHead [] = noHead

@@ -11,8 +11,8 @@ ghost use lib.ListN.{length};
 ghost use Rattle.wire.specs.Choice.{pick};
 ghost use lib.Seq.{sets};
 ghost use Rattle.replies.specs.Reading.{told as toldBy, toldOf as readAs};
-ghost use Rattle.wishes.specs.Writing.{told, toldOf, bytesWritten};
-ghost use Rattle.harvestdoor.specs.Asking.{wishOf, shown as shownOf, saidOf, refusedBy};
+ghost use Rattle.wishes.specs.Writing.{writtenSays, writingOf, bytesWritten};
+ghost use Rattle.harvestdoor.specs.Asking.{wishOf, shown as shownOf, asShown, saidOf, refusedBy};
 
 // The wish of a number, with the fields of every case; a wish that no box grants where the number names none.
 fn wish_of(which: u8, byte: u8, mode: u8, gain: i8, word: u32, hertz: u64) -> Wish
@@ -44,25 +44,25 @@ fn wish_of(which: u8, byte: u8, mode: u8, gain: i8, word: u32, hertz: u64) -> Wi
     }
 }
 
-// What the writer told: its code, and how many bytes it wrote.
-struct Told {
+// What the writer answered: its code, and how many bytes it wrote.
+struct Wrote {
     code: u8,
     wrote: usize,
 }
 
-fn told_by(w: Written) -> Told
-    ensures { λ r. ⌜ record { code = r .code; wrote = r .wrote } ≡ told w ⌝ }
+fn wrote_by(w: Written) -> Wrote
+    ensures { λ r. ⌜ record { code = r .code; wrote = r .wrote } ≡ writtenSays w ⌝ }
 {
     match w {
-        Written::Message(n) => Told {
+        Written::Message(n) => Wrote {
             code: codes::DONE,
             wrote: n,
         },
-        Written::NotAllowed => Told {
+        Written::NotAllowed => Wrote {
             code: codes::VALUE_NOT_ALLOWED,
             wrote: 0,
         },
-        Written::NoRoom => Told {
+        Written::NoRoom => Wrote {
             code: codes::NO_ROOM,
             wrote: 0,
         },
@@ -82,13 +82,14 @@ pub extern "C" fn skvornela_wish(
     wrote: &mut usize,
 ) -> u8
     ensures { λ r.
-        ⌜ (record { code = r; wrote = now (wrote .exit) } ≡ toldOf (wishOf which byte mode gain word hertz) (length (now (buffer .entry))))
+        ⌜ (record { code = r; wrote = now (wrote .exit) }
+        ≡ writingOf (wishOf which byte mode gain word hertz) (length (now (buffer .entry))))
         × (now (buffer .exit)
         ≡ sets (now (buffer .entry)) 0 (bytesWritten (wishOf which byte mode gain word hertz) (length (now (buffer .entry))))) ⌝ }
 {
-    let told = told_by(wishes::write(wish_of(which, byte, mode, gain, word, hertz), buffer));
-    *wrote = told.wrote;
-    told.code
+    let answer = wrote_by(wishes::write(wish_of(which, byte, mode, gain, word, hertz), buffer));
+    *wrote = answer.wrote;
+    answer.code
 }
 
 // What a reply says, as numbers: the code, the item's code, how many values there are, the first two of them, and a gain.
@@ -104,7 +105,7 @@ struct Shown {
 // A reply of up to two values.
 fn saying(item: u16, count: usize, first: u64, second: u64) -> Shown
     ensures { λ r.
-        ⌜ record { code = r .code; item = r .item; count = r .count; first = r .first; second = r .second; gain = r .gain }
+        ⌜ asShown (r .code) (r .item) (r .count) (r .first) (r .second) (r .gain)
         ≡ saidOf item count first second ⌝ }
 {
     Shown {
@@ -119,7 +120,7 @@ fn saying(item: u16, count: usize, first: u64, second: u64) -> Shown
 
 fn refusing(code: u8) -> Shown
     ensures { λ r.
-        ⌜ record { code = r .code; item = r .item; count = r .count; first = r .first; second = r .second; gain = r .gain } ≡ refusedBy code ⌝ }
+        ⌜ asShown (r .code) (r .item) (r .count) (r .first) (r .second) (r .gain) ≡ refusedBy code ⌝ }
 {
     Shown {
         code: code,
@@ -143,7 +144,7 @@ fn status_byte(running: bool) -> u64
 
 fn shown_by(reply: Reply) -> Shown
     ensures { λ r.
-        ⌜ record { code = r .code; item = r .item; count = r .count; first = r .first; second = r .second; gain = r .gain }
+        ⌜ asShown (r .code) (r .item) (r .count) (r .first) (r .second) (r .gain)
         ≡ shownOf (toldBy reply) ⌝ }
 {
     match reply {
@@ -156,8 +157,13 @@ fn shown_by(reply: Reply) -> Shown
         Reply::Status(running) => saying(table::STATUS, 1, status_byte(running), 0),
         Reply::State(fields) => saying(table::STATE, 2, fields.run as u64, fields.mode as u64),
         Reply::Frequency(hz) => saying(table::FREQUENCY, 1, hz, 0),
-        // minimum, maximum and oscillator of each band; the first two are those of the first band, which tuning keeps to itself
-        Reply::FrequencyRange => saying(table::FREQUENCY, 6, 100_000, 34_000_000),
+        // minimum, maximum and oscillator of each band; the first two are those of the first band
+        Reply::FrequencyRange => saying(
+            table::FREQUENCY,
+            6,
+            tuning::FIRST_MINIMUM,
+            tuning::FIRST_MAXIMUM,
+        ),
         Reply::Gain(g) => Shown {
             code: codes::DONE,
             item: table::GAIN,
@@ -191,7 +197,7 @@ pub extern "C" fn skvornela_reply(
     level: &mut i8,
 ) -> u8
     ensures { λ r.
-        ⌜ record { code = r; item = now (item .exit); count = now (count .exit); first = now (first .exit); second = now (second .exit); gain = now (level .exit) }
+        ⌜ asShown r (now (item .exit)) (now (count .exit)) (now (first .exit)) (now (second .exit)) (now (level .exit))
         ≡ shownOf (readAs (wishOf which byte mode gain word hertz) (now (bytes .entry))) ⌝ }
 {
     let s = shown_by(replies::read(wish_of(which, byte, mode, gain, word, hertz), bytes));

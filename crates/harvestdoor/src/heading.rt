@@ -7,7 +7,7 @@ ghost use mathlib.Core.Path.{_≡_};
 ghost use lib.ListN.{length};
 ghost use lib.Seq.{sets};
 ghost use Rattle.heads.specs.Head.{openedSays, writeCode, writtenBytes, writtenCode};
-ghost use Rattle.harvestdoor.specs.Heads.{found, foundIn, noHead};
+ghost use Rattle.harvestdoor.specs.Heads.{headWith, found, foundIn, noHead};
 
 // What reading a head found: its code, and the head, or zeros in the place of one that was not found.
 struct Found {
@@ -35,9 +35,9 @@ pub extern "C" fn skvornela_head_write(
     out: &mut [u8],
 ) -> u8
     ensures { λ r.
-        ⌜ (r ≡ writeCode (record { divisor = divisor; frequency = frequency; mode = mode; size = size }) (length (now (out .entry))))
+        ⌜ (r ≡ writeCode (headWith divisor frequency mode size) (length (now (out .entry))))
         × (now (out .exit)
-        ≡ sets (now (out .entry)) 0 (writtenBytes (record { divisor = divisor; frequency = frequency; mode = mode; size = size }) (length (now (out .entry))))) ⌝ }
+        ≡ sets (now (out .entry)) 0 (writtenBytes (headWith divisor frequency mode size) (length (now (out .entry))))) ⌝ }
 {
     let h = Head {
         divisor: divisor,
@@ -86,7 +86,7 @@ pub extern "C" fn skvornela_head_read(
     size: &mut u8,
 ) -> u8
     ensures { λ r.
-        ⌜ record { code = r; head = record { divisor = now (divisor .exit); frequency = now (frequency .exit); mode = now (mode .exit); size = now (size .exit) } }
+        ⌜ record { code = r; head = headWith (now (divisor .exit)) (now (frequency .exit)) (now (mode .exit)) (now (size .exit)) }
         ≡ foundIn (now (bytes .entry)) ⌝ }
 {
     let f = found_by(heads::read_head(bytes));

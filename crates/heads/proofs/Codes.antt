@@ -30,7 +30,9 @@ unfolding readingOf
 reading-by s e = ap (λ (n : ℕ). record { code = n; heads = pick (eqb n 1) (headIn s ∷ []) [] }) e
 
 -- six stores of fields, one behind the other, are the store of a head
-pub fields-stored : (h : Head) (l a b c d e f : List ℕ) → a ≡ sets l 0 (bytes 3 0x4E5053) → b ≡ sets a 3 (bytes 2 1) → c ≡ sets b 5 (bytes 2 (h .divisor))
-    → d ≡ sets c 7 (bytes 5 (h .frequency)) → e ≡ sets d 12 (bytes 1 (h .mode)) → f ≡ sets e 13 (bytes 1 (h .size)) → f ≡ sets l 0 (headBytes h)
+pub fields-stored : (h : Head) (l a b c d e f : List ℕ) → a ≡ sets l 0 (bytes 3 0x4E5053) → b ≡ sets a 3 (bytes 2 1)
+    → c ≡ sets b 5 (bytes 2 (h .divisor))
+    → d ≡ sets c 7 (bytes 5 (h .frequency)) → e ≡ sets d 12 (bytes 1 (h .mode)) → f ≡ sets e 13 (bytes 1 (h .size))
+    → f ≡ sets l 0 (headBytes h)
 unfolding headBytes
 fields-stored h l a b c d e f p q r s t u = rw (u, t, s, r, q, p)

@@ -2,7 +2,7 @@
 -- bytes of that head.
 use Prim.Native.Nat.{ℕ, zero, suc, _+_, _≤_, _<_}
 use mathlib.Core.Path.{_≡_, refl, sym, ap, _∙_}
-use mathlib.Core.Bool.{Bool, true, false, _&&_, _||_}
+use mathlib.Core.Bool.{Bool, true, false, _&&_}
 use mathlib.Core.List.{List, [], _∷_, _++_}
 use native.Mathlib.Decide.{decLt}
 use native.Mathlib.Omega.{arith}
@@ -12,7 +12,7 @@ use lib.Seq.{take-add, drop-drop, length-take-le, getD-drop}
 use borrow.Author.Tests.{le-ltb, ltb-false, eqb-true, eq-eqb, ne-eqb}
 use Rattle.wire.specs.Choice.{within}
 use Rattle.wire.specs.Number.{number, bytes, field}
-use Rattle.wire.proofs.Laws.{and-left, and-right, true-not-false, within-high}
+use Rattle.wire.proofs.Laws.{and-left, and-right, never, by-or, within-high}
 use Rattle.wire.specs.Lists.{allBytes}
 use Rattle.wire.proofs.Lists.{byte-at}
 use Rattle.wire.proofs.Numbers.{bytes-number}
@@ -24,6 +24,15 @@ use Rattle.heads.proofs.Codes.{code-by, reading-by}
 use Rattle.heads.specs.Head.{mark, version, headLength, formIn, allowed, headBytes, headIn, readCode, readingOf}
 
 -- ---- what an allowed head has
+
+bands-high : (hz : ℕ) → inBands hz ≡ true → hz ≤ 150_000_000
+bands-high hz = by-or (within 100_000 34_000_000 hz) _ first (by-or (within 140_000_000 150_000_000 hz) false second never)
+  where
+    first : within 100_000 34_000_000 hz ≡ true → hz ≤ 150_000_000
+    first is = omega (arith, within-high 100_000 34_000_000 hz is)
+
+    second : within 140_000_000 150_000_000 hz ≡ true → hz ≤ 150_000_000
+    second = within-high 140_000_000 150_000_000 hz
 
 module _ (h : Head) (a : allowed h ≡ true) where
   abbrev divisorOk : Bool
@@ -42,22 +51,18 @@ module _ (h : Head) (a : allowed h ≡ true) where
   divisor-small = within-high 10 625 (h .divisor) (and-left divisorOk bandsOk numbers-ok)
 
   pub frequency-small : h .frequency ≤ 150_000_000
-  frequency-small = in-either (within 100_000 34_000_000 (h .frequency)) (within 140_000_000 150_000_000 (h .frequency)) (within-high 100_000 34_000_000 (h .frequency)) (within-high 140_000_000 150_000_000 (h .frequency)) (and-right divisorOk bandsOk numbers-ok)
-    where
-      in-either : (low high : Bool) → (low ≡ true → h .frequency ≤ 34_000_000) → (high ≡ true → h .frequency ≤ 150_000_000) → low || (high || false) ≡ true → h .frequency ≤ 150_000_000
-      in-either true high l u e = omega (arith, l refl)
-      in-either false true l u e = u refl
-      in-either false false l u e = absurd (true-not-false (sym e))
+  frequency-small = bands-high (h .frequency) (and-right divisorOk bandsOk numbers-ok)
 
 -- a mode or a size that is no byte has no form
 mode-small : (mode size : ℕ) → listed (formFor mode size) ≡ true → mode < 256
-mode-small mode size l = elim (decLt mode 256) [ yes m ↦ m | no m ↦ absurd (true-not-false (sym (none (omega arith)))) ]
+mode-small mode size l = elim (decLt mode 256) [ yes m ↦ m | no m ↦ never (none (omega arith)) ]
   where
     none : 256 ≤ mode → false ≡ true
     none m = rw (ne-eqb 0x80 mode (λ e. omega arith), ne-eqb 0x00 mode (λ e. omega arith)) at l
 
 size-small : (mode size : ℕ) → listed (formFor mode size) ≡ true → size < 256
-size-small mode size l = elim (decLt size 256) [ yes m ↦ m | no m ↦ absurd (true-not-false (sym (none (omega arith) (eqb 0x80 mode) (eqb 0x00 mode) refl refl))) ]
+size-small mode size l =
+    elim (decLt size 256) [ yes m ↦ m | no m ↦ never (none (omega arith) (eqb 0x80 mode) (eqb 0x00 mode) refl refl) ]
   where
     none : 256 ≤ size → (deep flat : Bool) → eqb 0x80 mode ≡ deep → eqb 0x00 mode ≡ flat → false ≡ true
     none m true true p q = rw (ne-eqb 0 size (λ e. omega arith), ne-eqb 1 size (λ e. omega arith), p, q) at l
@@ -68,34 +73,39 @@ size-small mode size l = elim (decLt size 256) [ yes m ↦ m | no m ↦ absurd (
 -- ---- written and read
 
 -- what has a head's length, mark and version, and holds an allowed head, is read as that head
-pub reads : (s : List ℕ) (h : Head) → headLength ≤ length s → field 0 3 s ≡ number mark → field 3 2 s ≡ version → headIn s ≡ h → allowed h ≡ true
+pub reads : (s : List ℕ) (h : Head) → headLength ≤ length s → field 0 3 s ≡ number mark → field 3 2 s ≡ version → headIn s ≡ h
+    → allowed h ≡ true
     → readingOf s ≡ record { code = 1; heads = h ∷ [] }
 reads s h long marked one is a =
     reading-by s (code-by s (le-ltb _ _ long) (eq-eqb _ _ marked) (eq-eqb _ _ one) (ap allowed is ∙ a))
     ∙ ap (λ (x : Head). record { code = 1; heads = x ∷ [] }) is
 
+-- what holds a head's values, holds the head
+holds : (s : List ℕ) (h : Head) → field 5 2 s ≡ h .divisor → field 7 5 s ≡ h .frequency → field 12 1 s ≡ h .mode → field 13 1 s ≡ h .size
+    → headIn s ≡ h
+holds s h divisor frequency mode size = rw (divisor, frequency, mode, size)
+
 pub read-written : (h : Head) (rest : List ℕ) → allowed h ≡ true → readingOf (headBytes h ++ rest) ≡ record { code = 1; heads = h ∷ [] }
 unfolding headBytes
-read-written h rest a = reads (headBytes h ++ rest) h (omega arith) refl refl values a
+read-written h rest a = reads s h (omega arith) refl refl values a
   where
-    divisor : field 5 2 (headBytes h ++ rest) ≡ h .divisor
+    s : List ℕ
+    s = headBytes h ++ rest
+
+    divisor : field 5 2 s ≡ h .divisor
     divisor = omega (arith, divisor-small h a)
 
-    frequency : field 7 5 (headBytes h ++ rest) ≡ h .frequency
+    frequency : field 7 5 s ≡ h .frequency
     frequency = omega (arith, frequency-small h a)
 
-    mode : field 12 1 (headBytes h ++ rest) ≡ h .mode
+    mode : field 12 1 s ≡ h .mode
     mode = omega (arith, mode-small (h .mode) (h .size) (form-listed h a))
 
-    size : field 13 1 (headBytes h ++ rest) ≡ h .size
+    size : field 13 1 s ≡ h .size
     size = omega (arith, size-small (h .mode) (h .size) (form-listed h a))
 
-    values : headIn (headBytes h ++ rest) ≡ h
-    values =
-        ap (λ (n : ℕ). record { divisor = n; frequency = field 7 5 (headBytes h ++ rest); mode = field 12 1 (headBytes h ++ rest); size = field 13 1 (headBytes h ++ rest) }) divisor
-        ∙ ap (λ (n : ℕ). record { divisor = h .divisor; frequency = n; mode = field 12 1 (headBytes h ++ rest); size = field 13 1 (headBytes h ++ rest) }) frequency
-        ∙ ap (λ (n : ℕ). record { divisor = h .divisor; frequency = h .frequency; mode = n; size = field 13 1 (headBytes h ++ rest) }) mode
-        ∙ ap (λ (n : ℕ). record { divisor = h .divisor; frequency = h .frequency; mode = h .mode; size = n }) size
+    values : headIn s ≡ h
+    values = holds s h divisor frequency mode size
 
 -- ---- read and written
 
@@ -107,10 +117,12 @@ pub record Passed (s : List ℕ) : Type 0 where
   pub ok : allowed (headIn s) ≡ true
 
 pub passed : (s : List ℕ) → readCode s ≡ 1 → Passed s
-passed s e = by (ltb (length s) headLength) (eqb (field 0 3 s) (number mark)) (eqb (field 3 2 s) version) (allowed (headIn s)) refl refl refl refl
+passed s e =
+    by (ltb (length s) headLength) (eqb (field 0 3 s) (number mark)) (eqb (field 3 2 s) version) (allowed (headIn s))
+    refl refl refl refl
   where
-    by : (short marked one ok : Bool) → ltb (length s) headLength ≡ short → eqb (field 0 3 s) (number mark) ≡ marked → eqb (field 3 2 s) version ≡ one → allowed (headIn s) ≡ ok
-        → Passed s
+    by : (short marked one ok : Bool) → ltb (length s) headLength ≡ short → eqb (field 0 3 s) (number mark) ≡ marked
+        → eqb (field 3 2 s) version ≡ one → allowed (headIn s) ≡ ok → Passed s
     by true marked one ok p q r t = absurd (omega (arith, code-by s p q r t))
     by false false one ok p q r t = absurd (omega (arith, code-by s p q r t))
     by false true false ok p q r t = absurd (omega (arith, code-by s p q r t))
@@ -138,7 +150,9 @@ both : {a b c d : List ℕ} → a ≡ b → c ≡ d → a ++ c ≡ b ++ d
 both p q = cc
 
 -- the fields of a head, one after the other, are its 14 bytes
-fields : (s : List ℕ) → take 3 s ++ (take 2 (drop 3 s) ++ (take 2 (drop 5 s) ++ (take 5 (drop 7 s) ++ (take 1 (drop 12 s) ++ take 1 (drop 13 s))))) ≡ take headLength s
+fields : (s : List ℕ)
+    → take 3 s ++ (take 2 (drop 3 s) ++ (take 2 (drop 5 s) ++ (take 5 (drop 7 s) ++ (take 1 (drop 12 s) ++ take 1 (drop 13 s)))))
+    ≡ take headLength s
 fields s =
     sym (next s 0 3 11 ∙ after 0 3 (next s 3 2 9 ∙ after 3 2 (next s 5 2 7 ∙ after 5 2 (next s 7 5 2 ∙ after 7 5 (next s 12 1 1)))))
   where
@@ -153,4 +167,6 @@ written-read s small ok =
     = λ at n h. field-bytes s at n (byte-at s small) (omega (arith, p .long)) in
     let first : mark ≡ take 3 s = sym (ap (bytes 3) (p .marked)) ∙ there 0 3 (omega arith) in
     let second : bytes 2 version ≡ take 2 (drop 3 s) = sym (ap (bytes 2) (p .one)) ∙ there 3 2 (omega arith) in
-    both first (both second (both (there 5 2 (omega arith)) (both (there 7 5 (omega arith)) (both (there 12 1 (omega arith)) (there 13 1 (omega arith)))))) ∙ fields s
+    let last = both (there 12 1 (omega arith)) (there 13 1 (omega arith)) in
+    let values = both (there 5 2 (omega arith)) (both (there 7 5 (omega arith)) last) in
+    both first (both second values) ∙ fields s

@@ -27,7 +27,8 @@ text-append (l ∷ ls) ms = ap (λ (t : List ℕ). lineText l ++ t) (text-append
 
 -- the three parts, one behind the other
 pub due-stored : (d : Due) (a b c e : List ℕ) (first second end : ℕ) → Stored 26 a 0 (textOf (openingIf (d .opening))) b first
-    → Stored 149 b first (textOf (captureIf d)) c second → Stored 44 c second (textOf (endingLines (d .ending))) e end → Stored 219 a 0 (textOf (dueLines d)) e end
+    → Stored 149 b first (textOf (captureIf d)) c second → Stored 44 c second (textOf (endingLines (d .ending))) e end
+    → Stored 219 a 0 (textOf (dueLines d)) e end
 due-stored d a b c e first second end x y z =
     rw (text-append (openingIf (d .opening)) (captureIf d ++ endingLines (d .ending)), text-append (captureIf d) (endingLines (d .ending)))
     (stored-within 219 (omega arith) (stored-after x (stored-after y z)))
@@ -39,7 +40,8 @@ pub record Sized (d : Due) : Type 0 where
   pub pairs : d .pairs ≤ 256
   pub divisor : d .divisor ≤ 625
 
-pub sized-by : (d : Due) {a b c : Bool} → leb (d .position) 3_999_999_999 ≡ a → leb (d .pairs) 256 ≡ b → leb (d .divisor) 625 ≡ c → sized d ≡ a && b && c
+pub sized-by : (d : Due) {a b c : Bool} → leb (d .position) 3_999_999_999 ≡ a → leb (d .pairs) 256 ≡ b → leb (d .divisor) 625 ≡ c
+    → sized d ≡ a && b && c
 unfolding sized
 sized-by d p q r = rw (p, q, r)
 
@@ -79,7 +81,8 @@ taken-back z text b n x room =
 pub telling-short : (text : List ℕ) (room n : ℕ) → n ≡ 0 + length text → room < n → telling text room ≡ silentWith 20
 telling-short text room n is short = rw (lt-ltb room (length text) (omega arith))
 
-pub telling-whole : (text : List ℕ) (room n : ℕ) → n ≡ 0 + length text → n ≤ room → telling text room ≡ record { told = record { code = 1; wrote = n }; bytes = text }
+pub telling-whole : (text : List ℕ) (room n : ℕ) → n ≡ 0 + length text → n ≤ room
+    → telling text room ≡ record { told = record { code = 1; wrote = n }; bytes = text }
 telling-whole text room n is long =
     let same : length text ≡ n = omega arith in
     rw (le-ltb room (length text) (omega arith), same)

@@ -13,7 +13,9 @@ use Rattle.lines.specs.Lines.{Line, lastDigit, digitsIn, decimal, number
 digits-length : (k r n : ℕ) → n < 10 ^ suc r → length (digitsIn k n) ≤ suc r
 unfolding digitsIn
 digits-length zero r n h = omega arith
-digits-length (suc k) zero n h = pick-keeps (λ (l : List ℕ). length l ≤ 1) (ltb n 10) _ _ (λ e. omega arith) (λ e. absurd (omega (arith, ltb-false n 10 e)))
+digits-length (suc k) zero n h =
+    pick-keeps (λ (l : List ℕ). length l ≤ 1) (ltb n 10) _ _ (λ e. omega arith)
+    (λ e. absurd (omega (arith, ltb-false n 10 e)))
 digits-length (suc k) (suc r) n h =
     pick-keeps (λ (l : List ℕ). length l ≤ suc (suc r)) (ltb n 10) _ _ (λ e. omega arith)
     (λ e. omega (arith, length-append (digitsIn k (n / 10)) (lastDigit n ∷ []), digits-length k r (n / 10) (omega arith)))
@@ -30,13 +32,14 @@ allFit (n ∷ ns) = (n < 2 ^ 64) × allFit ns
 numbers-length : (ns : List ℕ) → allFit ns → length (numbersText ns) ≤ 21 * length ns
 numbers-length [] fit = omega arith
 numbers-length (n ∷ ns) fit =
-    let whole : length (0x20 ∷ decimal n ++ numbersText ns) ≡ suc (length (decimal n) + length (numbersText ns)) = ap suc (length-append (decimal n) (numbersText ns)) in
+    let whole : length (0x20 ∷ decimal n ++ numbersText ns) ≡ suc (length (decimal n) + length (numbersText ns))
+    = ap suc (length-append (decimal n) (numbersText ns)) in
     omega (arith, whole, decimal-length n (fit .0), numbers-length ns (fit .1))
 
 pub line-length : (l : Line) → allFit (l .numbers) → length (lineText l) ≤ length (l .word) + 21 * length (l .numbers) + 1
 line-length l fit =
-    omega
-    (arith, length-append (l .word) (numbersText (l .numbers) ++ 0x0A ∷ []), length-append (numbersText (l .numbers)) (0x0A ∷ []), numbers-length (l .numbers) fit)
+    let text : List ℕ = numbersText (l .numbers) in
+    omega (arith, length-append (l .word) (text ++ 0x0A ∷ []), length-append text (0x0A ∷ []), numbers-length (l .numbers) fit)
 
 pub text-length : (l : Line) (ls : List Line) → length (textOf (l ∷ ls)) ≡ length (lineText l) + length (textOf ls)
 text-length l ls = length-append (lineText l) (textOf ls)

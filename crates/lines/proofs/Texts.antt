@@ -31,7 +31,8 @@ spelled (suc r) zero n h below above = absurd (omega arith)
 spelled (suc r) (suc k) n h below above =
     let top : 10 ^ suc r ≤ n = above (omega arith) in
     let one : 1 ≤ 10 ^ r = tens r in
-    let shorter : digits 10 (suc r) (n / 10) ≡ digitsIn k (n / 10) = spelled r k (n / 10) (omega arith) (omega arith) (λ some. omega arith) in
+    let shorter : digits 10 (suc r) (n / 10) ≡ digitsIn k (n / 10)
+    = spelled r k (n / 10) (omega arith) (omega arith) (λ some. omega arith) in
     rw (lt-ltb (n % 10) 10 (omega arith), le-ltb n 10 (omega arith), shorter)
 
 -- no number has more digits than it counts
@@ -55,7 +56,8 @@ decimal-is n (suc r) f = spelled r n n (enough r (f .2)) (f .1) (λ some. rw (su
 
 -- ---- a number, numbers, a line
 
-pub number-stored : (n k at : ℕ) (a b c d : List ℕ) → b ≡ sets a at (0x20 ∷ []) → c ≡ sets b (at + 1) d → k ≡ length d → k ≤ 20 → Fewest 10 1 n k → d ≡ digits 10 k n → Stored 21 a at (0x20 ∷ decimal n) c (at + 1 + k)
+pub number-stored : (n k at : ℕ) (a b c d : List ℕ) → b ≡ sets a at (0x20 ∷ []) → c ≡ sets b (at + 1) d → k ≡ length d → k ≤ 20
+    → Fewest 10 1 n k → d ≡ digits 10 k n → Stored 21 a at (0x20 ∷ decimal n) c (at + 1 + k)
 number-stored n k at a b c d space copied counted few fewest is =
     let text : d ≡ decimal n = is ∙ decimal-is n k fewest in
     let long : k ≡ length (decimal n) = counted ∙ ap length text in
@@ -66,7 +68,8 @@ number-stored n k at a b c d space copied counted few fewest is =
     }
 
 -- two texts, the second where the first ends
-pub stored-after : {p q : ℕ} {a b c s t : List ℕ} {at end last : ℕ} → Stored p a at s b end → Stored q b end t c last → Stored (p + q) a at (s ++ t) c last
+pub stored-after : {p q : ℕ} {a b c s t : List ℕ} {at end last : ℕ} → Stored p a at s b end → Stored q b end t c last
+    → Stored (p + q) a at (s ++ t) c last
 stored-after {p} {q} {a} {b} {c} {s} {t} {at} {end} {last} x y =
     record {
       stored = y .stored ∙ rw (x .stored, x .ends) (sets-append a at s t);
@@ -85,12 +88,16 @@ pub put-stored : (n v at : ℕ) (a b : List ℕ) → b ≡ sets a at (bytes n v)
 put-stored n v at a b is = record { stored = is; ends = omega (arith, length-bytes n v); short = omega arith }
 
 -- the text of numbers is that of the first i, and that of the next
-numbers-more : (ns : List ℕ) (i : ℕ) → i < length ns → numbersText (take (i + 1) ns) ≡ numbersText (take i ns) ++ (0x20 ∷ decimal (getD ns i 0))
+numbers-more : (ns : List ℕ) (i : ℕ) → i < length ns
+    → numbersText (take (i + 1) ns) ≡ numbersText (take i ns) ++ (0x20 ∷ decimal (getD ns i 0))
 numbers-more [] i h = absurd (omega arith)
 numbers-more (n ∷ ns) zero h = append-nil (0x20 ∷ decimal n)
 numbers-more (n ∷ ns) (suc i) h =
     let next : suc i + 1 ≡ suc (i + 1) = omega arith in
-    rw next (ap (λ (l : List ℕ). 0x20 ∷ decimal n ++ l) (numbers-more ns i (omega arith)) ∙ sym (append-assoc (0x20 ∷ decimal n) (numbersText (take i ns)) (0x20 ∷ decimal (getD ns i 0))))
+    let first : List ℕ = 0x20 ∷ decimal n in
+    rw next
+    (ap (λ (l : List ℕ). first ++ l) (numbers-more ns i (omega arith))
+    ∙ sym (append-assoc first (numbersText (take i ns)) (0x20 ∷ decimal (getD ns i 0))))
 
 pub numbers-turn : (ns a b c : List ℕ) (at i to end : ℕ) → i < length ns → Stored (21 * i) a at (numbersText (take i ns)) b to
     → Stored 21 b to (0x20 ∷ decimal (getD ns i 0)) c end → Stored (21 * (i + 1)) a at (numbersText (take (i + 1) ns)) c end
@@ -100,7 +107,8 @@ pub numbers-end : (ns a b : List ℕ) (at i to : ℕ) → i ≤ length ns → le
     → Stored (21 * length ns) a at (numbersText ns) b to
 numbers-end ns a b at i to h k x = rw (take-all i ns k) at (stored-within (21 * length ns) (omega arith) x)
 
-pub line-stored : (letters word at to : ℕ) (ns a b c d : List ℕ) → b ≡ sets a at (bytes letters word) → Stored (21 * length ns) b (at + letters) (numbersText ns) c to
+pub line-stored : (letters word at to : ℕ) (ns a b c d : List ℕ) → b ≡ sets a at (bytes letters word)
+    → Stored (21 * length ns) b (at + letters) (numbersText ns) c to
     → d ≡ sets c to (bytes 1 0x0A) → Stored (letters + 21 * length ns + 1) a at (textWith (bytes letters word) ns) d (to + 1)
 line-stored letters word at to ns a b c d first numbers last =
     stored-within (letters + 21 * length ns + 1) (omega arith)

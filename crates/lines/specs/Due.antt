@@ -18,10 +18,11 @@ abbrev pub openingIf : Bool → List Line
 openingIf on = pick on (openingLine ∷ []) []
 
 -- the line of a capture in which packets were heard
+abbrev pub captureIn : Due → Line
+captureIn d = captureLine (record { bits = d .bits; pairs = d .pairs }) (d .divisor) (d .capture) (d .heard) (d .position)
+
 abbrev pub captureIf : Due → List Line
-captureIf d =
-    pick (eqb (d .heard) 0) []
-    (captureLine (record { bits = d .bits; pairs = d .pairs }) (d .divisor) (d .capture) (d .heard) (d .position) ∷ [])
+captureIf d = pick (eqb (d .heard) 0) [] (captureIn d ∷ [])
 
 abbrev pub endingLines : Ending → List Line
 endingLines Nothing = []
@@ -45,9 +46,11 @@ abbrev pub silentWith : ℕ → Telling
 silentWith code = record { told = record { code = code; wrote = 0 }; bytes = [] }
 
 -- a text is written whole, or not at all, with 20, where the slice is shorter
+abbrev pub saidWhole : List ℕ → Telling
+saidWhole text = record { told = record { code = Code.done; wrote = length text }; bytes = text }
+
 abbrev pub telling : List ℕ → ℕ → Telling
-telling text room =
-    pick (ltb room (length text)) (silentWith Code.noRoom) (record { told = record { code = Code.done; wrote = length text }; bytes = text })
+telling text room = pick (ltb room (length text)) (silentWith Code.noRoom) (saidWhole text)
 
 -- 16 for numbers that no capture has, and else the lines' text
 unfoldable pub tellingOf : Due → ℕ → Telling

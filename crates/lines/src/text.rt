@@ -37,7 +37,8 @@ fn put_numbers(ns: &[u64], buf: &mut [u8], at: usize) -> usize
 pub(crate) fn put_line(word: u64, letters: usize, ns: &[u64], buf: &mut [u8], at: usize) -> usize
     requires { ⌜ at + (letters + 21 * length (now ns) + 1) ≤ length (now buf) ⌝ }
     ensures { λ r.
-        ⌜ Stored (letters + 21 * length (now (ns .entry)) + 1) (now (buf .entry)) at (textWith (bytes letters word) (now (ns .entry))) (now (buf .exit)) r ⌝ }
+        ⌜ Stored (letters + 21 * length (now (ns .entry)) + 1) (now (buf .entry)) at
+        (textWith (bytes letters word) (now (ns .entry))) (now (buf .exit)) r ⌝ }
 {
     wire::put(buf, at, letters, word);
     let to = put_numbers(ns, buf, at + letters);

@@ -11,7 +11,8 @@ use Rattle.wire.proofs.Firm.{one-by}
 use Rattle.wishes.specs.declared.Wish.{Wish}
 use Rattle.wishes.specs.Wishes.{allowed}
 use Rattle.replies.specs.declared.Reply.{Reply}
-use Rattle.replies.specs.declared.Reply.the-variants.{Nak, Name, Serial, Interface, Version, Status, State, Frequency, FrequencyRange, Gain, Clock, Rate, PacketSize, NotAllowed, NotAReply}
+use Rattle.replies.specs.declared.Reply.the-variants.{Nak, Name, Serial, Interface, Version, Status, State, Frequency}
+use Rattle.replies.specs.declared.Reply.the-variants.{FrequencyRange, Gain, Clock, Rate, PacketSize, NotAllowed, NotAReply}
 use Rattle.replies.specs.Awaited.{awaited, numberIn}
 use Rattle.replies.specs.Reading.{isNak, isReply, readCode, Told, told, toldOf}
 

@@ -23,21 +23,25 @@ use Rattle.layouts.specs.declared.Layout.{Layout}
 use Rattle.layouts.specs.Layouts.{parametersOf, sizeOf, laid}
 use Rattle.layouts.proofs.Sizes.{length-laid}
 use Rattle.items.specs.declared.Settings.{Settings}
-use Rattle.items.specs.Settings.{isMode, isSerialByte, allSerial, isSerial, inRange, freshOf, withFrequency, withClock, withDivisor, withRunning, withMode, withGain, withSize, withCount}
+use Rattle.items.specs.Settings.{isMode, isSerialByte, allSerial, isSerial, inRange, freshOf, withFrequency}
+use Rattle.items.specs.Settings.{withClock, withDivisor, withRunning, withMode, withGain, withSize, withCount}
 use Rattle.items.specs.Items.{nameBytes, versionTable, run, idle, achievedRate}
 use Rattle.items.specs.Answer.{settingsAfter, replyOf, replyTo, framed, parameters}
 use Rattle.station.proofs.Kept.{Ranges, ranges, message-keeps}
 use Rattle.items.proofs.Versions.{version-has}
 use Rattle.wishes.specs.declared.StateFields.{StateFields}
 use Rattle.wishes.specs.declared.Wish.{Wish}
-use Rattle.wishes.specs.declared.Wish.the-variants.{AskName, AskSerial, AskInterface, AskVersion, AskStatus, SetState, AskState, SetFrequency, AskFrequency, AskFrequencyRange, SetGain, AskGain, SetClock, AskClock, SetRate, AskRate, SetPacketSize, AskPacketSize}
+use Rattle.wishes.specs.declared.Wish.the-variants.{AskName, AskSerial, AskInterface, AskVersion, AskStatus, SetState}
+use Rattle.wishes.specs.declared.Wish.the-variants.{AskState, SetFrequency, AskFrequency, AskFrequencyRange, SetGain, AskGain}
+use Rattle.wishes.specs.declared.Wish.the-variants.{SetClock, AskClock, SetRate, AskRate, SetPacketSize, AskPacketSize}
 use Rattle.wishes.specs.Wishes.{asking, layoutOf, allowed, granted, notNow, messageOf, asMessage}
 use Rattle.wishes.proofs.Rows.{by-wish}
 use Rattle.wishes.proofs.Allowed.{state-has}
 use Rattle.wire.proofs.Laws.{by-or, one-has}
 use Rattle.wishes.proofs.Understood.{code-of-wish, row-of-wish, settings-of-wish}
 use Rattle.replies.specs.declared.Reply.the-variants.{Nak, Status, State}
-use Rattle.replies.specs.Awaited.{awaited, holdsSerial, idleShown, runShown, stateShown, saysState, replyType, replyLayout, replyBytes, numberIn}
+use Rattle.replies.specs.Awaited.{awaited, holdsSerial, idleShown, runShown, isState, stateShown}
+use Rattle.replies.specs.Awaited.{saysState, replyType, replyLayout, replyBytes, numberIn}
 use Rattle.replies.specs.Reading.{isReply, isNak, readCode, told, toldOf}
 use Rattle.replies.specs.Saying.{saysOf, saidBy}
 use Rattle.replies.specs.Exactly.{ReadAsSaid, Given, Exactly}
@@ -52,6 +56,10 @@ abbrev shown : Wish → Settings → List ℕ
 shown w s =
     pick (eqb (asking w .kind) typeRange) (0x02 ∷ rangeBytes bands) (asking w .item .rule .value s (parameters (asMessage w)))
 
+-- the state of a box that runs, or not, in a mode
+abbrev stateOf : Bool → ℕ → ℕ
+stateOf t m = stateShown (pick t run idle) m
+
 -- the number that they hold
 abbrev numberOf : Wish → Settings → ℕ
 numberOf AskName s = number nameBytes
@@ -59,8 +67,8 @@ numberOf AskSerial s = number (s .serial)
 numberOf AskInterface s = 105
 numberOf (AskVersion id) s = number (getD versionTable id [])
 numberOf AskStatus s = pick (s .running) 0x0C 0x0B
-numberOf (SetState f) s = stateShown (pick (s .running) run idle) (s .mode)
-numberOf AskState s = stateShown (pick (s .running) run idle) (s .mode)
+numberOf (SetState f) s = stateOf (s .running) (s .mode)
+numberOf AskState s = stateOf (s .running) (s .mode)
 numberOf (SetFrequency hz) s = s .frequency
 numberOf AskFrequency s = s .frequency
 numberOf AskFrequencyRange s = number (0x02 ∷ rangeBytes bands)
@@ -85,13 +93,22 @@ framed-laid a =
     ap (λ (n : ℕ). bytes 2 (headerOf (a .kind) n) ++ (bytes 2 (a .item) ++ parametersOf a)) size
 
 -- the box lays its reply out as the harvester waits for it
-reply-around : (w : Wish) (s : Settings) → replyTo (asking w .item) (asking w .kind) s (parameters (asMessage w)) ≡ around w (shown w s)
+abbrev LaidOut : Wish → Type 0
+LaidOut w = (s : Settings) → replyTo (asking w .item) (asking w .kind) s (parameters (asMessage w)) ≡ around w (shown w s)
+
+reply-around : (w : Wish) → LaidOut w
 unfolding messageOf
-reply-around = by-wish (λ w. (s : Settings) → replyTo (asking w .item) (asking w .kind) s (parameters (asMessage w)) ≡ around w (shown w s)) (λ s. refl) (λ s. refl) (λ s. refl) (λ id s. refl) (λ s. refl) (λ f s. refl) (λ s. refl) (λ hz s. refl) (λ s. refl) (λ s. refl) (λ g s. refl) (λ s. refl) (λ hz s. refl) (λ s. refl) (λ hz s. refl) (λ s. refl) (λ n s. refl) (λ s. refl)
+reply-around w = search (by-wish LaidOut)
 
 -- A serial's characters are bytes.
 serial-byte : (b : ℕ) → isSerialByte b ≡ true → b < 256
-serial-byte b = by-or (within 0x41 0x5A b) (within 0x30 0x39 b) (λ (up : within 0x41 0x5A b ≡ true). omega (arith, within-high 0x41 0x5A b up)) (λ (down : within 0x30 0x39 b ≡ true). omega (arith, within-high 0x30 0x39 b down))
+serial-byte b = by-or (within 0x41 0x5A b) (within 0x30 0x39 b) letter digit
+  where
+    letter : within 0x41 0x5A b ≡ true → b < 256
+    letter is = omega (arith, within-high 0x41 0x5A b is)
+
+    digit : within 0x30 0x39 b ≡ true → b < 256
+    digit is = omega (arith, within-high 0x30 0x39 b is)
 
 serial-bytes : (l : List ℕ) → allSerial l ≡ true → (k : ℕ) → getD l k 0 < 256
 serial-bytes [] e k = omega arith
@@ -130,8 +147,8 @@ box-has : (P : Bool → ℕ → Type 0) → P false 0x80 → P false 0x00 → P 
 box-has P a b c d false m e = one-has (P false) m (0x80 ∷ 0x00 ∷ []) (a, (b, tt)) e
 box-has P a b c d true m e = one-has (P true) m (0x80 ∷ 0x00 ∷ []) (c, (d, tt)) e
 
-state-bytes : (t : Bool) (m : ℕ) → isMode m ≡ true → 0x80 ∷ pick t run idle ∷ m ∷ 0x00 ∷ [] ≡ bytes 4 (stateShown (pick t run idle) m)
-state-bytes = box-has (λ t m. 0x80 ∷ pick t run idle ∷ m ∷ 0x00 ∷ [] ≡ bytes 4 (stateShown (pick t run idle) m)) refl refl refl refl
+state-bytes : (t : Bool) (m : ℕ) → isMode m ≡ true → 0x80 ∷ pick t run idle ∷ m ∷ 0x00 ∷ [] ≡ bytes 4 (stateOf t m)
+state-bytes = box-has (λ t m. 0x80 ∷ pick t run idle ∷ m ∷ 0x00 ∷ [] ≡ bytes 4 (stateOf t m)) refl refl refl refl
 
 status-bytes : (t : Bool) → pick t 0x0C 0x0B ∷ [] ≡ bytes 1 (pick t 0x0C 0x0B)
 status-bytes false = refl
@@ -146,7 +163,8 @@ unfolding messageOf
 shown-number AskName s e r = refl
 shown-number AskSerial s e r = serial-shown (s .serial) (r .serial)
 shown-number AskInterface s e r = refl
-shown-number (AskVersion id) s e r = version-has (λ id. shown (AskVersion id) s ≡ bytes 2 (numberOf (AskVersion id) s)) refl refl refl refl id e
+shown-number (AskVersion id) s e r =
+    version-has (λ id. shown (AskVersion id) s ≡ bytes 2 (numberOf (AskVersion id) s)) refl refl refl refl id e
 shown-number AskStatus s e r = status-bytes (s .running)
 shown-number (SetState f) s e r = state-bytes (s .running) (s .mode) (r .mode)
 shown-number AskState s e r = state-bytes (s .running) (s .mode) (r .mode)
@@ -170,19 +188,28 @@ status-said : (t : Bool) → Status (eqb (pick t 0x0C 0x0B) 0x0C) ≡ Status t
 status-said false = refl
 status-said true = refl
 
-state-said : (t : Bool) (m : ℕ) → isMode m ≡ true → saysState (stateShown (pick t run idle) m) ≡ State (record { run = pick t run idle; mode = m })
-state-said = box-has (λ t m. saysState (stateShown (pick t run idle) m) ≡ State (record { run = pick t run idle; mode = m })) refl refl refl refl
+abbrev SaysState : Bool → ℕ → Type 0
+SaysState t m = saysState (stateOf t m) ≡ State (record { run = pick t run idle; mode = m })
+
+state-said : (t : Bool) (m : ℕ) → isMode m ≡ true → SaysState t m
+state-said = box-has SaysState refl refl refl refl
 
 some-d : (d : ℕ) → isD d ≡ true → 0 < d
 some-d d is = omega (arith, within-low 10 625 d is)
 
+-- what run in a mode comes to: a box that is running stays as it is
+abbrev started : ℕ → Settings → Settings
+started m s = withCount 0 (withMode m (withRunning true s))
+
+abbrev runIn : ℕ → Settings → Settings
+runIn m s = pick (s .running) s (started m s)
+
 -- a box that starts, or runs already in this mode, is running in this mode
-started : (m : ℕ) (s : Settings) → s .running && not (eqb m (s .mode)) ≡ false
-    → let x = pick (s .running) s (withCount 0 (withMode m (withRunning true s))) in (x .running ≡ true) × (x .mode ≡ m)
-started m s h = go (s .running) refl h
+running-in : (m : ℕ) (s : Settings) → s .running && not (eqb m (s .mode)) ≡ false → (runIn m s .running ≡ true) × (runIn m s .mode ≡ m)
+running-in m s h = go (s .running) refl h
   where
     new : Settings
-    new = withCount 0 (withMode m (withRunning true s))
+    new = started m s
 
     go : (t : Bool) → s .running ≡ t → t && not (eqb m (s .mode)) ≡ false → (pick t s new .running ≡ true) × (pick t s new .mode ≡ m)
     go true q h = (q, sym (eqb-true m (s .mode) (not-false (eqb m (s .mode)) h)))
@@ -192,19 +219,23 @@ idle-could : (m : ℕ) → isMode m ≡ true → oneOf (stateShown idle m) idleS
 idle-could m = one-has (λ (m : ℕ). oneOf (stateShown idle m) idleShown ≡ true) m (0x80 ∷ 0x00 ∷ []) (refl, (refl, tt))
 
 run-could : (m : ℕ) (s : Settings) → s .running && not (eqb m (s .mode)) ≡ false
-    → let x = pick (s .running) s (withCount 0 (withMode m (withRunning true s))) in eqb (stateShown (pick (x .running) run idle) (x .mode)) (stateShown run m) ≡ true
-run-could m s h = rw (started m s h .0, started m s h .1) (eq-eqb (stateShown run m) (stateShown run m) refl)
+    → eqb (stateOf (runIn m s .running) (runIn m s .mode)) (stateShown run m) ≡ true
+run-could m s h = rw (running-in m s h .0, running-in m s h .1) (eq-eqb (stateShown run m) (stateShown run m) refl)
 
 -- a valid box could give the value that a valid box shows
-could-shown : (w : Wish) (s : Settings) → allowed w ≡ true → Ranges s → notNow w s ≡ false
-    → awaited w .could (numberOf w (granted w s)) ≡ true
+abbrev CouldShow : Wish → Settings → Type 0
+CouldShow w s = notNow w s ≡ false → awaited w .could (numberOf w (granted w s)) ≡ true
+
+could-shown : (w : Wish) (s : Settings) → allowed w ≡ true → Ranges s → CouldShow w s
 could-shown AskName s e r now = refl
 could-shown AskSerial s e r now = serial-could (s .serial) (r .serial)
 could-shown AskInterface s e r now = refl
 could-shown (AskVersion id) s e r now = eq-eqb (number (getD versionTable id [])) (number (getD versionTable id [])) refl
 could-shown AskStatus s e r now = status-could (s .running)
-could-shown (SetState f) s e r now = state-has (λ f. notNow (SetState f) s ≡ false → awaited (SetState f) .could (numberOf (SetState f) (granted (SetState f) s)) ≡ true) (λ m now. idle-could (s .mode) (r .mode)) (run-could 0x80 s) (run-could 0x00 s) f e now
-could-shown AskState s e r now = box-has (λ t m. oneOf (stateShown (pick t run idle) m) (idleShown ++ runShown) ≡ true) refl refl refl refl (s .running) (s .mode) (r .mode)
+could-shown (SetState f) s e r now =
+    state-has (λ f. CouldShow (SetState f) s) (λ m now. idle-could (s .mode) (r .mode)) (run-could 0x80 s) (run-could 0x00 s) f e now
+could-shown AskState s e r now =
+    box-has (λ t m. isState (stateOf t m) ≡ true) refl refl refl refl (s .running) (s .mode) (r .mode)
 could-shown (SetFrequency hz) s e r now = eq-eqb hz hz refl
 could-shown AskFrequency s e r now = r .frequency
 could-shown AskFrequencyRange s e r now = refl
@@ -214,7 +245,8 @@ could-shown (SetClock hz) s e r now = eq-eqb hz hz refl
 could-shown AskClock s e r now = r .clock
 could-shown (SetRate hz) s e r now = eq-eqb (rateOf (nearestOf hz)) (rateOf (nearestOf hz)) refl
 could-shown AskRate s e r now =
-    sym (rate-listed (rateOf (s .divisor))) ∙ lt-ltb 0 (dOf (rateOf (s .divisor))) (rw (d-of-rate (s .divisor) (r .divisor)) (some-d (s .divisor) (r .divisor)))
+    let d = s .divisor in
+    sym (rate-listed (rateOf d)) ∙ lt-ltb 0 (dOf (rateOf d)) (rw (d-of-rate d (r .divisor)) (some-d d (r .divisor)))
 could-shown (SetPacketSize n) s e r now = eq-eqb n n refl
 could-shown AskPacketSize s e r now = r .size
 
@@ -289,8 +321,15 @@ box-reply-is-read = read-as-said
 
 -- ---- what is read, a valid box says
 
+-- run byte and mode in a state's number
+abbrev runByte : ℕ → ℕ
+runByte n = getD (bytes 4 n) 1 0
+
+abbrev modeByte : ℕ → ℕ
+modeByte n = getD (bytes 4 n) 2 0
+
 abbrev mode-in : ℕ → Type 0
-mode-in n = isMode (getD (bytes 4 n) 2 0) ≡ true
+mode-in n = isMode (modeByte n) ≡ true
 
 abbrev fresh : Settings
 fresh = freshOf (replicate 8 0x30)
@@ -302,8 +341,8 @@ boxWith AskSerial n = freshOf (bytes 8 n)
 boxWith AskInterface n = fresh
 boxWith (AskVersion id) n = fresh
 boxWith AskStatus n = withRunning (eqb n 0x0C) fresh
-boxWith (SetState f) n = withMode (getD (bytes 4 n) 2 0) fresh
-boxWith AskState n = withMode (getD (bytes 4 n) 2 0) (withRunning (eqb (getD (bytes 4 n) 1 0) run) fresh)
+boxWith (SetState f) n = withMode (modeByte n) fresh
+boxWith AskState n = withMode (modeByte n) (withRunning (eqb (runByte n) run) fresh)
 boxWith (SetFrequency hz) n = fresh
 boxWith AskFrequency n = withFrequency n fresh
 boxWith AskFrequencyRange n = fresh
@@ -347,17 +386,23 @@ box-valid (SetPacketSize m) n e h = refl
 box-valid AskPacketSize n e h = rw h
 
 box-now : (w : Wish) (n : ℕ) → notNow w (boxWith w n) ≡ false
-box-now = by-wish (λ w. (n : ℕ) → notNow w (boxWith w n) ≡ false) (λ n. refl) (λ n. refl) (λ n. refl) (λ id n. refl) (λ n. refl) (λ f n. refl) (λ n. refl) (λ hz n. refl) (λ n. refl) (λ n. refl) (λ g n. refl) (λ n. refl) (λ hz n. refl) (λ n. refl) (λ hz n. refl) (λ n. refl) (λ m n. refl) (λ n. refl)
+box-now w = search (by-wish (λ w. (n : ℕ) → notNow w (boxWith w n) ≡ false))
 
 -- and it shows the value
-box-shows : (w : Wish) (n : ℕ) → allowed w ≡ true → awaited w .could n ≡ true → numberOf w (granted w (boxWith w n)) ≡ n
+abbrev Shows : ℕ → Wish → Type 0
+Shows n w = awaited w .could n ≡ true → numberOf w (granted w (boxWith w n)) ≡ n
+
+box-shows : (w : Wish) (n : ℕ) → allowed w ≡ true → Shows n w
 box-shows AskName n e h = sym (eqb-true n (number nameBytes) h)
 box-shows AskSerial n e h = number-bytes 8 n (ltb-true n (256 ^ 8) (and-right (allSerial (bytes 8 n)) (ltb n (256 ^ 8)) h))
 box-shows AskInterface n e h = sym (eqb-true n 105 h)
 box-shows (AskVersion id) n e h = sym (eqb-true n (number (getD versionTable id [])) h)
 box-shows AskStatus n e h = one-has (λ n. pick (eqb n 0x0C) 0x0C 0x0B ≡ n) n (0x0B ∷ 0x0C ∷ []) (refl, (refl, tt)) h
-box-shows (SetState f) n e h = state-has (λ f. awaited (SetState f) .could n ≡ true → numberOf (SetState f) (granted (SetState f) (boxWith (SetState f) n)) ≡ n) (λ m. one-has (λ n. stateShown idle (getD (bytes 4 n) 2 0) ≡ n) n idleShown (refl, (refl, tt))) (λ is. sym (eqb-true n (stateShown run 0x80) is)) (λ is. sym (eqb-true n (stateShown run 0x00) is)) f e h
-box-shows AskState n e h = one-has (λ n. stateShown (pick (eqb (getD (bytes 4 n) 1 0) run) run idle) (getD (bytes 4 n) 2 0) ≡ n) n (idleShown ++ runShown) (refl, (refl, (refl, (refl, tt)))) h
+box-shows (SetState f) n e h =
+    state-has (λ f. Shows n (SetState f)) (λ m. one-has (λ n. stateShown idle (modeByte n) ≡ n) n idleShown (refl, (refl, tt)))
+    (λ is. sym (eqb-true n (stateShown run 0x80) is)) (λ is. sym (eqb-true n (stateShown run 0x00) is)) f e h
+box-shows AskState n e h =
+    one-has (λ n. stateOf (eqb (runByte n) run) (modeByte n) ≡ n) n (idleShown ++ runShown) (refl, (refl, (refl, (refl, tt)))) h
 box-shows (SetFrequency hz) n e h = sym (eqb-true n hz h)
 box-shows AskFrequency n e h = refl
 box-shows AskFrequencyRange n e h = sym (eqb-true n (number (0x02 ∷ rangeBytes bands)) h)

@@ -1,15 +1,15 @@
 -- A reply with a value that a valid box could give is read as that value.
-use Prim.Native.Nat.{ℕ, zero, suc, _^_, _<_}
+use Prim.Native.Nat.{ℕ, _^_, _<_}
 use mathlib.Core.Path.{_≡_, refl, sym, ap, subst, _∙_}
 use mathlib.Core.Bool.{Bool, true, false, _||_, not}
 use mathlib.Core.List.{List, [], _∷_, _++_}
 use native.Mathlib.Nat.{lt-of-lt-of-le}
 use native.Mathlib.Omega.{arith}
 use lib.Dec.{eqb, ltb, lit<, lit≤}
-use lib.ListN.{length, getD, take, replicate}
+use lib.ListN.{length, take, replicate}
 use lib.Seq.{sets}
 use borrow.Author.Tests.{eq-eqb, eqb-true, eqb-false, ltb-true}
-use Rattle.wire.specs.Choice.{pick}
+use Rattle.wire.specs.Choice.{pick, oneOf}
 use Rattle.wire.specs.Number.{number, bytes}
 use Rattle.wire.specs.Signed.{coded}
 use Rattle.wire.specs.Header.{nak, typeRangeReply}
@@ -21,17 +21,19 @@ use Rattle.tuning.specs.Bands.{bands, rangeBytes}
 use Rattle.layouts.specs.Layouts.{laid}
 use Rattle.layouts.proofs.Sizes.{least, length-laid}
 use Rattle.layouts.proofs.Values.{value-read}
-use Rattle.items.specs.Items.{nameBytes, versionTable, isVersion, frequency}
+use Rattle.items.specs.Items.{nameBytes, frequency}
 use Rattle.items.specs.Answer.{framed, rangeBody}
 use Rattle.wire.proofs.Signed.{coded-below}
 use Rattle.items.proofs.Versions.{version-has}
 use Rattle.items.specs.Settings.{allSerial}
 use Rattle.wishes.specs.declared.Wish.{Wish}
-use Rattle.wishes.specs.declared.Wish.the-variants.{AskName, AskSerial, AskInterface, AskVersion, AskStatus, SetState, AskState, SetFrequency, AskFrequency, AskFrequencyRange, SetGain, AskGain, SetClock, AskClock, SetRate, AskRate, SetPacketSize, AskPacketSize}
+use Rattle.wishes.specs.declared.Wish.the-variants.{AskName, AskSerial, AskInterface, AskVersion, AskStatus, SetState}
+use Rattle.wishes.specs.declared.Wish.the-variants.{AskState, SetFrequency, AskFrequency, AskFrequencyRange, SetGain, AskGain}
+use Rattle.wishes.specs.declared.Wish.the-variants.{SetClock, AskClock, SetRate, AskRate, SetPacketSize, AskPacketSize}
 use Rattle.wishes.specs.Wishes.{allowed}
 use Rattle.wishes.proofs.Allowed.{state-has, bands-high, gain-below, value-fits}
 use Rattle.wire.proofs.Laws.{one-has}
-use Rattle.replies.specs.Awaited.{awaited, idleShown, runShown, stateShown, replyLayout, replyBytes, numberIn}
+use Rattle.replies.specs.Awaited.{awaited, versionNumber, idleShown, runShown, stateShown, replyLayout, replyBytes, numberIn}
 use Rattle.replies.specs.Reading.{isNak, isReply, readCode, told, toldOf}
 use Rattle.wire.specs.Lists.{same}
 use Rattle.replies.proofs.Answers.{read-reply}
@@ -41,7 +43,8 @@ rate-below : (hz : ℕ) → mayAsk hz ≡ true → hz < 256 ^ 4
 rate-below hz e = omega (arith, within-high 32_000 2_000_000 hz e)
 
 -- the achieved rate of the nearest D
-pub rate-achieved : (hz d a : ℕ) → mayAsk hz ≡ true → d ≡ pick (mayAsk hz) (nearestOf hz) 0 → a ≡ pick (isD d) (rateOf d) 0 → a ≡ rateOf (nearestOf hz)
+pub rate-achieved : (hz d a : ℕ) → mayAsk hz ≡ true → d ≡ pick (mayAsk hz) (nearestOf hz) 0 → a ≡ pick (isD d) (rateOf d) 0
+    → a ≡ rateOf (nearestOf hz)
 rate-achieved hz d a e near got =
     let found : d ≡ nearestOf hz = near ∙ rw e in
     got ∙ rw (found, nearest-d hz e)
@@ -51,12 +54,17 @@ pub could-fits : (w : Wish) (n : ℕ) → allowed w ≡ true → awaited w .coul
 could-fits AskName n e h = rw (eqb-true n (number nameBytes) h) (lit< tt)
 could-fits AskSerial n e h = lt-of-lt-of-le (ltb-true n (256 ^ 8) (and-right (allSerial (bytes 8 n)) (ltb n (256 ^ 8)) h)) (lit≤ tt)
 could-fits AskInterface n e h = rw (eqb-true n 105 h) (lit< tt)
-could-fits (AskVersion id) n e h = rw (eqb-true n (number (getD versionTable id [])) h) (version-has (λ id. number (getD versionTable id []) < 65536) (lit< tt) (lit< tt) (lit< tt) (lit< tt) id e)
+could-fits (AskVersion id) n e h =
+    rw (eqb-true n (versionNumber id) h) (version-has (λ id. versionNumber id < 65536) (lit< tt) (lit< tt) (lit< tt) (lit< tt) id e)
 could-fits AskStatus n e h = one-has (λ n. n < 256) n (0x0B ∷ 0x0C ∷ []) (lit< tt, (lit< tt, tt)) h
-could-fits (SetState f) n e h = state-has (λ f. awaited (SetState f) .could n ≡ true → n < 256 ^ 4) (λ m. one-has (λ n. n < 256 ^ 4) n idleShown (lit< tt, (lit< tt, tt))) (shown 0x80 (lit< tt)) (shown 0x00 (lit< tt)) f e h
+could-fits (SetState f) n e h =
+    state-has (λ f. awaited (SetState f) .could n ≡ true → n < 256 ^ 4) rests (runs 0x80 (lit< tt)) (runs 0x00 (lit< tt)) f e h
   where
-    shown : (m : ℕ) → stateShown 2 m < 256 ^ 4 → eqb n (stateShown 2 m) ≡ true → n < 256 ^ 4
-    shown m small is = rw (eqb-true n (stateShown 2 m) is) small
+    rests : (m : ℕ) → oneOf n idleShown ≡ true → n < 256 ^ 4
+    rests m = one-has (λ n. n < 256 ^ 4) n idleShown (lit< tt, (lit< tt, tt))
+
+    runs : (m : ℕ) → stateShown 2 m < 256 ^ 4 → eqb n (stateShown 2 m) ≡ true → n < 256 ^ 4
+    runs m small is = rw (eqb-true n (stateShown 2 m) is) small
 could-fits AskState n e h = one-has (λ n. n < 256 ^ 4) n (idleShown ++ runShown) (lit< tt, (lit< tt, (lit< tt, (lit< tt, tt)))) h
 could-fits (SetFrequency hz) n e h = rw (eqb-true n hz h) (value-fits (SetFrequency hz) e)
 could-fits AskFrequency n e h = omega (arith, bands-high n h)
@@ -65,7 +73,8 @@ could-fits (SetGain g) n e h = rw (eqb-true n (coded 8 g) h) (coded-below 8 g (o
 could-fits AskGain n e h = gain-below n h
 could-fits (SetClock hz) n e h = rw (eqb-true n hz h) (value-fits (SetClock hz) e)
 could-fits AskClock n e h = omega (arith, within-high 79_992_000 80_008_000 n h)
-could-fits (SetRate hz) n e h = rw (eqb-true n (rateOf (nearestOf hz)) h) (rate-below (rateOf (nearestOf hz)) (rate-asked (nearestOf hz) (nearest-d hz e)))
+could-fits (SetRate hz) n e h =
+    let d = nearestOf hz in rw (eqb-true n (rateOf d) h) (rate-below (rateOf d) (rate-asked d (nearest-d hz e)))
 could-fits AskRate n e h = let d = listed-d n h in rate-below n (subst (λ (r : ℕ). mayAsk r ≡ true) (d .1) (rate-asked (dOf n) (d .0)))
 could-fits (SetPacketSize m) n e h = rw (eqb-true n m h) (value-fits (SetPacketSize m) e)
 could-fits AskPacketSize n e h = one-has (λ n. n < 256) n (0 ∷ 1 ∷ []) (lit< tt, (lit< tt, tt)) h
@@ -92,11 +101,13 @@ reply-read w n e h =
     read-reply w (replyBytes w n) e (reply-no-nak w n) n (reply-is-reply w n e h) (reply-value w n (could-fits w n e h))
 
 -- and a reply that is accepted is the reply with the value in it
-pub is-reply-bytes : (w : Wish) (bs : List ℕ) → isReply w bs ≡ true → (awaited w .could (numberIn w bs) ≡ true) × (bs ≡ replyBytes w (numberIn w bs))
+pub is-reply-bytes : (w : Wish) (bs : List ℕ) → isReply w bs ≡ true
+    → (awaited w .could (numberIn w bs) ≡ true) × (bs ≡ replyBytes w (numberIn w bs))
 unfolding isReply
 is-reply-bytes w bs e =
     let n = numberIn w bs in
-    (and-left (awaited w .could n) (same bs (replyBytes w n)) e, same-eq bs (replyBytes w n) (and-right (awaited w .could n) (same bs (replyBytes w n)) e))
+    let is : Bool = same bs (replyBytes w n) in
+    (and-left (awaited w .could n) is e, same-eq bs (replyBytes w n) (and-right (awaited w .could n) is e))
 
 -- ---- the reply to the wish for the range
 

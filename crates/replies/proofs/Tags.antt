@@ -13,12 +13,15 @@ use Rattle.wire.proofs.Laws.{true-not-false, pick-false}
 use Rattle.items.proofs.Keys.{allIn, matched}
 use Rattle.wishes.proofs.Wish.{the-type}
 use Rattle.wishes.specs.declared.Wish.{Wish}
-use Rattle.wishes.specs.declared.Wish.the-variants.{AskName, AskSerial, AskInterface, AskVersion, AskStatus, SetState, AskState, SetFrequency, AskFrequency, AskFrequencyRange, SetGain, AskGain, SetClock, AskClock, SetRate, AskRate, SetPacketSize, AskPacketSize}
+use Rattle.wishes.specs.declared.Wish.the-variants.{AskName, AskSerial, AskInterface, AskVersion, AskStatus, SetState}
+use Rattle.wishes.specs.declared.Wish.the-variants.{AskState, SetFrequency, AskFrequency, AskFrequencyRange, SetGain, AskGain}
+use Rattle.wishes.specs.declared.Wish.the-variants.{SetClock, AskClock, SetRate, AskRate, SetPacketSize, AskPacketSize}
 use Rattle.wishes.specs.Wishes.{layoutOf}
 use Rattle.wishes.proofs.Rows.{by-wish}
 use Rattle.wire.proofs.Laws.{each, one-has}
 use Rattle.replies.specs.declared.Reply.{Reply}
-use Rattle.replies.specs.declared.Reply.the-variants.{Name, Serial, Interface, Status, Frequency, FrequencyRange, Gain, Clock, Rate, PacketSize, NotAReply}
+use Rattle.replies.specs.declared.Reply.the-variants.{Name, Serial, Interface, Status, Frequency}
+use Rattle.replies.specs.declared.Reply.the-variants.{FrequencyRange, Gain, Clock, Rate, PacketSize, NotAReply}
 use Rattle.replies.specs.Awaited.{awaited, saysState}
 
 abbrev pub place : Wish → ℕ
@@ -34,10 +37,11 @@ widths = 7 ∷ 9 ∷ 2 ∷ 2 ∷ 1 ∷ 4 ∷ 4 ∷ 5 ∷ 5 ∷ 31 ∷ 1 ∷ 1 �
 
 pub width-at : (w : Wish) → awaited w .width ≡ getD widths (place w) 0
 unfolding widths
-width-at = by-wish (λ w. awaited w .width ≡ getD widths (place w) 0) refl refl refl (λ id. refl) refl (λ f. refl) refl (λ hz. refl) refl refl (λ g. refl) refl (λ hz. refl) refl (λ hz. refl) refl (λ n. refl) refl
+width-at w = search (by-wish (λ w. awaited w .width ≡ getD widths (place w) 0))
 
 -- in an arm whose wishes all have one width
-pub width-in : (v : ℕ) (keys : List ℕ) (w : Wish) → allIn keys keys ≡ true → each (λ k. getD widths k 0 ≡ v) keys → OneOf keys (place w) → v ≡ awaited w .width
+pub width-in : (v : ℕ) (keys : List ℕ) (w : Wish) → allIn keys keys ≡ true → each (λ k. getD widths k 0 ≡ v) keys
+    → OneOf keys (place w) → v ≡ awaited w .width
 width-in v keys w t all h = sym (width-at w ∙ in-arm (λ k. getD widths k 0 ≡ v) keys w t all h)
 
 -- what a value says at each place; to the wish for a version (3) with its id
@@ -46,9 +50,12 @@ sayings n =
     Name ∷ Serial n ∷ Interface n ∷ NotAReply ∷ Status (eqb n 0x0C) ∷ saysState n ∷ saysState n ∷ Frequency n ∷ Frequency n
     ∷ FrequencyRange ∷ Gain (signed 8 n) ∷ Gain (signed 8 n) ∷ Clock n ∷ Clock n ∷ Rate n ∷ Rate n ∷ PacketSize n ∷ PacketSize n ∷ []
 
-pub saying-at : (w : Wish) (n : ℕ) → awaited w .says n ≡ pick (eqb (place w) 3) (awaited w .says n) (getD (sayings n) (place w) NotAReply)
+abbrev pub SaysAt : Wish → Type 0
+SaysAt w = (n : ℕ) → awaited w .says n ≡ pick (eqb (place w) 3) (awaited w .says n) (getD (sayings n) (place w) NotAReply)
+
+pub saying-at : (w : Wish) → SaysAt w
 unfolding sayings
-saying-at = by-wish (λ w. (n : ℕ) → awaited w .says n ≡ pick (eqb (place w) 3) (awaited w .says n) (getD (sayings n) (place w) NotAReply)) (λ n. refl) (λ n. refl) (λ n. refl) (λ id n. refl) (λ n. refl) (λ f n. refl) (λ n. refl) (λ hz n. refl) (λ n. refl) (λ n. refl) (λ g n. refl) (λ n. refl) (λ hz n. refl) (λ n. refl) (λ hz n. refl) (λ n. refl) (λ m n. refl) (λ n. refl)
+saying-at w = search (by-wish SaysAt)
 
 -- in an arm of `says` whose wishes all say the same
 pub says-in : (n : ℕ) (r : Reply) (keys : List ℕ) (w : Wish) → allIn keys keys ≡ true
@@ -61,7 +68,8 @@ says-in n r keys w t all h =
 unfoldable pub echoed : List ℕ
 echoed = 7 ∷ 9 ∷ 10 ∷ 12 ∷ 16 ∷ []
 
-pub echoes : (w : Wish) (n : ℕ) → oneOf (place w) echoed ≡ true → (w ≡ AskFrequencyRange → ⊥) → eqb n (layoutOf w .value) ≡ awaited w .could n
+pub echoes : (w : Wish) (n : ℕ) → oneOf (place w) echoed ≡ true → (w ≡ AskFrequencyRange → ⊥)
+    → eqb n (layoutOf w .value) ≡ awaited w .could n
 unfolding echoed
 echoes AskName n h other = absurd (true-not-false (sym h))
 echoes AskSerial n h other = absurd (true-not-false (sym h))

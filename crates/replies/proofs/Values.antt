@@ -18,7 +18,9 @@ use Rattle.layouts.proofs.Writing.{Put, written-whole}
 use Rattle.layouts.proofs.Values.{value-last}
 use Rattle.items.specs.Settings.{allSerial}
 use Rattle.wishes.specs.declared.Wish.{Wish}
-use Rattle.wishes.specs.declared.Wish.the-variants.{AskName, AskSerial, AskInterface, AskVersion, AskStatus, SetState, AskState, SetFrequency, AskFrequency, AskFrequencyRange, SetGain, AskGain, SetClock, AskClock, SetRate, AskRate, SetPacketSize, AskPacketSize}
+use Rattle.wishes.specs.declared.Wish.the-variants.{AskName, AskSerial, AskInterface, AskVersion, AskStatus, SetState}
+use Rattle.wishes.specs.declared.Wish.the-variants.{AskState, SetFrequency, AskFrequency, AskFrequencyRange, SetGain, AskGain}
+use Rattle.wishes.specs.declared.Wish.the-variants.{SetClock, AskClock, SetRate, AskRate, SetPacketSize, AskPacketSize}
 use Rattle.wishes.specs.Wishes.{asking, allowed}
 use Rattle.replies.specs.Awaited.{awaited, replyType, replyLayout, replyBytes, valueAt, numberIn}
 use Rattle.replies.specs.Reading.{isReply}
@@ -63,7 +65,8 @@ number-split (suc k) (b ∷ l) =
     omega (arith, up, number-split k l)
 
 -- all that is left of a reply, read in two parts
-rest-number : (bs : List ℕ) (at width : ℕ) → length bs ≡ at + width → width ≤ 9 → field at width bs ≡ field at 8 bs + 256 ^ 8 * field (at + 8) 1 bs
+rest-number : (bs : List ℕ) (at width : ℕ) → length bs ≡ at + width → width ≤ 9
+    → field at width bs ≡ field at 8 bs + 256 ^ 8 * field (at + 8) 1 bs
 rest-number bs at width size few =
     let left : length (drop at bs) ≡ width = simp length-drop (omega arith) in
     ap number (take-all width (drop at bs) (omega arith) ∙ sym (take-all 9 (drop at bs) (omega arith)))
@@ -87,7 +90,8 @@ unfolding replyBytes
 reply-last w n = value-last (replyLayout w n)
 
 -- a reply that is written into sixteen bytes
-module _ (w : Wish) (n : ℕ) (other : w ≡ AskFrequencyRange → ⊥) (r : ℕ) (k : List ℕ) (put : Put (replicate 16 0) (replyLayout w n) r k) where
+module _ (w : Wish) (n : ℕ) (other : w ≡ AskFrequencyRange → ⊥) (r : ℕ) (k : List ℕ) (put : Put
+    (replicate 16 0) (replyLayout w n) r k) where
   written : (r ≡ length (replyBytes w n)) × (k ≡ sets (replicate 16 0) 0 (replyBytes w n))
   unfolding replyBytes
   written = written-whole (replicate 16 0) (replyLayout w n) r k (omega (arith, greatest (replyLayout w n), plain w other .0)) put
@@ -96,7 +100,9 @@ module _ (w : Wish) (n : ℕ) (other : w ≡ AskFrequencyRange → ⊥) (r : ℕ
   written-few = omega (arith, written .0, reply-long w n, greatest (replyLayout w n), plain w other .0)
 
   pub written-reply : take r k ≡ replyBytes w n
-  written-reply = rw (written .0, written .1) (sets-taken (replicate 16 0) 0 (replyBytes w n) (rw (← written .0) (omega (arith, written-few))))
+  written-reply =
+      rw (written .0, written .1)
+      (sets-taken (replicate 16 0) 0 (replyBytes w n) (rw (← written .0) (omega (arith, written-few))))
 
 module _ (w : Wish) (bs : List ℕ) (other : w ≡ AskFrequencyRange → ⊥) where
   -- the first eight bytes in the value's place
@@ -106,13 +112,18 @@ module _ (w : Wish) (bs : List ℕ) (other : w ≡ AskFrequencyRange → ⊥) wh
   split : (n : ℕ) → bs ≡ replyBytes w n → numberIn w bs ≡ eight + 256 ^ 8 * field (valueAt w + 8) 1 bs
   split n is = rest-number bs (valueAt w) (awaited w .width) (ap length is ∙ reply-long w n) (plain w other .0)
 
-  -- where the bytes are the reply that gives this number, it is the number in it
+  -- where the bytes are the reply that gives this number, its bytes are the last
+  value-comes-last : same bs (replyBytes w eight) ≡ true → drop (valueAt w) bs ≡ bytes (awaited w .width) eight
+  value-comes-last so = ap (drop (valueAt w)) (same-eq bs (replyBytes w eight) so) ∙ reply-last w eight
+
+  -- it is the number in them
   pub word-in : same bs (replyBytes w eight) ≡ true → eight < 256 ^ 8 → numberIn w bs ≡ eight
   word-in so small =
       let is : bs ≡ replyBytes w eight = same-eq bs (replyBytes w eight) so in
+      let ninth : drop (valueAt w + 8) bs ≡ drop 8 (bytes (awaited w .width) eight)
+      = sym (drop-drop 8 (valueAt w) bs) ∙ ap (drop 8) (value-comes-last so) in
       let none : field (valueAt w + 8) 1 bs ≡ 0
-      = ap (λ (l : List ℕ). number (take 1 l)) (sym (drop-drop 8 (valueAt w) bs) ∙ ap (λ (l : List ℕ). drop 8 (drop (valueAt w) l)) is ∙ ap (drop 8) (reply-last w eight))
-      ∙ past-zero 8 (awaited w .width) eight small in
+      = ap (λ (l : List ℕ). number (take 1 l)) ninth ∙ past-zero 8 (awaited w .width) eight small in
       omega (arith, split eight is, none)
 
   -- and it fits the reply's field
@@ -122,7 +133,7 @@ module _ (w : Wish) (bs : List ℕ) (other : w ≡ AskFrequencyRange → ⊥) wh
       let long : length (bytes width eight) ≡ width = length-bytes width eight in
       let all : take width (bytes width eight) ≡ bytes width eight = take-all width (bytes width eight) (rw long (le-refl width)) in
       let is : numberIn w bs ≡ number (bytes width eight)
-      = ap (λ (l : List ℕ). number (take width l)) (ap (drop (valueAt w)) (same-eq bs (replyBytes w eight) so) ∙ reply-last w eight) ∙ ap number all in
+      = ap (λ (l : List ℕ). number (take width l)) (value-comes-last so) ∙ ap number all in
       rw (← (sym is ∙ word-in so small)) (rw long at (number-below (bytes width eight) (bytes-below width eight)))
 
   -- where they are not, they are no reply

@@ -19,10 +19,13 @@ use Rattle.items.specs.Settings.{isGain, isSize, allSerial}
 use Rattle.items.specs.Items.{nameBytes, interfaceNumber, versionTable, statusByte, idle, run, stateBytes}
 use Rattle.wishes.specs.declared.StateFields.{StateFields}
 use Rattle.wishes.specs.declared.Wish.{Wish}
-use Rattle.wishes.specs.declared.Wish.the-variants.{AskName, AskSerial, AskInterface, AskVersion, AskStatus, SetState, AskState, SetFrequency, AskFrequency, AskFrequencyRange, SetGain, AskGain, SetClock, AskClock, SetRate, AskRate, SetPacketSize, AskPacketSize}
+use Rattle.wishes.specs.declared.Wish.the-variants.{AskName, AskSerial, AskInterface, AskVersion, AskStatus, SetState}
+use Rattle.wishes.specs.declared.Wish.the-variants.{AskState, SetFrequency, AskFrequency, AskFrequencyRange, SetGain, AskGain}
+use Rattle.wishes.specs.declared.Wish.the-variants.{SetClock, AskClock, SetRate, AskRate, SetPacketSize, AskPacketSize}
 use Rattle.wishes.specs.Wishes.{asking, layoutOf}
 use Rattle.replies.specs.declared.Reply.{Reply}
-use Rattle.replies.specs.declared.Reply.the-variants.{Name, Serial, Interface, Version, Status, State, Frequency, FrequencyRange, Gain, Clock, Rate, PacketSize}
+use Rattle.replies.specs.declared.Reply.the-variants.{Name, Serial, Interface, Version, Status, State}
+use Rattle.replies.specs.declared.Reply.the-variants.{Frequency, FrequencyRange, Gain, Clock, Rate, PacketSize}
 
 -- What a wish waits for: a value, as a number in so many bytes; which values a valid box could give; and what each says.
 pub record Awaited : Type 0 where

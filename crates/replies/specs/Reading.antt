@@ -9,11 +9,13 @@ use Rattle.wire.specs.Codes as Code
 use Rattle.wire.specs.Header.{nak}
 use Rattle.wire.specs.Lists.{same}
 use Rattle.tuning.specs.Bands.{Band, bands}
-use Rattle.items.specs.Items.{nameBytes, name, serial, interface, versions, statusByte, status, state, frequency, gain, clock, rate, packetSize}
+use Rattle.items.specs.Items.{nameBytes, name, serial, interface, versions, statusByte}
+use Rattle.items.specs.Items.{status, state, frequency, gain, clock, rate, packetSize}
 use Rattle.wishes.specs.declared.Wish.{Wish}
 use Rattle.wishes.specs.Wishes.{allowed}
 use Rattle.replies.specs.declared.Reply.{Reply}
-use Rattle.replies.specs.declared.Reply.the-variants.{Nak, Name, Serial, Interface, Version, Status, State, Frequency, FrequencyRange, Gain, Clock, Rate, PacketSize, NotAllowed, NotAReply}
+use Rattle.replies.specs.declared.Reply.the-variants.{Nak, Name, Serial, Interface, Version, Status, State, Frequency}
+use Rattle.replies.specs.declared.Reply.the-variants.{FrequencyRange, Gain, Clock, Rate, PacketSize, NotAllowed, NotAReply}
 use Rattle.replies.specs.Awaited.{awaited, replyBytes, numberIn}
 
 abbrev pub isNak : List ℕ → Bool

@@ -8,10 +8,13 @@ use Rattle.rates.specs.Rate.{rateOf}
 use Rattle.items.specs.declared.Settings.{Settings}
 use Rattle.items.specs.Items.{interfaceNumber, versionTable, idle, run}
 use Rattle.wishes.specs.declared.Wish.{Wish}
-use Rattle.wishes.specs.declared.Wish.the-variants.{AskName, AskSerial, AskInterface, AskVersion, AskStatus, SetState, AskState, SetFrequency, AskFrequency, AskFrequencyRange, SetGain, AskGain, SetClock, AskClock, SetRate, AskRate, SetPacketSize, AskPacketSize}
+use Rattle.wishes.specs.declared.Wish.the-variants.{AskName, AskSerial, AskInterface, AskVersion, AskStatus, SetState}
+use Rattle.wishes.specs.declared.Wish.the-variants.{AskState, SetFrequency, AskFrequency, AskFrequencyRange, SetGain, AskGain}
+use Rattle.wishes.specs.declared.Wish.the-variants.{SetClock, AskClock, SetRate, AskRate, SetPacketSize, AskPacketSize}
 use Rattle.wishes.specs.Wishes.{granted, notNow}
 use Rattle.replies.specs.declared.Reply.{Reply}
-use Rattle.replies.specs.declared.Reply.the-variants.{Nak, Name, Serial, Interface, Version, Status, State, Frequency, FrequencyRange, Gain, Clock, Rate, PacketSize}
+use Rattle.replies.specs.declared.Reply.the-variants.{Nak, Name, Serial, Interface, Version, Status, State}
+use Rattle.replies.specs.declared.Reply.the-variants.{Frequency, FrequencyRange, Gain, Clock, Rate, PacketSize}
 
 abbrev pub saysOf : Wish → Settings → Reply
 saysOf AskName s = Name

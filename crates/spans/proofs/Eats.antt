@@ -27,7 +27,9 @@ use Rattle.lines.specs.Lines.{Line, textOf}
 use Rattle.lines.specs.Due.{dueLines, sized, Telling, silentWith, telling, tellingOf}
 use Rattle.lines.proofs.Dues.{is-sized, telling-sized}
 use Rattle.hearing.specs.Hearing.{inRange, reaching}
-use Rattle.spans.specs.Eating.{headOk, validSpan, headOf, withTally, lacking, headTaken, headLines, headRead, heardLines, heardSpan, Eating, refused, silently, saying, opening, openingBy, listening, listeningBy, eatingOf, lastLines, finishingOf}
+use Rattle.spans.specs.Eating.{headOk, validSpan, headOf, withTally, lacking, headTaken, headLines}
+use Rattle.spans.specs.Eating.{headRead, heardLines, heardSpan, Eating, refused, silently, saying, opening}
+use Rattle.spans.specs.Eating.{openingBy, listening, listeningBy, eatingOf, lastLines, finishingOf}
 use Rattle.spans.specs.Inside.{dueNow}
 
 -- the number of what was read is the code
@@ -41,11 +43,12 @@ valid-by s p q r = cc
 
 -- ---- the head
 
-pub lacked : (s : Span) (piece : List ℕ) (k : ℕ) → k ≡ min (headLength - s .taken) (length piece) → k ≡ length (take k piece)
+pub lacked : (s : Span) (piece : List ℕ) (k : ℕ) → k ≡ min (headLength - s .came) (length piece) → k ≡ length (take k piece)
 lacked s piece k is = sym (length-take-le k piece (omega arith))
 
-pub head-taken : (s : Span) (piece held : List ℕ) (k : ℕ) → k ≡ min (headLength - s .taken) (length piece) → held ≡ sets (s .held) (s .taken) (take k piece)
-    → record { stopped = false; taken = s .taken + k; held = held; tally = s .tally } ≡ headTaken s piece
+pub head-taken : (s : Span) (piece held : List ℕ) (k : ℕ) → k ≡ min (headLength - s .came) (length piece)
+    → held ≡ sets (s .head) (s .came) (take k piece)
+    → record { stopped = false; came = s .came + k; head = held; tally = s .tally } ≡ headTaken s piece
 head-taken s piece held k is stored = rw (stored, is)
 
 -- ---- the lines that are due
@@ -90,7 +93,8 @@ module _ (lines : List Line) (room : ℕ) (told : Told) (is : told ≡ telling (
   text-told fits = rw (long fits)
 
   pub said : (s after : Span) (n : ℕ) → (told .code ≡ 20 → ⊥)
-      → saying s room n lines after ≡ record { eaten = record { code = 1; consumed = n; wrote = told .wrote; span = after }; bytes = textOf lines }
+      → saying s room n lines after
+      ≡ record { eaten = record { code = 1; consumed = n; wrote = told .wrote; span = after }; bytes = textOf lines }
   said s after n fits =
       let wrote : told .wrote ≡ length (textOf lines) = ap (λ (t : Told). t .wrote) is ∙ rw (long fits) in
       rw (long fits, wrote)
@@ -100,52 +104,67 @@ pub answers : {e : Eaten} (out : List ℕ) {after : List ℕ} {x : Eating} (y : 
     → (e ≡ x .eaten) × (after ≡ sets out 0 (x .bytes))
 answers {e} out {after} y same p q = subst (λ (z : Eating). (e ≡ z .eaten) × (after ≡ sets out 0 (z .bytes))) (sym same) (p, q)
 
-pub opening-by : (s : Span) (piece : List ℕ) (room : ℕ) (after : Span) → after ≡ headTaken s piece → opening s piece room ≡ openingBy s room (after .taken - s .taken) after
+pub opening-by : (s : Span) (piece : List ℕ) (room : ℕ) (after : Span) → after ≡ headTaken s piece
+    → opening s piece room ≡ openingBy s room (after .came - s .came) after
 unfolding opening
 opening-by s piece room after is =
-    let taken : after .taken ≡ s .taken + lacking s piece = ap (λ (x : Span). x .taken) is in
-    let count : after .taken - s .taken ≡ lacking s piece = omega arith in
+    let taken : after .came ≡ s .came + lacking s piece = ap (λ (x : Span). x .came) is in
+    let count : after .came - s .came ≡ lacking s piece = omega arith in
     ap (λ (x : Span). openingBy s room (lacking s piece) x) (sym is) ∙ ap (λ (n : ℕ). openingBy s room n after) (sym count)
 
 -- a head that is not whole
-pub opening-waits : (s after : Span) (room n : ℕ) → after .taken < headLength → openingBy s room n after ≡ silently 0 n after
-opening-waits s after room n h = rw (lt-ltb (after .taken) headLength h)
+pub opening-waits : (s after : Span) (room n : ℕ) → after .came < headLength → openingBy s room n after ≡ silently 0 n after
+opening-waits s after room n h = rw (lt-ltb (after .came) headLength h)
 
 -- a whole head
-pub opening-says : (s after : Span) (room n code : ℕ) → headLength ≤ after .taken → code ≡ headCode (after .held) → openingBy s room n after ≡ saying s room n (headLines code) (headRead code after)
-opening-says s after room n code h is = rw (le-ltb (after .taken) headLength h, is)
+pub opening-says : (s after : Span) (room n code : ℕ) → headLength ≤ after .came → code ≡ headCode (after .head)
+    → openingBy s room n after ≡ saying s room n (headLines code) (headRead code after)
+opening-says s after room n code h is = rw (le-ltb (after .came) headLength h, is)
 
-pub listening-by : (s : Span) (piece : List ℕ) (room : ℕ) (r : Reach) → r ≡ reaching 0 (formIn (headOf s)) (s .tally) piece → listening s piece room ≡ listeningBy s room r
+pub listening-by : (s : Span) (piece : List ℕ) (room : ℕ) (r : Reach) → r ≡ reaching 0 (formIn (headOf s)) (s .tally) piece
+    → listening s piece room ≡ listeningBy s room r
 unfolding listening
 listening-by s piece room r is = ap (listeningBy s room) (sym is)
 
-pub listening-waits : (s : Span) (room : ℕ) (r : Reach) → r .code ≡ 0 → listeningBy s room r ≡ silently 0 (r .at) (withTally false s (r .tally))
+pub listening-waits : (s : Span) (room : ℕ) (r : Reach) → r .code ≡ 0
+    → listeningBy s room r ≡ silently 0 (r .at) (withTally false s (r .tally))
 listening-waits s room r e = rw (eq-eqb (r .code) 0 e)
 
-pub listening-says : (s : Span) (room : ℕ) (r : Reach) → (r .code ≡ 0 → ⊥) → listeningBy s room r ≡ saying s room (r .at) (heardLines (headOf s) r) (heardSpan s r)
+pub listening-says : (s : Span) (room : ℕ) (r : Reach) → (r .code ≡ 0 → ⊥)
+    → listeningBy s room r ≡ saying s room (r .at) (heardLines (headOf s) r) (heardSpan s r)
 listening-says s room r e = rw (ne-eqb (r .code) 0 e)
 
--- The two answers of a call for which lines are due: those of d, told in a slice `out` that is `after` then.
-module _ (s next : Span) (n : ℕ) (lines : List Line) (d : Due) (are : dueLines d ≡ lines) (fit : sized d ≡ true) (out after : List ℕ) (told : Told)
-    (did : (told ≡ tellingOf d (length out) .told) × (after ≡ sets out 0 (tellingOf d (length out) .bytes))) (x : Eating) (is : x ≡ saying s (length out) n lines next) where
-  same-lines : tellingOf d (length out) ≡ telling (textOf lines) (length out)
-  same-lines = telling-sized d (length out) fit ∙ ap (λ (ls : List Line). telling (textOf ls) (length out)) are
+-- What was told of lines that are due: those of d, into a slice `out` that is `after` then, in a call that comes to x.
+pub record Tells (s next : Span) (n : ℕ) (lines : List Line) (out after : List ℕ) (told : Told) (x : Eating) : Type 0 where
+  pub due : Due
+  pub are : dueLines due ≡ lines
+  pub fit : sized due ≡ true
+  pub did : (told ≡ tellingOf due (length out) .told) × (after ≡ sets out 0 (tellingOf due (length out) .bytes))
+  pub is : x ≡ saying s (length out) n lines next
+
+-- The two answers of such a call.
+module _ {s next : Span} {n : ℕ} {lines : List Line} {out after : List ℕ} {told : Told} {x : Eating}
+    (t : Tells s next n lines out after told x) where
+  same-lines : tellingOf (t .due) (length out) ≡ telling (textOf lines) (length out)
+  same-lines = telling-sized (t .due) (length out) (t .fit) ∙ ap (λ (ls : List Line). telling (textOf ls) (length out)) (t .are)
 
   told-is : told ≡ telling (textOf lines) (length out) .told
-  told-is = did .0 ∙ ap (λ (t : Telling). t .told) same-lines
+  told-is = t .did .0 ∙ ap (λ (y : Telling). y .told) same-lines
 
   after-is : after ≡ sets out 0 (telling (textOf lines) (length out) .bytes)
-  after-is = did .1 ∙ ap (λ (t : Telling). sets out 0 (t .bytes)) same-lines
+  after-is = t .did .1 ∙ ap (λ (y : Telling). sets out 0 (y .bytes)) same-lines
 
   pub no-room : (e : Eaten) → e ≡ refused 20 s .eaten → told .code ≡ 20 → (e ≡ x .eaten) × (after ≡ sets out 0 (x .bytes))
   no-room e same short =
-      answers out (refused 20 s) (is ∙ refused-20 lines (length out) told told-is s next n short) same
+      answers out (refused 20 s) (t .is ∙ refused-20 lines (length out) told told-is s next n short) same
       (after-is ∙ ap (sets out 0) (nothing-told lines (length out) told told-is short))
 
-  pub room : (e : Eaten) → e ≡ record { code = 1; consumed = n; wrote = told .wrote; span = next } → (told .code ≡ 20 → ⊥) → (e ≡ x .eaten) × (after ≡ sets out 0 (x .bytes))
+  pub room : (e : Eaten) → e ≡ record { code = 1; consumed = n; wrote = told .wrote; span = next } → (told .code ≡ 20 → ⊥)
+      → (e ≡ x .eaten) × (after ≡ sets out 0 (x .bytes))
   room e same fits =
-      answers out (record { eaten = record { code = 1; consumed = n; wrote = told .wrote; span = next }; bytes = textOf lines }) (is ∙ said lines (length out) told told-is s next n fits) same
-      (after-is ∙ ap (sets out 0) (text-told lines (length out) told told-is fits))
+      let all = said lines (length out) told told-is s next n fits in
+      answers out (record { eaten = record { code = 1; consumed = n; wrote = told .wrote; span = next }; bytes = textOf lines })
+      (t .is ∙ all) same (after-is ∙ ap (sets out 0) (text-told lines (length out) told told-is fits))
 
 -- ---- valid spans
 
@@ -157,11 +176,12 @@ module _ (s : Span) (ok : validSpan s ≡ true) (goes : s .stopped ≡ false) wh
   valid-range = and-left (inRange (s .tally)) (headOk s) unbroken
 
   -- the head of a valid span that has all of it is one that may be written
-  pub valid-head : headLength ≤ s .taken → allowed (headOf s) ≡ true
+  pub valid-head : headLength ≤ s .came → allowed (headOf s) ≡ true
   valid-head whole =
       let here : headOk s ≡ true = and-right (inRange (s .tally)) (headOk s) unbroken in
-      let read : eqb (s .taken) headLength && eqb (headCode (s .held)) 1 ≡ true = or-rest (ltb (s .taken) headLength) _ here (le-ltb (s .taken) headLength whole) in
-      passed (s .held) (eqb-true _ _ (and-right (eqb (s .taken) headLength) (eqb (headCode (s .held)) 1) read)) .ok
+      let read : eqb (s .came) headLength && eqb (headCode (s .head)) 1 ≡ true
+      = or-rest (ltb (s .came) headLength) _ here (le-ltb (s .came) headLength whole) in
+      passed (s .head) (eqb-true _ _ (and-right (eqb (s .came) headLength) (eqb (headCode (s .head)) 1) read)) .ok
 
 -- ---- which part of a call
 
@@ -174,13 +194,13 @@ module _ (s : Span) (piece : List ℕ) (room′ : ℕ) where
   unfolding eatingOf
   eating-stopped v p = rw (v, p)
 
-  pub eating-head : validSpan s ≡ true → s .stopped ≡ false → s .taken < headLength → eatingOf s piece room′ ≡ opening s piece room′
+  pub eating-head : validSpan s ≡ true → s .stopped ≡ false → s .came < headLength → eatingOf s piece room′ ≡ opening s piece room′
   unfolding eatingOf
-  eating-head v p h = rw (v, p, lt-ltb (s .taken) headLength h)
+  eating-head v p h = rw (v, p, lt-ltb (s .came) headLength h)
 
-  pub eating-packets : validSpan s ≡ true → s .stopped ≡ false → headLength ≤ s .taken → eatingOf s piece room′ ≡ listening s piece room′
+  pub eating-packets : validSpan s ≡ true → s .stopped ≡ false → headLength ≤ s .came → eatingOf s piece room′ ≡ listening s piece room′
   unfolding eatingOf
-  eating-packets v p h = rw (v, p, le-ltb (s .taken) headLength h)
+  eating-packets v p h = rw (v, p, le-ltb (s .came) headLength h)
 
 module _ (s : Span) (room′ : ℕ) where
   pub finishing-broken : validSpan s ≡ false → finishingOf s room′ ≡ silentWith 21
@@ -196,6 +216,7 @@ module _ (s : Span) (room′ : ℕ) where
   finishing-says v p = rw (v, p)
 
 -- as `answers`, for the end
-pub finishes : {e : Told} (out : List ℕ) {after : List ℕ} {x : Telling} (y : Telling) → x ≡ y → (e ≡ y .told) × (after ≡ sets out 0 (y .bytes))
+pub finishes : {e : Told} (out : List ℕ) {after : List ℕ} {x : Telling} (y : Telling) → x ≡ y
+    → (e ≡ y .told) × (after ≡ sets out 0 (y .bytes))
     → (e ≡ x .told) × (after ≡ sets out 0 (x .bytes))
 finishes {e} out {after} y same did = subst (λ (z : Telling). (e ≡ z .told) × (after ≡ sets out 0 (z .bytes))) (sym same) did

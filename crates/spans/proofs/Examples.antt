@@ -8,7 +8,7 @@ use Rattle.reader.specs.Reading.{readCode}
 use Rattle.heads.specs.declared.Head.{Head}
 use Rattle.heads.specs.Head.{headBytes}
 use Rattle.heads.specs.Head.{readCode as headCode}
-use Rattle.lines.specs.Lines.{digitsIn, decimal, openingLine, endLine}
+use Rattle.lines.specs.Lines.{digitsIn, decimal}
 use Rattle.spans.specs.Report.{packetsIn, linesFrom, linesOf, report, packetCode}
 
 -- "Head D = 100, 24 bits, small"
@@ -23,10 +23,11 @@ packet number = 0x84 ∷ 0x81 ∷ bytes 2 number ++ replicate 384 0
 abbrev example : List ℕ
 example = headBytes head ++ packet 0 ++ packet 1 ++ packet 4
 
-pub worked-lines : linesOf example ≡ openingLine ∷ record { word = 0x43 ∷ []; numbers = 1 ∷ 24 ∷ 64 ∷ 3 ∷ 5 ∷ 320 ∷ 1600 ∷ [] } ∷ endLine 1 ∷ []
-unfolding headBytes headCode linesOf linesFrom packetsIn packetCode readCode
-worked-lines = refl
-
-pub worked-text : report example ≡ 0x53 ∷ 0x50 ∷ 0x41 ∷ 0x4E ∷ 0x20 ∷ 0x31 ∷ 0x0A ∷ 0x43 ∷ 0x20 ∷ 0x31 ∷ 0x20 ∷ 0x32 ∷ 0x34 ∷ 0x20 ∷ 0x36 ∷ 0x34 ∷ 0x20 ∷ 0x33 ∷ 0x20 ∷ 0x35 ∷ 0x20 ∷ 0x33 ∷ 0x32 ∷ 0x30 ∷ 0x20 ∷ 0x31 ∷ 0x36 ∷ 0x30 ∷ 0x30 ∷ 0x0A ∷ 0x45 ∷ 0x20 ∷ 0x31 ∷ 0x0A ∷ []
+-- "SPAN 1", "C 1 24 64 3 5 320 1600", "E 1", a line each
+pub worked-text : report example
+    ≡ 0x53 ∷ 0x50 ∷ 0x41 ∷ 0x4E ∷ 0x20 ∷ 0x31 ∷ 0x0A
+    ∷ 0x43 ∷ 0x20 ∷ 0x31 ∷ 0x20 ∷ 0x32 ∷ 0x34 ∷ 0x20 ∷ 0x36 ∷ 0x34 ∷ 0x20 ∷ 0x33 ∷ 0x20 ∷ 0x35
+    ∷ 0x20 ∷ 0x33 ∷ 0x32 ∷ 0x30 ∷ 0x20 ∷ 0x31 ∷ 0x36 ∷ 0x30 ∷ 0x30 ∷ 0x0A
+    ∷ 0x45 ∷ 0x20 ∷ 0x31 ∷ 0x0A ∷ []
 unfolding headBytes headCode linesOf linesFrom packetsIn packetCode readCode report decimal digitsIn
 worked-text = refl

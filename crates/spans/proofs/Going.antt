@@ -35,9 +35,9 @@ pub record Counted (t : Tally) : Type 0 where
 
 -- A span that has not stopped, after so many bytes of input.
 pub record Going (s : Span) (used : ℕ) : Type 0 where
-  pub long : length (s .held) ≡ 14
-  pub head : s .taken < headLength → (s .taken ≡ used) × (s .tally ≡ freshTally)
-  pub packets : headLength ≤ s .taken → (s .taken ≡ headLength) × (headCode (s .held) ≡ 1) × (s .tally .begins + s .tally .taken ≡ used)
+  pub long : length (s .head) ≡ 14
+  pub head : s .came < headLength → (s .came ≡ used) × (s .tally ≡ freshTally)
+  pub packets : headLength ≤ s .came → (s .came ≡ headLength) × (headCode (s .head) ≡ 1) × (s .tally .begins + s .tally .taken ≡ used)
   pub counted : Counted (s .tally)
 
 pub fresh-counted : Counted freshTally
@@ -48,29 +48,31 @@ fresh-going = record { long = refl; head = λ h. (refl, refl); packets = λ h. a
 
 module _ (s : Span) (used : ℕ) (g : Going s used) (near : used ≤ farthest) where
   near-end : s .tally .begins + s .tally .taken ≤ farthest
-  near-end = elim (decLt (s .taken) headLength) [ yes h ↦ opened (g .head h .1) | no h ↦ omega (arith, g .packets (omega arith) .2) ]
+  near-end = elim (decLt (s .came) headLength) [ yes h ↦ opened (g .head h .1) | no h ↦ omega (arith, g .packets (omega arith) .2) ]
     where
       opened : s .tally ≡ freshTally → s .tally .begins + s .tally .taken ≤ farthest
       opened e = omega (arith, ap (λ (t : Tally). t .begins) e, ap (λ (t : Tally). t .taken) e)
 
   going-range : inRange (s .tally) ≡ true
   going-range =
-      range-by (s .tally) (le-leb (s .tally .begins + s .tally .taken) farthest near-end) (le-leb _ _ (g .counted .heard)) (le-leb _ _ (g .counted .captures)) (le-leb _ _ (g .counted .position))
+      let c = g .counted in
+      range-by (s .tally) (le-leb (s .tally .begins + s .tally .taken) farthest near-end)
+      (le-leb _ _ (c .heard)) (le-leb _ _ (c .captures)) (le-leb _ _ (c .position))
 
   going-head : headOk s ≡ true
-  going-head = elim (decLt (s .taken) headLength) [ yes h ↦ or-left _ _ (lt-ltb _ _ h) | no h ↦ whole (g .packets (omega arith)) ]
+  going-head = elim (decLt (s .came) headLength) [ yes h ↦ or-left _ _ (lt-ltb _ _ h) | no h ↦ whole (g .packets (omega arith)) ]
     where
-      whole : (s .taken ≡ headLength) × (headCode (s .held) ≡ 1) × (s .tally .begins + s .tally .taken ≡ used) → headOk s ≡ true
-      whole p = or-right (ltb (s .taken) headLength) _ (and-both _ _ (eq-eqb _ _ (p .0)) (eq-eqb _ _ (p .1)))
+      whole : (s .came ≡ headLength) × (headCode (s .head) ≡ 1) × (s .tally .begins + s .tally .taken ≡ used) → headOk s ≡ true
+      whole p = or-right (ltb (s .came) headLength) _ (and-both _ _ (eq-eqb _ _ (p .0)) (eq-eqb _ _ (p .1)))
 
   pub going-valid : s .stopped ≡ false → validSpan s ≡ true
   going-valid e = valid-by s e going-range going-head
 
   -- its lines are short
-  pub going-short : headLength ≤ s .taken → Short (headOf s) (s .tally)
+  pub going-short : headLength ≤ s .came → Short (headOf s) (s .tally)
   going-short whole =
       record {
-        ok = passed (s .held) (g .packets whole .1) .ok;
+        ok = passed (s .head) (g .packets whole .1) .ok;
         position = g .counted .position;
         captures = omega (arith, g .counted .captures, near-end);
         heard = omega (arith, g .counted .heard, near-end);
@@ -97,10 +99,14 @@ passed-accepting t = omega arith
 passed-settled : (n : ℕ) (f : Form) (t : Tally) → passedBy (settled n f t .tally) ≡ passedBy t
 unfolding settled
 passed-settled n f t =
-    pick-keeps (λ (r : Reach). passedBy (r .tally) ≡ passedBy t) (eqb (heardCode f t) 0) _ _ (λ e. refl)
-    (λ e. pick-keeps (λ (r : Reach). passedBy (r .tally) ≡ passedBy t) (eqb (heardCode f t) 1 && not (closes t)) (record { at = n; code = 0; tally = accepting t }) (record { at = n; code = heardCode f t; tally = t }) (λ d. passed-accepting t) (λ d. refl))
+    let stays : Reach → Type 0 = λ r. passedBy (r .tally) ≡ passedBy t in
+    let quiet : Reach = record { at = n; code = 0; tally = accepting t } in
+    let due : Reach = record { at = n; code = heardCode f t; tally = t } in
+    pick-keeps stays (eqb (heardCode f t) 0) _ _ (λ e. refl)
+    (λ e. pick-keeps stays (eqb (heardCode f t) 1 && not (closes t)) quiet due (λ d. passed-accepting t) (λ d. refl))
 
-pub passed-reach : (bs : List ℕ) (n : ℕ) (f : Form) (t : Tally) → passedBy (reaching n f t bs .tally) + n ≡ passedBy t + reaching n f t bs .at
+pub passed-reach : (bs : List ℕ) (n : ℕ) (f : Form) (t : Tally)
+    → passedBy (reaching n f t bs .tally) + n ≡ passedBy t + reaching n f t bs .at
 unfolding reaching
 passed-reach [] n f t = refl
 passed-reach (b ∷ bs) n f t =

@@ -25,9 +25,9 @@ use Rattle.lines.specs.Lines.{Line, textOf, openingLine, refusalLine}
 use Rattle.spans.specs.Report.{nothing, packetsIn, linesFrom, linesOf, report}
 use Rattle.spans.specs.Eating.{freshTally, freshSpan, lacking, headTaken, headLines}
 use Rattle.spans.specs.Pieces.{PrintsTheReport}
-use Rattle.spans.proofs.Telling.{toldBy}
-use Rattle.spans.proofs.Cuts.{toldHead, told, told-head, headToldBy, printed-is}
-use Rattle.spans.proofs.Reported.{Knows, told-lines}
+use Rattle.spans.proofs.Telling.{ifOne, comingBy}
+use Rattle.spans.proofs.Cuts.{filled, comingHead, coming, coming-head, headComing, printed-is}
+use Rattle.spans.proofs.Reported.{Knows, coming-lines}
 
 -- ---- a head in the first 14 bytes
 
@@ -40,7 +40,10 @@ drop-take (suc a) m (x ∷ l) = rw (suc-add a m) (drop-take a m l)
 field-head : (at n : ℕ) (s : List ℕ) → at + n ≤ headLength → field at n (take headLength s) ≡ field at n s
 field-head at n s inside =
     let all : headLength ≡ at + (headLength - at) = omega arith in
-    ap number (ap (λ (k : ℕ). take n (drop at (take k s))) all ∙ ap (take n) (drop-take at (headLength - at) s) ∙ take-take n (headLength - at) (drop at s) (omega arith))
+    ap number
+    (ap (λ (k : ℕ). take n (drop at (take k s))) all
+    ∙ ap (take n) (drop-take at (headLength - at) s)
+    ∙ take-take n (headLength - at) (drop at s) (omega arith))
 
 head-taken-in : (s : List ℕ) → headIn (take headLength s) ≡ headIn s
 head-taken-in s =
@@ -61,46 +64,62 @@ nothing-known = record { taken = refl; offset = refl; captures = refl; heard = r
 
 module _ (input : List ℕ) where
   -- the head is cut off
-  cut-head : length input < headLength → toldHead freshSpan input ≡ linesOf input
+  cut-head : length input < headLength → comingHead freshSpan input ≡ linesOf input
   unfolding linesOf
   cut-head short =
       let code : headCode input ≡ 40 = code-by input (lt-ltb (length input) headLength short) refl refl refl in
-      rw (lt-ltb (headTaken freshSpan input .taken) headLength (omega arith), code)
+      rw (lt-ltb (headTaken freshSpan input .came) headLength (omega arith), code)
 
   -- the head is whole
+  abbrev first : List ℕ
+  first = take headLength input
+
+  abbrev rest : List ℕ
+  rest = drop headLength input
+
+  -- a head that reads with a code, and the packets behind it
+  abbrev byHead : ℕ → Head → List ℕ → List Line
+  byHead code h left = headLines code ++ ifOne code (comingBy h freshTally left)
+
   module _ (long : headLength ≤ length input) where
     lacks : lacking freshSpan input ≡ headLength
     lacks = omega arith
 
-    held : headTaken freshSpan input ≡ record { stopped = false; taken = headLength; held = take headLength input; tally = freshTally }
+    held : headTaken freshSpan input ≡ filled freshSpan headLength first
     held =
-        ap (λ (k : ℕ). record { stopped = false; taken = 0 + k; held = sets (replicate 14 0) 0 (take k input); tally = freshTally }) lacks
-        ∙ ap (λ (l : List ℕ). record { stopped = false; taken = headLength; held = l; tally = freshTally }) (sets-whole (replicate 14 0) (take headLength input) (length-take-le headLength input long))
+        let whole = sets-whole (replicate 14 0) first (length-take-le headLength input long) in
+        ap (λ (k : ℕ). filled freshSpan (0 + k) (sets (replicate 14 0) 0 (take k input))) lacks ∙ ap (filled freshSpan headLength) whole
 
-    after-head : toldHead freshSpan input ≡ headLines (headCode input) ++ pick (eqb (headCode input) 1) (toldBy (headIn input) freshTally (drop headLength input)) []
+    after-head : comingHead freshSpan input ≡ byHead (headCode input) (headIn input) rest
     after-head =
-        ap (λ (x : Span). headToldBy x (drop (lacking freshSpan input) input)) held
-        ∙ ap (λ (k : ℕ). headLines (headCode (take headLength input)) ++ pick (eqb (headCode (take headLength input)) 1) (toldBy (headIn (take headLength input)) freshTally (drop k input)) []) lacks
-        ∙ ap (λ (c : ℕ). headLines c ++ pick (eqb c 1) (toldBy (headIn (take headLength input)) freshTally (drop headLength input)) []) (head-code-taken input long)
-        ∙ ap (λ (x : Head). headLines (headCode input) ++ pick (eqb (headCode input) 1) (toldBy x freshTally (drop headLength input)) []) (head-taken-in input)
+        ap (λ (x : Span). headComing x (drop (lacking freshSpan input) input)) held
+        ∙ ap (λ (k : ℕ). byHead (headCode first) (headIn first) (drop k input)) lacks
+        ∙ ap (λ (c : ℕ). byHead c (headIn first) rest) (head-code-taken input long)
+        ∙ ap (λ (h : Head). byHead (headCode input) h rest) (head-taken-in input)
 
-    whole-head : allBytes input → toldHead freshSpan input ≡ linesOf input
+    whole-head : allBytes input → comingHead freshSpan input ≡ linesOf input
     unfolding linesOf
     whole-head small = after-head ∙ by (eqb (headCode input) 1) refl
       where
+        packets : List Line
+        packets = linesFrom (headIn input) nothing (packetsIn (length input) rest)
+
         by : (one : Bool) → eqb (headCode input) 1 ≡ one
-            → headLines (headCode input) ++ pick (eqb (headCode input) 1) (toldBy (headIn input) freshTally (drop headLength input)) []
-            ≡ openingLine ∷ pick (eqb (headCode input) 1) (linesFrom (headIn input) nothing (packetsIn (length input) (drop headLength input))) (refusalLine (headCode input) 0 ∷ [])
+            → byHead (headCode input) (headIn input) rest
+            ≡ openingLine ∷ pick (eqb (headCode input) 1) packets (refusalLine (headCode input) 0 ∷ [])
         by true e =
-            let ok = passed input (eqb-true (headCode input) 1 e) .ok in
-            rw e
-            (ap (λ (ls : List Line). openingLine ∷ ls)
-            (told-lines (length input) (headIn input) (form-listed (headIn input) ok) freshTally nothing (drop headLength input) (simp length-drop (omega arith)) nothing-known (bytes-drop headLength input small)))
+            let form = form-listed (headIn input) (passed input (eqb-true (headCode input) 1 e) .ok) in
+            let few : length rest ≤ length input = simp length-drop (omega arith) in
+            let small-rest = bytes-drop headLength input small in
+            let same = coming-lines (length input) (headIn input) form freshTally nothing rest few nothing-known small-rest in
+            rw e (ap (λ (ls : List Line). openingLine ∷ ls) same)
         by false e = rw e
 
-  pub told-input : allBytes input → told freshSpan input ≡ linesOf input
-  told-input small = told-head freshSpan input refl (omega arith) ∙ elim (decLt (length input) headLength) [ yes short ↦ cut-head short | no short ↦ whole-head (omega arith) small ]
+  pub coming-input : allBytes input → coming freshSpan input ≡ linesOf input
+  coming-input small =
+      coming-head freshSpan input refl (omega arith)
+      ∙ elim (decLt (length input) headLength) [ yes short ↦ cut-head short | no short ↦ whole-head (omega arith) small ]
 
 pub report-is : PrintsTheReport
 unfolding report
-report-is pieces small near = printed-is pieces near ∙ ap textOf (told-input (joined pieces) small)
+report-is pieces small near = printed-is pieces near ∙ ap textOf (coming-input (joined pieces) small)

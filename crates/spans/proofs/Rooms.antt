@@ -1,8 +1,8 @@
 -- 256 bytes are room enough for the lines that are due at one moment.
 use Prim.Native.Nat.{ℕ, _+_, _*_, _^_, _≤_, _<_}
-use mathlib.Core.Path.{_≡_, ap}
-use mathlib.Core.Bool.{true}
-use mathlib.Core.List.{List, [], _∷_}
+use mathlib.Core.Path.{_≡_, ap, _∙_}
+use mathlib.Core.Bool.{Bool, true, false}
+use mathlib.Core.List.{List, [], _∷_, _++_}
 use native.Mathlib.Omega.{arith}
 use lib.Dec.{eqb}
 use lib.ListN.{length, length-append}
@@ -14,20 +14,29 @@ use Rattle.heads.specs.declared.Head.{Head}
 use Rattle.heads.specs.Head.{formIn, allowed}
 use Rattle.heads.proofs.Rounds.{form-listed, divisor-small}
 use Rattle.hearing.specs.declared.Tally.{Tally}
-use Rattle.lines.specs.Lines.{Line, textOf, openingLine, samplesOver, captureLine, refusalLine, endLine}
+use Rattle.lines.specs.Lines.{Line, textOf, openingLine, samplesOver, endTime, captureLine, refusalLine, endLine}
 use Rattle.spans.specs.Eating.{headLines, endedNow, heardLines}
 use Rattle.lines.proofs.Dues.{text-append, samples-fit, time-fits}
-use Rattle.lines.proofs.Lengths.{line-length, text-length, refusal-length, end-length}
+use Rattle.lines.proofs.Lengths.{allFit, line-length, text-length, refusal-length, end-length}
 use Rattle.spans.proofs.Telling.{endLines}
 
 -- ---- the lines
 
+lines-length : (ls ms : List Line) → length (textOf (ls ++ ms)) ≡ length (textOf ls) + length (textOf ms)
+lines-length ls ms = ap length (text-append ls ms) ∙ length-append (textOf ls) (textOf ms)
+
+-- nothing, or a refusal
+refusal-room : (none : Bool) (code offset : ℕ) → code < 2 ^ 64 → offset < 2 ^ 64
+    → length (textOf (pick none [] (refusalLine code offset ∷ []))) ≤ 44
+refusal-room true code offset small near = omega arith
+refusal-room false code offset small near = refusal-length code offset small near
+
 -- "SPAN 1", and a refusal
 pub head-room : (code : ℕ) → code < 2 ^ 64 → length (textOf (headLines code)) ≤ 256
 head-room code small =
-    let rest : length (textOf (pick (eqb code 1) [] (refusalLine code 0 ∷ []))) ≤ 44
-    = pick-keeps (λ (ls : List Line). length (textOf ls) ≤ 44) (eqb code 1) _ _ (λ e. omega arith) (λ e. refusal-length code 0 small (omega arith)) in
-    omega (arith, text-length openingLine (pick (eqb code 1) [] (refusalLine code 0 ∷ [])), line-length openingLine (omega arith, tt), rest)
+    let rest : List Line = pick (eqb code 1) [] (refusalLine code 0 ∷ []) in
+    let few = refusal-room (eqb code 1) code 0 small (omega arith) in
+    omega (arith, text-length openingLine rest, line-length openingLine (omega arith, tt), few)
 
 -- What the lines of a tally need to be short: an allowed head, and counts that fit.
 pub record Short (h : Head) (t : Tally) : Type 0 where
@@ -41,26 +50,32 @@ module _ (h : Head) (t : Tally) (s : Short h t) where
   ended-length : length (textOf (endedNow h t)) ≤ 149
   ended-length =
       let form = is-listed-form (formIn h) (form-listed h (s .ok)) in
-      let samples : samplesOver (formIn h) (t .position + 1) ≤ 1_024_000_000_000 = samples-fit (t .position + 1) (formIn h .pairs) (omega (arith, s .position)) (form .few) in
-      let time : samplesOver (formIn h) (t .position + 1) * h .divisor ≤ 640_000_000_000_000 = time-fits (samplesOver (formIn h) (t .position + 1)) (h .divisor) samples (divisor-small h (s .ok)) in
+      let n : ℕ = samplesOver (formIn h) (t .position + 1) in
+      let samples : n ≤ 1_024_000_000_000
+      = samples-fit (t .position + 1) (formIn h .pairs) (omega (arith, s .position)) (form .few) in
+      let time : n * h .divisor ≤ 640_000_000_000_000 = time-fits n (h .divisor) samples (divisor-small h (s .ok)) in
       let line : Line = captureLine (formIn h) (h .divisor) (t .captures) (t .heard) (t .position) in
+      let over : allFit ((t .position + 1) ∷ n ∷ endTime (h .divisor) n ∷ [])
+      = (omega (arith, s .position), (omega (arith, samples), (omega (arith, time), tt))) in
+      let fit : allFit (line .numbers)
+      = (s .captures, (omega (arith, form .narrow), (omega (arith, form .few), (s .heard, over)))) in
       pick-keeps (λ (ls : List Line). length (textOf ls) ≤ 149) (eqb (t .heard) 0) _ _ (λ e. omega arith)
-      (λ e.
-      omega
-      (arith, text-length line [], line-length line (s .captures, (omega (arith, form .narrow), (omega (arith, form .few), (s .heard, (omega (arith, s .position), (omega (arith, samples), (omega (arith, time), tt)))))))))
+      (λ e. omega (arith, text-length line [], line-length line fit))
 
   -- a capture that ends, and a refusal
   pub heard-room : (at code : ℕ) → code < 2 ^ 64 → length (textOf (heardLines h (record { at = at; code = code; tally = t }))) ≤ 256
   heard-room at code small =
       let rest : List Line = pick (eqb code 1) [] (refusalLine code (t .begins) ∷ []) in
-      let short : length (textOf rest) ≤ 44
-      = pick-keeps (λ (ls : List Line). length (textOf ls) ≤ 44) (eqb code 1) _ _ (λ e. omega arith) (λ e. refusal-length code (t .begins) small (s .begins)) in
-      omega (arith, ap length (text-append (endedNow h t) rest), length-append (textOf (endedNow h t)) (textOf rest), ended-length, short)
+      let few = refusal-room (eqb code 1) code (t .begins) small (s .begins) in
+      omega (arith, lines-length (endedNow h t) rest, ended-length, few)
 
   -- the last capture, and a refusal or the end
   pub end-room : length (textOf (endLines h t)) ≤ 256
   end-room =
-      let rest : List Line = pick (eqb (t .taken) 0) (endLine (t .captures) ∷ []) (refusalLine 30 (t .begins) ∷ []) in
-      let short : length (textOf rest) ≤ 44
-      = pick-keeps (λ (ls : List Line). length (textOf ls) ≤ 44) (eqb (t .taken) 0) _ _ (λ e. omega (arith, end-length (t .captures) (s .captures))) (λ e. refusal-length 30 (t .begins) (omega arith) (s .begins)) in
-      omega (arith, ap length (text-append (endedNow h t) rest), length-append (textOf (endedNow h t)) (textOf rest), ended-length, short)
+      let end : List Line = endLine (t .captures) ∷ [] in
+      let rest : List Line = pick (eqb (t .taken) 0) end (refusalLine 30 (t .begins) ∷ []) in
+      let few : length (textOf rest) ≤ 44
+      = pick-keeps (λ (ls : List Line). length (textOf ls) ≤ 44) (eqb (t .taken) 0) _ _
+      (λ e. omega (arith, end-length (t .captures) (s .captures)))
+      (λ e. refusal-length 30 (t .begins) (omega arith) (s .begins)) in
+      omega (arith, lines-length (endedNow h t) rest, ended-length, few)

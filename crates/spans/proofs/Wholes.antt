@@ -21,7 +21,8 @@ use Rattle.hearing.proofs.Reaches.{form-with-own}
 pub header-length : (h : ℕ) → listed (formWithHeader h) ≡ true → lengthIn h ≡ totalOf (formWithHeader h)
 header-length h l = first (eqb h 0x85A4) refl
   where
-    fourth : (b : Bool) → eqb h 0x85A4 ≡ false → eqb h 0x8184 ≡ false → eqb h 0x8404 ≡ false → eqb h 0x8204 ≡ b → lengthIn h ≡ totalOf (formWithHeader h)
+    fourth : (b : Bool) → eqb h 0x85A4 ≡ false → eqb h 0x8184 ≡ false → eqb h 0x8404 ≡ false → eqb h 0x8204 ≡ b
+        → lengthIn h ≡ totalOf (formWithHeader h)
     fourth true p q r e = rw (eqb-true h 0x8204 e)
     fourth false p q r e = absurd (true-not-false (sym (rw (p, q, r, e) at l)))
 
@@ -49,7 +50,8 @@ same-header rest = ap number (take-take 2 (totalOf (formAt rest)) rest (omega ar
 pub is-whole : (rest : List ℕ) → isPacket (packetIn rest) ≡ true → (listed (formAt rest) ≡ true) × (totalOf (formAt rest) ≤ length rest)
 is-whole rest e =
     let w = packet-is (packetIn rest) e in
-    let form : formAt rest ≡ wholeOf (packetIn rest) = ap formWithHeader (sym (same-header rest) ∙ w .header) ∙ form-with-own (wholeOf (packetIn rest)) (w .form) in
+    let form : formAt rest ≡ wholeOf (packetIn rest)
+    = ap formWithHeader (sym (same-header rest) ∙ w .header) ∙ form-with-own (wholeOf (packetIn rest)) (w .form) in
     let long : length (packetIn rest) ≡ totalOf (formAt rest) = w .long ∙ ap totalOf (sym form) in
     (ap listed form ∙ w .form, omega (arith, long, length-take (totalOf (formAt rest)) rest))
 
@@ -60,7 +62,8 @@ module _ (rest : List ℕ) (ok : listed (formAt rest) ≡ true) (room : totalOf 
 
   pub whole-form : wholeOf (packetIn rest) ≡ formAt rest
   whole-form =
-      let says : lengthIn (field 0 2 (packetIn rest)) ≡ totalOf (formAt rest) = ap lengthIn (same-header rest) ∙ header-length (field 0 2 rest) ok in
+      let says : lengthIn (field 0 2 (packetIn rest)) ≡ totalOf (formAt rest)
+      = ap lengthIn (same-header rest) ∙ header-length (field 0 2 rest) ok in
       let fits : eqb (length (packetIn rest)) (lengthIn (field 0 2 (packetIn rest))) ≡ true = eq-eqb _ _ (packet-length ∙ sym says) in
       whole-split (packetIn rest) ∙ rw fits (ap formWithHeader (same-header rest))
 

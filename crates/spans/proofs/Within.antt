@@ -17,7 +17,8 @@ use Rattle.spans.specs.declared.Span.{Span}
 use Rattle.lines.specs.Lines.{Line, textOf}
 use Rattle.lines.specs.Due.{Telling, silentWith, telling}
 use Rattle.hearing.specs.Hearing.{taking, settled, reaching}
-use Rattle.spans.specs.Eating.{validSpan, headOf, lacking, headTaken, headLines, headRead, heardLines, heardSpan, Eating, refused, silently, saying, opening, listening, eatingOf, lastLines, finishingOf}
+use Rattle.spans.specs.Eating.{validSpan, headOf, lacking, headTaken, headLines, headRead, heardLines, heardSpan}
+use Rattle.spans.specs.Eating.{Eating, refused, silently, saying, opening, listening, eatingOf, lastLines, finishingOf}
 use Rattle.hearing.proofs.Reaches.{settled-at}
 
 -- what was reached lies within the bytes
@@ -25,8 +26,10 @@ pub reach-within : (bs : List ℕ) (n : ℕ) (f : Form) (t : Tally) → reaching
 unfolding reaching
 reach-within [] n f t = omega arith
 reach-within (b ∷ bs) n f t =
-    let next = reach-within bs (n + 1) f (settled (n + 1) f (taking t b) .tally) in
-    pick-keeps (λ (r : Reach). r .at ≤ n + length (b ∷ bs)) (eqb (settled (n + 1) f (taking t b) .code) 0) _ _ (λ e. omega (arith, next)) (λ e. omega (arith, settled-at (n + 1) f (taking t b)))
+    let r : Reach = settled (n + 1) f (taking t b) in
+    let next = reach-within bs (n + 1) f (r .tally) in
+    pick-keeps (λ (x : Reach). x .at ≤ n + length (b ∷ bs)) (eqb (r .code) 0) _ _ (λ e. omega (arith, next))
+    (λ e. omega (arith, settled-at (n + 1) f (taking t b)))
 
 pub record Within (piece : List ℕ) (room : ℕ) (e : Eating) : Type 0 where
   pub consumed : e .eaten .consumed ≤ length piece
@@ -48,15 +51,18 @@ module _ (s : Span) (piece : List ℕ) (room : ℕ) where
   opening-within : Within piece room (opening s piece room)
   unfolding opening
   opening-within =
-      pick-keeps (Within piece room) (ltb (headTaken s piece .taken) headLength) _ _ (λ e. silently-within 0 (lacking s piece) _ (omega arith))
-      (λ e. saying-within (lacking s piece) (headLines (headCode (headTaken s piece .held))) (headRead (headCode (headTaken s piece .held)) (headTaken s piece)) (omega arith))
+      let after : Span = headTaken s piece in
+      let code : ℕ = headCode (after .head) in
+      pick-keeps (Within piece room) (ltb (after .came) headLength) _ _ (λ e. silently-within 0 (lacking s piece) after (omega arith))
+      (λ e. saying-within (lacking s piece) (headLines code) (headRead code after) (omega arith))
 
   listening-within : Within piece room (listening s piece room)
   unfolding listening
   listening-within =
+      let r : Reach = reaching 0 (formIn (headOf s)) (s .tally) piece in
       let inside = reach-within piece 0 (formIn (headOf s)) (s .tally) in
-      pick-keeps (Within piece room) (eqb (reaching 0 (formIn (headOf s)) (s .tally) piece .code) 0) _ _ (λ e. silently-within 0 (reaching 0 (formIn (headOf s)) (s .tally) piece .at) _ (omega (arith, inside)))
-      (λ e. saying-within (reaching 0 (formIn (headOf s)) (s .tally) piece .at) (heardLines (headOf s) (reaching 0 (formIn (headOf s)) (s .tally) piece)) (heardSpan s (reaching 0 (formIn (headOf s)) (s .tally) piece)) (omega (arith, inside)))
+      pick-keeps (Within piece room) (eqb (r .code) 0) _ _ (λ e. silently-within 0 (r .at) _ (omega (arith, inside)))
+      (λ e. saying-within (r .at) (heardLines (headOf s) r) (heardSpan s r) (omega (arith, inside)))
 
   pub eating-within : Within piece room (eatingOf s piece room)
   unfolding eatingOf
@@ -64,7 +70,7 @@ module _ (s : Span) (piece : List ℕ) (room : ℕ) where
       pick-keeps (Within piece room) (not (validSpan s)) _ _ (λ e. refused-within 21)
       (λ e.
       pick-keeps (Within piece room) (s .stopped) _ _ (λ q. silently-within 2 (length piece) s (omega arith))
-      (λ q. pick-keeps (Within piece room) (ltb (s .taken) headLength) _ _ (λ h. opening-within) (λ h. listening-within)))
+      (λ q. pick-keeps (Within piece room) (ltb (s .came) headLength) _ _ (λ h. opening-within) (λ h. listening-within)))
 
 pub record TellsWithin (room : ℕ) (t : Telling) : Type 0 where
   pub wrote : t .told .wrote ≤ room
@@ -75,7 +81,8 @@ silent-within code room = record { wrote = omega arith; counts = refl }
 
 telling-within : (text : List ℕ) (room : ℕ) → TellsWithin room (telling text room)
 telling-within text room =
-    pick-keeps (TellsWithin room) (ltb room (length text)) _ _ (λ e. silent-within 20 room) (λ e. record { wrote = ltb-false _ _ e; counts = refl })
+    pick-keeps (TellsWithin room) (ltb room (length text)) _ _ (λ e. silent-within 20 room)
+    (λ e. record { wrote = ltb-false _ _ e; counts = refl })
 
 pub finishing-within : (s : Span) (room : ℕ) → TellsWithin room (finishingOf s room)
 unfolding finishingOf

@@ -27,11 +27,11 @@ abbrev pub freshTally : Tally
 freshTally = record { begins = headLength; taken = 0; header = 0; number = 0; captures = 0; heard = 0; position = 0 }
 
 abbrev pub freshSpan : Span
-freshSpan = record { stopped = false; taken = 0; held = replicate 14 0; tally = freshTally }
+freshSpan = record { stopped = false; came = 0; head = replicate 14 0; tally = freshTally }
 
 -- the head is still coming, or is whole and one that is read
 abbrev pub headOk : Span → Bool
-headOk s = ltb (s .taken) headLength || (eqb (s .taken) headLength && eqb (headCode (s .held)) Code.done)
+headOk s = ltb (s .came) headLength || (eqb (s .came) headLength && eqb (headCode (s .head)) Code.done)
 
 -- A span that has not stopped is broken (21) where a count of its tally is out of its range, or its head is whole and one
 -- that is refused. All else is taken as it is, whether or not some bytes leave it.
@@ -39,11 +39,11 @@ unfoldable pub validSpan : Span → Bool
 validSpan s = s .stopped || (inRange (s .tally) && headOk s)
 
 abbrev pub headOf : Span → Head
-headOf s = headIn (s .held)
+headOf s = headIn (s .head)
 
 -- the span with a tally, that goes on (false) or has stopped (true)
 abbrev pub withTally : Bool → Span → Tally → Span
-withTally stopped s t = record { stopped = stopped; taken = s .taken; held = s .held; tally = t }
+withTally stopped s t = record { stopped = stopped; came = s .came; head = s .head; tally = t }
 
 -- ---- one call of eating
 
@@ -61,21 +61,26 @@ abbrev pub silently : ℕ → ℕ → Span → Eating
 silently code n after = record { eaten = record { code = code; consumed = n; wrote = 0; span = after }; bytes = [] }
 
 -- 1: lines are due after n bytes; 20 where the slice has no room for all of them
+abbrev pub sayingAll : ℕ → List Line → Span → Eating
+sayingAll n lines after =
+    record {
+      eaten = record { code = Code.done; consumed = n; wrote = length (textOf lines); span = after };
+      bytes = textOf lines;
+    }
+
 abbrev pub saying : Span → ℕ → ℕ → List Line → Span → Eating
-saying s room n lines after =
-    pick (ltb room (length (textOf lines))) (refused Code.noRoom s)
-    (record { eaten = record { code = Code.done; consumed = n; wrote = length (textOf lines); span = after }; bytes = textOf lines })
+saying s room n lines after = pick (ltb room (length (textOf lines))) (refused Code.noRoom s) (sayingAll n lines after)
 
 -- The head: as many bytes as it lacks are taken of a piece.
 abbrev pub lacking : Span → List ℕ → ℕ
-lacking s piece = min (headLength - s .taken) (length piece)
+lacking s piece = min (headLength - s .came) (length piece)
 
 abbrev pub headTaken : Span → List ℕ → Span
 headTaken s piece =
     record {
       stopped = false;
-      taken = s .taken + lacking s piece;
-      held = sets (s .held) (s .taken) (take (lacking s piece) piece);
+      came = s .came + lacking s piece;
+      head = sets (s .head) (s .came) (take (lacking s piece) piece);
       tally = s .tally;
     }
 
@@ -85,13 +90,13 @@ headLines code = openingLine ∷ pick (eqb code Code.done) [] (refusalLine code 
 
 -- the span after a whole head that reads with a code: it stops where the head is refused
 abbrev pub headRead : ℕ → Span → Span
-headRead code s = record { stopped = not (eqb code Code.done); taken = s .taken; held = s .held; tally = s .tally }
+headRead code s = record { stopped = not (eqb code Code.done); came = s .came; head = s .head; tally = s .tally }
 
 -- a span s, after the n bytes that its head lacked of a piece
 abbrev pub openingBy : Span → ℕ → ℕ → Span → Eating
 openingBy s room n after =
-    pick (ltb (after .taken) headLength) (silently Code.waiting n after)
-    (saying s room n (headLines (headCode (after .held))) (headRead (headCode (after .held)) after))
+    pick (ltb (after .came) headLength) (silently Code.waiting n after)
+    (saying s room n (headLines (headCode (after .head))) (headRead (headCode (after .head)) after))
 
 unfoldable pub opening : Span → List ℕ → ℕ → Eating
 opening s piece room = openingBy s room (lacking s piece) (headTaken s piece)
@@ -121,14 +126,14 @@ unfoldable pub eatingOf : Span → List ℕ → ℕ → Eating
 eatingOf s piece room =
     pick (not (validSpan s)) (refused Code.broken s)
     (pick (s .stopped) (silently Code.noReplyDue (length piece) s)
-    (pick (ltb (s .taken) headLength) (opening s piece room) (listening s piece room)))
+    (pick (ltb (s .came) headLength) (opening s piece room) (listening s piece room)))
 
 -- ---- the end of the input
 
 -- A head or a packet that is cut off is refused with 40 or 30, and else the count of captures ends it all.
 abbrev pub lastLines : Span → List Line
 lastLines s =
-    pick (ltb (s .taken) headLength) (openingLine ∷ refusalLine Code.notAHead 0 ∷ [])
+    pick (ltb (s .came) headLength) (openingLine ∷ refusalLine Code.notAHead 0 ∷ [])
     (endedNow (headOf s) (s .tally)
     ++ pick (eqb (s .tally .taken) 0) (endLine (s .tally .captures) ∷ []) (refusalLine Code.notAPacket (s .tally .begins) ∷ []))
 

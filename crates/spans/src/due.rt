@@ -78,14 +78,14 @@ pub(crate) fn heard_due(h: Head, r: Reach) -> Due
 
 // The lines that the end of the input brings.
 pub(crate) fn last_due(s: Span) -> Due
-    requires { ⌜ (s .tally .position ≤ last) × (headLength ≤ s .taken → allowed (headOf s) ≡ true) ⌝ }
+    requires { ⌜ (s .tally .position ≤ last) × (headLength ≤ s .came → allowed (headOf s) ≡ true) ⌝ }
     ensures { λ d. ⌜ (dueLines d ≡ lastLines s) × (sized d ≡ true) ⌝ }
 {
-    if s.taken < heads::LENGTH {
+    if s.came < heads::LENGTH {
         return head_due(codes::NOT_A_HEAD);
     }
-    let held = s.held;
-    let h = heads::head_in(&held);
+    let head = s.head;
+    let h = heads::head_in(&head);
     let t = s.tally;
     if t.taken == 0 {
         return ended_due(h, t, Ending::Captures(t.captures));

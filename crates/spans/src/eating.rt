@@ -6,7 +6,8 @@ ghost use lib.ListN.{length};
 ghost use lib.Seq.{sets};
 ghost use Rattle.heads.specs.Head.{allowed, headLength};
 ghost use Rattle.hearing.specs.Hearing.{inRange};
-ghost use Rattle.spans.specs.Eating.{freshSpan, validSpan, headOf, refused, headRead, withTally, opening, listening, eatingOf, finishingOf};
+ghost use Rattle.spans.specs.Eating.{freshSpan, validSpan, headOf, refused, headRead};
+ghost use Rattle.spans.specs.Eating.{withTally, opening, listening, eatingOf, finishingOf};
 use crate::Eaten;
 use crate::Span;
 use crate::due::head_due;
@@ -25,8 +26,8 @@ pub fn fresh() -> Span
 {
     Span {
         stopped: false,
-        taken: 0,
-        held: [0; 14],
+        came: 0,
+        head: [0; 14],
         tally: Tally {
             begins: 14,
             taken: 0,
@@ -68,11 +69,11 @@ fn refuse(code: u8, s: Span) -> Eaten
 fn with_tally(stopped: bool, s: Span, t: Tally) -> Span
     ensures { λ r. ⌜ r ≡ withTally stopped s t ⌝ }
 {
-    let held = s.held;
+    let head = s.head;
     Span {
         stopped,
-        taken: s.taken,
-        held,
+        came: s.came,
+        head,
         tally: t,
     }
 }
@@ -86,14 +87,14 @@ fn after_head(code: u8, s: Span) -> Span
 
 // The head's part of a piece.
 fn open(s: Span, piece: &[u8], out: &mut [u8]) -> Eaten
-    requires { ⌜ s .taken < headLength ⌝ }
+    requires { ⌜ s .came < headLength ⌝ }
     ensures { λ r.
         ⌜ (r ≡ opening s (now (piece .entry)) (length (now (out .entry))) .eaten)
         × (now (out .exit) ≡ sets (now (out .entry)) 0 (opening s (now (piece .entry)) (length (now (out .entry))) .bytes)) ⌝ }
 {
     let after = take_head(s, piece);
-    let k = after.taken - s.taken;
-    if after.taken < heads::LENGTH {
+    let k = after.came - s.came;
+    if after.came < heads::LENGTH {
         return Eaten {
             code: codes::WAITING,
             consumed: k,
@@ -101,8 +102,8 @@ fn open(s: Span, piece: &[u8], out: &mut [u8]) -> Eaten
             span: after,
         };
     }
-    let held = after.held;
-    let code = head_code(&held);
+    let head = after.head;
+    let code = head_code(&head);
     let told = lines::tell(head_due(code), out);
     // 16 cannot come: the numbers are a capture's
     if told.code == codes::NO_ROOM {
@@ -123,8 +124,8 @@ fn listen(s: Span, piece: &[u8], out: &mut [u8]) -> Eaten
         ⌜ (r ≡ listening s (now (piece .entry)) (length (now (out .entry))) .eaten)
         × (now (out .exit) ≡ sets (now (out .entry)) 0 (listening s (now (piece .entry)) (length (now (out .entry))) .bytes)) ⌝ }
 {
-    let held = s.held;
-    let h = heads::head_in(&held);
+    let head = s.head;
+    let h = heads::head_in(&head);
     let heard = hearing::hear(heads::form_in(h), s.tally, piece);
     let r = heard.reach;
     if r.code == codes::WAITING {
@@ -168,7 +169,7 @@ pub fn eat(s: Span, piece: &[u8], out: &mut [u8]) -> Eaten
             span: s,
         };
     }
-    if s.taken < heads::LENGTH {
+    if s.came < heads::LENGTH {
         return open(s, piece, out);
     }
     listen(s, piece, out)

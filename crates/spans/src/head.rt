@@ -24,30 +24,30 @@ pub(crate) fn head_code(s: &[u8]) -> u8
 pub(crate) fn head_ok(s: Span) -> bool
     ensures { λ r. ⌜ r ≡ headOk s ⌝ }
 {
-    if s.taken < heads::LENGTH {
+    if s.came < heads::LENGTH {
         return true;
     }
-    if s.taken != heads::LENGTH {
+    if s.came != heads::LENGTH {
         return false;
     }
-    let held = s.held;
-    head_code(&held) == codes::DONE
+    let head = s.head;
+    head_code(&head) == codes::DONE
 }
 
 // The span with the bytes that its head lacks taken of a piece.
 pub(crate) fn take_head(s: Span, piece: &[u8]) -> Span
-    requires { ⌜ s .taken < headLength ⌝ }
+    requires { ⌜ s .came < headLength ⌝ }
     ensures { λ r. ⌜ r ≡ headTaken s (now (piece .entry)) ⌝ }
 {
-    let taken = s.taken;
-    let k = wire::lesser(heads::LENGTH - taken, piece.len());
-    let mut held = s.held;
-    wire::copy(&piece[..k], &mut held, taken);
+    let came = s.came;
+    let k = wire::lesser(heads::LENGTH - came, piece.len());
+    let mut head = s.head;
+    wire::copy(&piece[..k], &mut head, came);
     let tally = s.tally;
     Span {
         stopped: false,
-        taken: taken + k,
-        held,
+        came: came + k,
+        head,
         tally,
     }
 }

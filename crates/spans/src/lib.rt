@@ -13,8 +13,8 @@ pub struct Span {
     // a refusal was printed, and no more bytes are wanted
     pub stopped: bool,
     // how many bytes of the head have come, and those bytes
-    pub taken: usize,
-    pub held: [u8; 14],
+    pub came: usize,
+    pub head: [u8; 14],
     pub tally: Tally,
 }
 

@@ -7,9 +7,9 @@ ghost use Rattle.wire.specs.Choice.{within};
 ghost use Rattle.wire.specs.Number.{bytes};
 ghost use Rattle.tuning.specs.Bands.{bands, inBands, rangeBytes};
 
-const FIRST_MINIMUM: u64 = 100_000;
+pub const FIRST_MINIMUM: u64 = 100_000;
 
-const FIRST_MAXIMUM: u64 = 34_000_000;
+pub const FIRST_MAXIMUM: u64 = 34_000_000;
 
 const FIRST_OSCILLATOR: u64 = 0;
 

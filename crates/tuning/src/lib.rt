@@ -2,6 +2,8 @@
 mod bands;
 mod word;
 
+pub use bands::FIRST_MAXIMUM;
+pub use bands::FIRST_MINIMUM;
 pub use bands::in_bands;
 pub use bands::put_range;
 pub use word::Word;

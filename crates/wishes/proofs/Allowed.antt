@@ -17,13 +17,19 @@ use Rattle.items.specs.Settings.{gains, isGain, isMode}
 use Rattle.wishes.proofs.Wish.{the-type}
 use Rattle.wishes.specs.declared.StateFields.{StateFields}
 use Rattle.wishes.specs.declared.Wish.{Wish}
-use Rattle.wishes.specs.declared.Wish.the-variants.{AskName, AskSerial, AskInterface, AskVersion, AskStatus, SetState, AskState, SetFrequency, AskFrequency, AskFrequencyRange, SetGain, AskGain, SetClock, AskClock, SetRate, AskRate, SetPacketSize, AskPacketSize}
+use Rattle.wishes.specs.declared.Wish.the-variants.{AskName, AskSerial, AskInterface, AskVersion, AskStatus, SetState}
+use Rattle.wishes.specs.declared.Wish.the-variants.{AskState, SetFrequency, AskFrequency, AskFrequencyRange, SetGain, AskGain}
+use Rattle.wishes.specs.declared.Wish.the-variants.{SetClock, AskClock, SetRate, AskRate, SetPacketSize, AskPacketSize}
 use Rattle.wishes.specs.Wishes.{Fits, allowed}
 
 pub bands-high : (hz : ℕ) → inBands hz ≡ true → hz ≤ 150_000_000
-bands-high hz =
-    by-or (within 100_000 34_000_000 hz) _ (λ (first : within 100_000 34_000_000 hz ≡ true). omega (arith, within-high 100_000 34_000_000 hz first))
-    (by-or (within 140_000_000 150_000_000 hz) false (within-high 140_000_000 150_000_000 hz) (λ (none : false ≡ true). absurd (true-not-false (sym none))))
+bands-high hz = by-or (within 100_000 34_000_000 hz) _ first (by-or (within 140_000_000 150_000_000 hz) false second never)
+  where
+    first : within 100_000 34_000_000 hz ≡ true → hz ≤ 150_000_000
+    first is = omega (arith, within-high 100_000 34_000_000 hz is)
+
+    second : within 140_000_000 150_000_000 hz ≡ true → hz ≤ 150_000_000
+    second = within-high 140_000_000 150_000_000 hz
 
 pub gain-below : (n : ℕ) → isGain n ≡ true → n < 256
 gain-below n = one-has (λ m. m < 256) n (map (coded 8) gains) (omega arith, (omega arith, (omega arith, (omega arith, tt))))
@@ -31,12 +37,19 @@ gain-below n = one-has (λ m. m < 256) n (map (coded 8) gains) (omega arith, (om
 -- the states that may be wished for: idle, with any mode, and run in either mode
 pub state-has : (P : StateFields → Type 0) → ((m : ℕ) → P (record { run = 1; mode = m })) → P (record { run = 2; mode = 0x80 })
     → P (record { run = 2; mode = 0x00 }) → (f : StateFields) → allowed (SetState f) ≡ true → P f
-state-has P idle wide narrow f =
-    by-or (eqb (f .run) 1) (eqb (f .run) 2 && isMode (f .mode))
-    (λ (is : eqb (f .run) 1 ≡ true). subst (λ (r : ℕ). P (record { run = r; mode = f .mode })) (sym (eqb-true (f .run) 1 is)) (idle (f .mode)))
-    (λ (is : eqb (f .run) 2 && isMode (f .mode) ≡ true).
-    subst (λ (r : ℕ). P (record { run = r; mode = f .mode })) (sym (eqb-true (f .run) 2 (and-left (eqb (f .run) 2) (isMode (f .mode)) is)))
-    (one-has (λ (m : ℕ). P (record { run = 2; mode = m })) (f .mode) (0x80 ∷ 0x00 ∷ []) (wide, (narrow, tt)) (and-right (eqb (f .run) 2) (isMode (f .mode)) is)))
+state-has P idle wide narrow f = by-or (eqb (f .run) 1) (eqb (f .run) 2 && isMode (f .mode)) rests runs
+  where
+    with-run : (r : ℕ) → eqb (f .run) r ≡ true → P (record { run = r; mode = f .mode }) → P f
+    with-run r is h = subst (λ (n : ℕ). P (record { run = n; mode = f .mode })) (sym (eqb-true (f .run) r is)) h
+
+    rests : eqb (f .run) 1 ≡ true → P f
+    rests is = with-run 1 is (idle (f .mode))
+
+    runs : eqb (f .run) 2 && isMode (f .mode) ≡ true → P f
+    runs is =
+        let mode : isMode (f .mode) ≡ true = and-right (eqb (f .run) 2) (isMode (f .mode)) is in
+        with-run 2 (and-left (eqb (f .run) 2) (isMode (f .mode)) is)
+        (one-has (λ (m : ℕ). P (record { run = 2; mode = m })) (f .mode) (0x80 ∷ 0x00 ∷ []) (wide, (narrow, tt)) mode)
 
 -- ---- gains
 
@@ -66,8 +79,12 @@ pub gain-bits : (g : ℤ) → mag g < 128 → isGain (coded 8 g) ≡ allowed (Se
 gain-bits (pos n) small =
     rw (ne-eqb n 246 (λ is. omega arith), ne-eqb n 236 (λ is. omega arith), ne-eqb n 226 (λ is. omega arith)) refl
 gain-bits (negsuc n) small =
-    rw (ne-eqb (256 - suc n) 0 (λ is. omega arith), bits-of n 9 small (omega arith), bits-of n 19 small (omega arith), bits-of n 29 small (omega arith))
-    refl
+    rw (
+      ne-eqb (256 - suc n) 0 (λ is. omega arith),
+      bits-of n 9 small (omega arith),
+      bits-of n 19 small (omega arith),
+      bits-of n 29 small (omega arith),
+    ) refl
 
 -- an allowed value fits its field
 pub value-fits : (w : Wish) → allowed w ≡ true → Fits w

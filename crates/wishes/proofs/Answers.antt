@@ -10,7 +10,7 @@ use Rattle.wishes.specs.declared.Wish.{Wish}
 use Rattle.wishes.specs.declared.Written.{Written}
 use Rattle.wishes.specs.declared.Written.the-variants.{Message, NotAllowed, NoRoom}
 use Rattle.wishes.specs.Wishes.{allowed}
-use Rattle.wishes.specs.Writing.{Told, told, writeCode}
+use Rattle.wishes.specs.Writing.{Writing, writtenSays, writeCode}
 
 module _ (w : Wish) (room : ℕ) where
   pub code-not-allowed : allowed w ≡ false → writeCode w room ≡ 16
@@ -26,15 +26,15 @@ module _ (w : Wish) (room : ℕ) where
   code-written e h = rw (e, le-ltb room 16 h)
 
 -- the case that tells so
-back : Told → Written
+back : Writing → Written
 back t = pick (eqb (t .code) 16) NotAllowed (pick (eqb (t .code) 20) NoRoom (Message (t .wrote)))
 
-back-told : (a : Written) → back (told a) ≡ a
+back-written : (a : Written) → back (writtenSays a) ≡ a
 unfolding back
-back-told (Message n) = refl
-back-told NotAllowed = refl
-back-told NoRoom = refl
+back-written (Message n) = refl
+back-written NotAllowed = refl
+back-written NoRoom = refl
 
 -- two answers that tell the same are the same
-pub told-one : (a b : Written) → told a ≡ told b → a ≡ b
-told-one = one-by told back back-told
+pub written-one : (a b : Written) → writtenSays a ≡ writtenSays b → a ≡ b
+written-one = one-by writtenSays back back-written

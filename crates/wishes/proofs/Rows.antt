@@ -1,17 +1,19 @@
 -- Wishes case by case, and by their rows.
 use Prim.Native.Nat.{ℕ, _+_, _≤_}
-use mathlib.Core.Path.{_≡_, refl}
-use mathlib.Core.List.{map}
+use mathlib.Core.Path.{refl}
 use lib.Dec.{eqb, lit≤}
 use lib.IntN.{ℤ, pos}
 use Rattle.wire.specs.Choice.{pick}
 use Rattle.layouts.specs.Layouts.{sizeOf}
-use Rattle.items.specs.Items.{echoes, Item, items, name, serial, interface, versions, status, state, frequency, gain, clock, rate, packetSize}
+use Rattle.items.specs.Items.{echoes, Item, name, serial, interface, versions}
+use Rattle.items.specs.Items.{status, state, frequency, gain, clock, rate, packetSize}
 use Rattle.items.specs.Table.{offered}
 use Rattle.wishes.specs.declared.StateFields.{StateFields}
 use Rattle.wishes.specs.declared.Wish.{Wish}
-use Rattle.wishes.specs.declared.Wish.the-variants.{AskName, AskSerial, AskInterface, AskVersion, AskStatus, SetState, AskState, SetFrequency, AskFrequency, AskFrequencyRange, SetGain, AskGain, SetClock, AskClock, SetRate, AskRate, SetPacketSize, AskPacketSize}
-use Rattle.wishes.specs.Wishes.{asking, Held, OneForEach, Among, widthIn, layoutOf}
+use Rattle.wishes.specs.declared.Wish.the-variants.{AskName, AskSerial, AskInterface, AskVersion, AskStatus, SetState}
+use Rattle.wishes.specs.declared.Wish.the-variants.{AskState, SetFrequency, AskFrequency, AskFrequencyRange, SetGain, AskGain}
+use Rattle.wishes.specs.declared.Wish.the-variants.{SetClock, AskClock, SetRate, AskRate, SetPacketSize, AskPacketSize}
+use Rattle.wishes.specs.Wishes.{asking, WishValues, OneForEach, Among, widthIn, layoutOf}
 
 -- what is shown of each case holds of every wish
 pub by-wish : (P : Wish → Type 0) → P AskName → P AskSerial → P AskInterface → ((id : ℕ) → P (AskVersion id)) → P AskStatus
@@ -46,36 +48,41 @@ of-row P a b c d e f g h i j k l m n o p q r =
 
 -- no message is longer than ten bytes
 pub short-message : (w : Wish) → sizeOf (layoutOf w) ≤ 10
-short-message =
-    of-row (λ i k. pick (eqb (echoes (i .echoed)) 1) 5 4 + widthIn i (offered i k) ≤ 10)
-    (lit≤ tt) (lit≤ tt) (lit≤ tt) (lit≤ tt) (lit≤ tt) (lit≤ tt) (lit≤ tt) (lit≤ tt) (lit≤ tt) (lit≤ tt) (lit≤ tt) (lit≤ tt) (lit≤ tt) (lit≤ tt) (lit≤ tt) (lit≤ tt) (lit≤ tt) (lit≤ tt)
+short-message w = search (of-row (λ i k. pick (eqb (echoes (i .echoed)) 1) 5 4 + widthIn i (offered i k) ≤ 10), lit≤)
 
 -- "One wish for each kind and item above."
 pub one-for-each : OneForEach
 one-for-each v = refl
 
+abbrev holding : ℕ → StateFields → ℕ → ℤ → ℕ → ℕ → ℕ → WishValues
+holding id state frequency gain clock rate size =
+    record { id = id; state = state; frequency = frequency; gain = gain; clock = clock; rate = rate; size = size }
+
 -- none of these values is looked at
-abbrev any : Held
-any = record { id = 0; state = record { run = 0; mode = 0 }; frequency = 0; gain = pos 0; clock = 0; rate = 0; size = 0 }
+abbrev noState : StateFields
+noState = record { run = 0; mode = 0 }
+
+abbrev any : WishValues
+any = holding 0 noState 0 (pos 0) 0 0 0
 
 pub every-wish : (w : Wish) → Among w
 every-wish =
     by-wish Among
-    (record { held = any; place = 0; is = refl })
-    (record { held = any; place = 1; is = refl })
-    (record { held = any; place = 2; is = refl })
-    (λ id. record { held = record { id = id; state = record { run = 0; mode = 0 }; frequency = 0; gain = pos 0; clock = 0; rate = 0; size = 0 }; place = 3; is = refl })
-    (record { held = any; place = 4; is = refl })
-    (λ f. record { held = record { id = 0; state = f; frequency = 0; gain = pos 0; clock = 0; rate = 0; size = 0 }; place = 5; is = refl })
-    (record { held = any; place = 6; is = refl })
-    (λ hz. record { held = record { id = 0; state = record { run = 0; mode = 0 }; frequency = hz; gain = pos 0; clock = 0; rate = 0; size = 0 }; place = 7; is = refl })
-    (record { held = any; place = 8; is = refl })
-    (record { held = any; place = 9; is = refl })
-    (λ g. record { held = record { id = 0; state = record { run = 0; mode = 0 }; frequency = 0; gain = g; clock = 0; rate = 0; size = 0 }; place = 10; is = refl })
-    (record { held = any; place = 11; is = refl })
-    (λ hz. record { held = record { id = 0; state = record { run = 0; mode = 0 }; frequency = 0; gain = pos 0; clock = hz; rate = 0; size = 0 }; place = 12; is = refl })
-    (record { held = any; place = 13; is = refl })
-    (λ hz. record { held = record { id = 0; state = record { run = 0; mode = 0 }; frequency = 0; gain = pos 0; clock = 0; rate = hz; size = 0 }; place = 14; is = refl })
-    (record { held = any; place = 15; is = refl })
-    (λ n. record { held = record { id = 0; state = record { run = 0; mode = 0 }; frequency = 0; gain = pos 0; clock = 0; rate = 0; size = n }; place = 16; is = refl })
-    (record { held = any; place = 17; is = refl })
+    (record { values = any; place = 0; is = refl })
+    (record { values = any; place = 1; is = refl })
+    (record { values = any; place = 2; is = refl })
+    (λ id. record { values = holding id noState 0 (pos 0) 0 0 0; place = 3; is = refl })
+    (record { values = any; place = 4; is = refl })
+    (λ f. record { values = holding 0 f 0 (pos 0) 0 0 0; place = 5; is = refl })
+    (record { values = any; place = 6; is = refl })
+    (λ hz. record { values = holding 0 noState hz (pos 0) 0 0 0; place = 7; is = refl })
+    (record { values = any; place = 8; is = refl })
+    (record { values = any; place = 9; is = refl })
+    (λ g. record { values = holding 0 noState 0 g 0 0 0; place = 10; is = refl })
+    (record { values = any; place = 11; is = refl })
+    (λ hz. record { values = holding 0 noState 0 (pos 0) hz 0 0; place = 12; is = refl })
+    (record { values = any; place = 13; is = refl })
+    (λ hz. record { values = holding 0 noState 0 (pos 0) 0 hz 0; place = 14; is = refl })
+    (record { values = any; place = 15; is = refl })
+    (λ n. record { values = holding 0 noState 0 (pos 0) 0 0 n; place = 16; is = refl })
+    (record { values = any; place = 17; is = refl })

@@ -1,6 +1,6 @@
 -- What the harvester asks is what the box understands: the message of an allowed wish is refused only where the box is
 -- running and its row is locked, and a box that takes it has the settings that the wish means.
-use Prim.Native.Nat.{ℕ, _<_}
+use Prim.Native.Nat.{ℕ}
 use mathlib.Core.Path.{_≡_, refl, sym, ap, _∙_}
 use mathlib.Core.Bool.{Bool, true, false, not, _&&_, _||_}
 use mathlib.Core.List.{List, [], _∷_, _++_}
@@ -9,7 +9,7 @@ use native.Mathlib.Nat.{mod-eq-of-lt}
 use native.Mathlib.Omega.{arith}
 use lib.Dec.{eqb, ltb}
 use borrow.Author.Tests.{eqb-false}
-use lib.ListN.{getD, replicate}
+use lib.ListN.{replicate}
 use Rattle.wire.specs.Choice.{pick, check, firstOf}
 use Rattle.wire.specs.Lists.{allBytes}
 use Rattle.wire.specs.Number.{number, bytes}
@@ -27,7 +27,9 @@ use Rattle.items.specs.Items.{idle, run, mayState, rowOf, listed}
 use Rattle.items.specs.Answer.{codeOf, settingsAfter, valueAllowed, refusedRunning, row, parameters}
 use Rattle.wishes.specs.declared.StateFields.{StateFields}
 use Rattle.wishes.specs.declared.Wish.{Wish}
-use Rattle.wishes.specs.declared.Wish.the-variants.{AskName, AskSerial, AskInterface, AskVersion, AskStatus, SetState, AskState, SetFrequency, AskFrequency, AskFrequencyRange, SetGain, AskGain, SetClock, AskClock, SetRate, AskRate, SetPacketSize, AskPacketSize}
+use Rattle.wishes.specs.declared.Wish.the-variants.{AskName, AskSerial, AskInterface, AskVersion, AskStatus, SetState}
+use Rattle.wishes.specs.declared.Wish.the-variants.{AskState, SetFrequency, AskFrequency, AskFrequencyRange, SetGain, AskGain}
+use Rattle.wishes.specs.declared.Wish.the-variants.{SetClock, AskClock, SetRate, AskRate, SetPacketSize, AskPacketSize}
 use Rattle.wishes.specs.Wishes.{asking, layoutOf, Fits, allowed, granted, notNow, messageOf, asMessage}
 use Rattle.wishes.specs.Writing.{writeCode}
 use Rattle.wishes.proofs.Rows.{by-wish, of-row}
@@ -43,15 +45,22 @@ abbrev locked : Wish → Settings → Bool
 locked w s = refusedRunning (asking w .item) (asking w .kind) s (parametersOf (layoutOf w))
 
 -- Header, item, kind, length and channel speak against no wish: what is left are the value, and that the box is running.
-checked : (w : Wish) (s : Settings) → codeOf s (asMessage w) ≡ firstOf (check 16 (not (valueTaken w)) ∷ check 17 (locked w s) ∷ []) 1
+abbrev Checked : Wish → Type 0
+Checked w = (s : Settings) → codeOf s (asMessage w) ≡ firstOf (check 16 (not (valueTaken w)) ∷ check 17 (locked w s) ∷ []) 1
+
+checked : (w : Wish) → Checked w
 unfolding codeOf rowOf listed messageOf
-checked = by-wish (λ w. (s : Settings) → codeOf s (asMessage w) ≡ firstOf (check 16 (not (valueTaken w)) ∷ check 17 (locked w s) ∷ []) 1) (λ s. refl) (λ s. refl) (λ s. refl) (λ id s. refl) (λ s. refl) (λ f s. refl) (λ s. refl) (λ hz s. refl) (λ s. refl) (λ s. refl) (λ g s. refl) (λ s. refl) (λ hz s. refl) (λ s. refl) (λ hz s. refl) (λ s. refl) (λ n s. refl) (λ s. refl)
+checked w = search (by-wish Checked)
 
 -- a state's bytes come back
-run-same : (r m : ℕ) → allBytes (0x80 ∷ r ∷ m ∷ 0x00 ∷ [])
-    → mayState (bytes 4 (number (0x80 ∷ r ∷ m ∷ 0x00 ∷ [])) ++ replicate 56 0) ≡ eqb r idle || (eqb r run && isMode m)
+abbrev runSent : ℕ → ℕ → List ℕ
+runSent r m = 0x80 ∷ r ∷ m ∷ 0x00 ∷ []
+
+run-same : (r m : ℕ) → allBytes (runSent r m)
+    → mayState (bytes 4 (number (runSent r m)) ++ replicate 56 0) ≡ eqb r idle || (eqb r run && isMode m)
 run-same r m fits =
-    ap (λ (l : List ℕ). mayState (l ++ replicate 56 0)) (bytes-number (0x80 ∷ r ∷ m ∷ 0x00 ∷ []) (byte-at (0x80 ∷ r ∷ m ∷ 0x00 ∷ []) fits)) ∙ tests (eqb r idle) (eqb r run) (isMode m)
+    ap (λ (l : List ℕ). mayState (l ++ replicate 56 0)) (bytes-number (runSent r m) (byte-at (runSent r m) fits))
+    ∙ tests (eqb r idle) (eqb r run) (isMode m)
   where
     tests : (a b c : Bool) → a || (b && true && c) ≡ a || (b && c)
     tests a true c = refl
@@ -151,7 +160,7 @@ unfit-refused w room unfit = code-not-allowed w room (go (allowed w) refl)
 -- the box finds the wish's row
 pub row-of-wish : (w : Wish) → row (asMessage w) ≡ asking w .item
 unfolding rowOf messageOf
-row-of-wish = of-row (λ i k. rowOf (number (bytes 2 (i .code))) ≡ i) refl refl refl refl refl refl refl refl refl refl refl refl refl refl refl refl refl refl
+row-of-wish w = search (of-row (λ i k. rowOf (number (bytes 2 (i .code))) ≡ i))
 
 -- the settings that a taken message leaves
 abbrev taken : Wish → Settings → Settings
@@ -184,6 +193,9 @@ pub settings-of-wish : (w : Wish) (s : Settings) → allowed w ≡ true → sett
 unfolding settingsAfter
 settings-of-wish w s e = rw (code-of-wish w s e, row-of-wish w) (by (notNow w s))
   where
-    by : (t : Bool) → pick (eqb (pick t 17 1) 1 && eqb (asking w .kind) typeSet) (asking w .item .rule .stored s (parameters (asMessage w))) s ≡ pick t s (granted w s)
+    stored : Settings
+    stored = asking w .item .rule .stored s (parameters (asMessage w))
+
+    by : (t : Bool) → pick (eqb (pick t 17 1) 1 && eqb (asking w .kind) typeSet) stored s ≡ pick t s (granted w s)
     by true = refl
     by false = taken-granted w s e

@@ -19,12 +19,15 @@ use Rattle.layouts.specs.declared.Layout.{Layout}
 use Rattle.layouts.specs.Layouts.{laid}
 use Rattle.items.specs.declared.Settings.{Settings}
 use Rattle.items.specs.Settings.{gains, isMode, isSize, withFrequency, withClock, withDivisor, withGain, withSize}
-use Rattle.items.specs.Items.{echoes, Offer, total, dash, Item, items, name, serial, interface, versions, status, state, frequency, gain, clock, rate, packetSize, idle, run, isVersion, stateTo}
+use Rattle.items.specs.Items.{echoes, Offer, total, dash, Item, items, name, serial, interface, versions, status}
+use Rattle.items.specs.Items.{state, frequency, gain, clock, rate, packetSize, idle, run, isVersion, stateTo}
 use Rattle.items.specs.Table.{offered}
 use Rattle.items.specs.Answer.{Message}
 use Rattle.wishes.specs.declared.StateFields.{StateFields}
 use Rattle.wishes.specs.declared.Wish.{Wish}
-use Rattle.wishes.specs.declared.Wish.the-variants.{AskName, AskSerial, AskInterface, AskVersion, AskStatus, SetState, AskState, SetFrequency, AskFrequency, AskFrequencyRange, SetGain, AskGain, SetClock, AskClock, SetRate, AskRate, SetPacketSize, AskPacketSize}
+use Rattle.wishes.specs.declared.Wish.the-variants.{AskName, AskSerial, AskInterface, AskVersion, AskStatus, SetState}
+use Rattle.wishes.specs.declared.Wish.the-variants.{AskState, SetFrequency, AskFrequency, AskFrequencyRange, SetGain, AskGain}
+use Rattle.wishes.specs.declared.Wish.the-variants.{SetClock, AskClock, SetRate, AskRate, SetPacketSize, AskPacketSize}
 
 -- A value as it is sent: a number, least significant byte first; a signed byte; or byte after byte.
 pub data Value : Type 0 where
@@ -108,7 +111,7 @@ cellsIn (i ∷ is) =
     ++ cellsIn is
 
 -- the values that wishes hold
-pub record Held : Type 0 where
+pub record WishValues : Type 0 where
   pub id : ℕ
   pub state : StateFields
   pub frequency : ℕ
@@ -117,7 +120,7 @@ pub record Held : Type 0 where
   pub rate : ℕ
   pub size : ℕ
 
-abbrev pub eachWish : Held → List Wish
+abbrev pub eachWish : WishValues → List Wish
 eachWish v =
     AskName
     ∷ AskSerial
@@ -144,13 +147,13 @@ cellAsked w = record { code = asking w .item .code; kind = asking w .kind }
 
 -- they ask for the same, in the table's order
 abbrev pub OneForEach : Type 0
-OneForEach = (v : Held) → map cellAsked (eachWish v) ≡ cellsIn items
+OneForEach = (v : WishValues) → map cellAsked (eachWish v) ≡ cellsIn items
 
 -- and there is no other wish
 pub record Among (w : Wish) : Type 0 where
-  pub held : Held
+  pub values : WishValues
   pub place : ℕ
-  pub is : getD (eachWish held) place AskName ≡ w
+  pub is : getD (eachWish values) place AskName ≡ w
 
 -- "Lengths are totals": header and item code are four bytes, then comes the echoed byte, and the rest is the value
 abbrev pub widthIn : Item → Offer → ℕ

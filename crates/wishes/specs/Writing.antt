@@ -24,16 +24,16 @@ unfoldable pub bytesWritten : Wish → ℕ → List ℕ
 bytesWritten w room = othersWrite (writeCode w room) (messageOf w)
 
 -- An answer in document 01's terms: its code, and how many bytes were written.
-pub record Told : Type 0 where
+pub record Writing : Type 0 where
   pub code : ℕ
   pub wrote : ℕ
 
 -- the number and the value of each case
-abbrev pub told : Written → Told
-told (Message n) = record { code = Code.done; wrote = n }
-told NotAllowed = record { code = Code.valueNotAllowed; wrote = 0 }
-told NoRoom = record { code = Code.noRoom; wrote = 0 }
+abbrev pub writtenSays : Written → Writing
+writtenSays (Message n) = record { code = Code.done; wrote = n }
+writtenSays NotAllowed = record { code = Code.valueNotAllowed; wrote = 0 }
+writtenSays NoRoom = record { code = Code.noRoom; wrote = 0 }
 
 -- what writing a wish into a buffer of so many bytes answers
-abbrev pub toldOf : Wish → ℕ → Told
-toldOf w room = record { code = writeCode w room; wrote = length (bytesWritten w room) }
+abbrev pub writingOf : Wish → ℕ → Writing
+writingOf w room = record { code = writeCode w room; wrote = length (bytesWritten w room) }

@@ -6,7 +6,7 @@ ghost use Rattle.wire.specs.Number.{number};
 ghost use Rattle.wire.specs.Signed.{coded};
 ghost use Rattle.wire.specs.Header.{typeSet, typeRequest};
 ghost use Rattle.wishes.specs.Wishes.{stateSent, layoutOf, allowed, mayWishState};
-ghost use Rattle.wishes.specs.Writing.{told, toldOf, bytesWritten};
+ghost use Rattle.wishes.specs.Writing.{writtenSays, writingOf, bytesWritten};
 use items::table;
 use items::values;
 use layouts::Layout;
@@ -157,7 +157,7 @@ pub fn is_allowed(w: Wish) -> bool
 // Writes the message of a wish at the start of the buffer.
 pub fn write(w: Wish, buffer: &mut [u8]) -> Written
     ensures { λ r.
-        ⌜ (told r ≡ toldOf w (length (now (buffer .entry))))
+        ⌜ (writtenSays r ≡ writingOf w (length (now (buffer .entry))))
         × (now (buffer .exit) ≡ sets (now (buffer .entry)) 0 (bytesWritten w (length (now (buffer .entry))))) ⌝ }
 {
     if !is_allowed(w) {

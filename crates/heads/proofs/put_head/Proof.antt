@@ -42,7 +42,9 @@ returns c =
     let third = fourth .before .before .before .before in
     let second = third .before .before .before .before .before in
     let first = second .before .before .before .before in
-    fields-stored _ _ _ _ _ _ _ _ (first .put .ensures) (second .put2 .ensures) (third .put3 .ensures) (fourth .put4 .ensures) (fifth .put5 .ensures) (sixth .put6 .ensures)
+    fields-stored _ _ _ _ _ _ _ _
+    (first .put .ensures) (second .put2 .ensures) (third .put3 .ensures)
+    (fourth .put4 .ensures) (fifth .put5 .ensures) (sixth .put6 .ensures)
 
 pub put-head-spec : {M : Type 1} → statement M
 put-head-spec =

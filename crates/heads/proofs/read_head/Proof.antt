@@ -1,7 +1,8 @@
 -- Each return has the code of the tests that led there.
 use mathlib.Core.Path.{_≡_, refl, sym, ap, _∙_}
-use mathlib.Core.Bool.{true, false}
-use mathlib.Core.List.{[], _∷_}
+use mathlib.Core.Bool.{Bool, true, false}
+use mathlib.Core.List.{List, [], _∷_}
+use Prim.Native.Nat.{ℕ}
 use lib.Dec.{eqb, ltb}
 use lib.ListN.{length}
 use borrow.Author.Needs.{needs}
@@ -9,20 +10,34 @@ use borrow.Author.Tests.{lt-ltb, le-ltb, eq-eqb, ne-eqb}
 use denote.Ref.{now}
 use Rattle.wire.specs.Number.{number, field}
 use Rattle.heads.specs.declared.Head.{Head}
-use Rattle.heads.specs.Head.{mark, version, headLength, allowed}
-use Rattle.heads.proofs.Codes.{code-by, reading-by}
+use Rattle.heads.specs.Head.{mark, version, headLength, allowed, headIn, readCode}
+use Rattle.heads.proofs.Codes.{codeBy, code-by, reading-by}
 use Rattle.heads.proofs.read_head.Statement.{statement}
 use Rattle.heads.proofs.read_head.Tie as tie
 
--- past the first test, past the second, past the third
-long : (c : tie.Else1) → ltb (length (now (c .before .before .args .s))) headLength ≡ false
+-- past the first test, past the second, past the third: the bytes that came, and what they have
+abbrev came : tie.Else1 → List ℕ
+came c = now (c .before .before .args .s)
+
+long : (c : tie.Else1) → ltb (length (came c)) headLength ≡ false
 long c = le-ltb _ _ (c .if1 .left)
 
-marked : (c : tie.Else2) → eqb (field 0 3 (now (c .before .before .before .before .args .s))) (number mark) ≡ true
+abbrev enough : tie.Else2 → tie.Else1
+enough c = c .before .before
+
+marked : (c : tie.Else2) → eqb (field 0 3 (came (enough c))) (number mark) ≡ true
 marked c = eq-eqb _ _ (sym (c .before .number-at .ensures) ∙ c .if2 .left)
 
-one : (c : tie.Else3) → eqb (field 3 2 (now (c .before .before .before .before .before .before .args .s))) version ≡ true
+abbrev ours : tie.Else3 → tie.Else2
+ours c = c .before .before
+
+one : (c : tie.Else3) → eqb (field 3 2 (came (enough (ours c)))) version ≡ true
 one c = eq-eqb _ _ (sym (c .before .number-at2 .ensures) ∙ c .if3 .left)
+
+-- a head's length, mark and version are there: the values decide
+values-decide : (c : tie.Else3) {ok : Bool} → allowed (headIn (came (enough (ours c)))) ≡ ok
+    → readCode (came (enough (ours c))) ≡ codeBy false true true ok
+values-decide c is = code-by _ (long (enough (ours c))) (marked (ours c)) (one c) is
 
 returns : tie.Need-returns
 returns c = sym (reading-by (now (c .before .before .args .s)) (code-by _ (lt-ltb _ _ (c .if1 .taken)) refl refl refl))
@@ -32,18 +47,17 @@ number-at-requires c κs = search needs
 
 returns-2 : tie.Need-returns-2
 returns-2 c =
-    sym
-    (reading-by (now (c .before .before .before .before .args .s))
-    (code-by _ (long (c .before .before)) (ne-eqb _ _ (λ e. c .if2 .taken (c .before .number-at .ensures ∙ e))) refl refl))
+    let other = ne-eqb _ _ (λ e. c .if2 .taken (c .before .number-at .ensures ∙ e)) in
+    sym (reading-by (came (c .before .before)) (code-by _ (long (c .before .before)) other refl refl))
 
 number-at-requires-2 : tie.Need-number-at-requires-2
 number-at-requires-2 c κs = search needs
 
 returns-3 : tie.Need-returns-3
 returns-3 c =
-    sym
-    (reading-by (now (c .before .before .before .before .before .before .args .s))
-    (code-by _ (long (c .before .before .before .before)) (marked (c .before .before)) (ne-eqb _ _ (λ e. c .if3 .taken (c .before .number-at2 .ensures ∙ e))) refl))
+    let e = c .before .before in
+    let other = ne-eqb _ _ (λ e. c .if3 .taken (c .before .number-at2 .ensures ∙ e)) in
+    sym (reading-by (came (enough e)) (code-by _ (long (enough e)) (marked e) other refl))
 
 head-in-requires : tie.Need-head-in-requires
 head-in-requires c κs = search needs
@@ -53,17 +67,15 @@ is-allowed-requires c κs = search needs
 
 returns-4 : tie.Need-returns-4
 returns-4 c =
-    let e = c .before .before .before in
-    let s = now (e .before .before .before .before .before .before .args .s) in
     let same = c .before .before .head-in .ensures in
-    ap (λ (h : Head). record { code = 1; heads = h ∷ [] }) same ∙ sym (reading-by s (code-by s (long (e .before .before .before .before)) (marked (e .before .before)) (one e) (ap allowed (sym same) ∙ sym (c .before .is-allowed .ensures) ∙ c .if4 .taken)))
+    let ok = ap allowed (sym same) ∙ sym (c .before .is-allowed .ensures) ∙ c .if4 .taken in
+    ap (λ (h : Head). record { code = 1; heads = h ∷ [] }) same ∙ sym (reading-by _ (values-decide (c .before .before .before) ok))
 
 returns-5 : tie.Need-returns-5
 returns-5 c =
-    let e = c .before .before .before in
-    let s = now (e .before .before .before .before .before .before .args .s) in
     let same = c .before .before .head-in .ensures in
-    sym (reading-by s (code-by s (long (e .before .before .before .before)) (marked (e .before .before)) (one e) (ap allowed (sym same) ∙ sym (c .before .is-allowed .ensures) ∙ c .if4 .left)))
+    let bad = ap allowed (sym same) ∙ sym (c .before .is-allowed .ensures) ∙ c .if4 .left in
+    sym (reading-by _ (values-decide (c .before .before .before) bad))
 
 pub read-head-spec : {M : Type 1} → statement M
 read-head-spec =

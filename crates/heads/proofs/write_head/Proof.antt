@@ -13,19 +13,23 @@ use Rattle.heads.proofs.write_head.Tie as tie
 is-allowed-requires : tie.Need-is-allowed-requires
 is-allowed-requires c κs = search needs
 
+-- the call, from the first test
+abbrev start : tie.After-is-allowed → tie.Start
+start c = c .before .before
+
 -- the head is not refused
-fine : (c : tie.Else1) → allowed (c .before .before .before .args .h) ≡ true
+fine : (c : tie.Else1) → allowed (start (c .before) .args .h) ≡ true
 fine c = sym (c .before .is-allowed .ensures) ∙ not-false _ (c .if1 .left)
 
 returns : tie.Need-returns
 returns c =
-    let a = c .before .before .before .args in
+    let a = start (c .before) .args in
     let code = write-by (a .h) (length (now (a .out))) (sym (c .before .is-allowed .ensures) ∙ not-true _ (c .if1 .taken)) refl in
     (sym code, rw code)
 
 returns-2 : tie.Need-returns-2
 returns-2 c =
-    let a = c .before .before .before .before .args in
+    let a = start (c .before .before) .args in
     let code = write-by (a .h) (length (now (a .out))) (fine (c .before)) (lt-ltb _ _ (c .if2 .taken)) in
     (sym code, rw code)
 
@@ -39,7 +43,7 @@ returns-3 : tie.Need-returns-3
 returns-3 c =
     let p = c .before .before in
     let tested = p .before .before in
-    let a = tested .before .before .before .before .args in
+    let a = start (tested .before .before) .args in
     let code = write-by (a .h) (length (now (a .out))) (fine (tested .before)) (le-ltb _ _ (tested .if2 .left)) in
     (sym code, rw code (p .put-head .ensures))
 

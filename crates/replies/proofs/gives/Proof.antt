@@ -1,12 +1,11 @@
 -- The reply is written and compared.
 use Prim.Native.Nat.{_≤_}
-use mathlib.Core.Path.{sym, ap, subst, _∙_}
+use mathlib.Core.Path.{sym, ap, _∙_}
 use native.Mathlib.Omega.{arith}
 use lib.ListN.{length, replicate}
 use lib.Seq.{length-take-le}
 use denote.Ref.{now}
 use borrow.Author.Needs.{needs}
-use Rattle.layouts.specs.declared.Layout.{Layout}
 use Rattle.layouts.proofs.Writing.{Put}
 use Rattle.replies.specs.Awaited.{replyLayout}
 use Rattle.wire.specs.Lists.{same}
@@ -15,15 +14,16 @@ use Rattle.replies.proofs.Values.{written-few, written-reply}
 use Rattle.replies.proofs.gives.Statement.{statement}
 use Rattle.replies.proofs.gives.Tie as tie
 
+abbrev start : tie.After-put-message → tie.Start
+start c = c .before .before .before .before
+
 put : (c : tie.After-put-message)
-    → (let a = c .before .before .before .before .args in
-    Put (replicate 16 0) (replyLayout (a .w) (a .n)) (c .put-message .result) (c .put-message .last .0))
-put c =
-    subst (λ (a : Layout). Put (replicate 16 0) a (c .put-message .result) (c .put-message .last .0)) (c .before .reply-layout .ensures) (c .put-message .ensures)
+    → (let a = start c .args in Put (replicate 16 0) (replyLayout (a .w) (a .n)) (c .put-message .result) (c .put-message .last .0))
+put c = rw (c .before .reply-layout .ensures) at (c .put-message .ensures)
 
 room : (c : tie.After-put-message) → c .put-message .result ≤ length (c .put-message .last .0)
 room c =
-    let a = c .before .before .before .before in
+    let a = start c in
     omega (arith, written-few (a .args .w) (a .args .n) (a .pre) _ _ (put c), c .put-message .kept .0)
 
 slice-aggregate-put-message : tie.Need-slice-aggregate-put-message
@@ -47,7 +47,7 @@ same-requires c κs = search needs
 returns : tie.Need-returns
 returns c =
     let p = c .before .before .before in
-    let a = p .before .before .before .before in
+    let a = start p in
     same-test (c .same .result) _ _ (c .same .ensures .0) (c .same .ensures .1)
     ∙ ap (same (now (a .args .bytes))) (written-reply (a .args .w) (a .args .n) (a .pre) _ _ (put p))
 

@@ -1,6 +1,8 @@
 -- 16 is checked first, then NAK; the range has its own reader, every other wish the common one.
 use mathlib.Core.Path.{_≡_, refl, sym, ap, _∙_}
 use mathlib.Core.Bool.{true, false}
+use mathlib.Core.List.{List}
+use Prim.Native.Nat.{ℕ}
 use borrow.Author.Needs.{needs}
 use borrow.Author.Tests.{not-true, not-false}
 use Rattle.items.proofs.Keys.{matched}
@@ -12,10 +14,25 @@ use Rattle.replies.proofs.Answers.{read-refused, read-nak}
 use Rattle.replies.proofs.read.Statement.{statement}
 use Rattle.replies.proofs.read.Tie as tie
 
-allowed-here : (c : tie.Else1) → allowed (c .before .before .before .args .w) ≡ true
+-- the call, from the first test
+abbrev start : tie.After-is-allowed → tie.Start
+start c = c .before .before
+
+abbrev wish : tie.After-is-allowed → Wish
+wish c = start c .args .w
+
+abbrev came : tie.After-is-allowed → List ℕ
+came c = start c .args .bytes .now
+
+-- the wish is allowed
+allowed-here : (c : tie.Else1) → allowed (wish (c .before)) ≡ true
 allowed-here c = sym (c .before .is-allowed .ensures) ∙ not-false (c .before .is-allowed .result) (c .if1 .left)
 
-no-nak : (c : tie.Else2) → isNak (c .before .before .before .before .before .args .bytes .now) ≡ false
+-- and what came is not NAK
+abbrev fine : tie.After-is-nak → tie.Else1
+fine c = c .before
+
+no-nak : (c : tie.Else2) → isNak (came (fine (c .before) .before)) ≡ false
 no-nak c = sym (c .before .is-nak .ensures) ∙ c .if2 .left
 
 is-allowed-requires : tie.Need-is-allowed-requires
@@ -23,16 +40,16 @@ is-allowed-requires c κs = search needs
 
 returns : tie.Need-returns
 returns c =
-    let a = c .before .before .before .args in
-    read-refused (a .w) (a .bytes .now) (sym (c .before .is-allowed .ensures) ∙ not-true (c .before .is-allowed .result) (c .if1 .taken))
+    let a = c .before in
+    read-refused (wish a) (came a) (sym (a .is-allowed .ensures) ∙ not-true (a .is-allowed .result) (c .if1 .taken))
 
 is-nak-requires : tie.Need-is-nak-requires
 is-nak-requires c κs = search needs
 
 returns-2 : tie.Need-returns-2
 returns-2 c =
-    let a = c .before .before .before .before .before .args in
-    read-nak (a .w) (a .bytes .now) (allowed-here (c .before .before)) (sym (c .before .is-nak .ensures) ∙ c .if2 .taken)
+    let e = fine (c .before) in
+    read-nak (wish (e .before)) (came (e .before)) (allowed-here e) (sym (c .before .is-nak .ensures) ∙ c .if2 .taken)
 
 enum-told : tie.Need-enum-told
 enum-told c = search needs
@@ -42,13 +59,16 @@ read-range-requires c κs = no-nak (c .before .before)
 
 returns-3 : tie.Need-returns-3
 returns-3 c =
-    let a = c .before .before .before .before .before .before .before .before .args in
-    c .read-range .ensures ∙ ap (λ (w : Wish). toldOf w (a .bytes .now)) (sym (c .before .enum-told .given .1))
+    let matched = c .before .before in
+    let e = fine (matched .before .before) in
+    c .read-range .ensures ∙ ap (λ (w : Wish). toldOf w (came (e .before))) (sym (c .before .enum-told .given .1))
 
 read-value-requires : tie.Need-read-value-requires
 unfolding unranged
 read-value-requires c κs =
-    (allowed-here (c .before .before .before), not-range (c .before .before .before .before .before .before .args .w) (matched unranged unranged _ refl (c .match .keys2)), no-nak (c .before))
+    let e = fine (c .before .before) in
+    let other = not-range (wish (e .before)) (matched unranged unranged _ refl (c .match .keys2)) in
+    (allowed-here e, other, no-nak (c .before))
 
 returns-4 : tie.Need-returns-4
 returns-4 c = c .read-value .ensures

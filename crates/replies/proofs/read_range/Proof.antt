@@ -1,5 +1,7 @@
 -- The one reply is written and compared.
+use Prim.Native.Nat.{ℕ}
 use mathlib.Core.Path.{_≡_, refl, _∙_}
+use mathlib.Core.List.{List}
 use borrow.Author.Needs.{needs}
 use Rattle.wishes.specs.declared.Wish.the-variants.{AskFrequencyRange}
 use Rattle.replies.specs.Reading.{isReply}
@@ -8,8 +10,13 @@ use Rattle.replies.proofs.Answers.{read-none, read-reply}
 use Rattle.replies.proofs.read_range.Statement.{statement}
 use Rattle.replies.proofs.read_range.Tie as tie
 
-whole : (c : tie.After-same) → (let bytes = c .before .before .before .before .before .before .args .bytes .now in
-    isReply AskFrequencyRange bytes ≡ c .same .result)
+abbrev start : tie.After-same → tie.Start
+start c = c .before .before .before .before .before .before
+
+abbrev came : tie.After-same → List ℕ
+came c = start c .args .bytes .now
+
+whole : (c : tie.After-same) → isReply AskFrequencyRange (came c) ≡ c .same .result
 whole c =
     let put = c .before .before .before .put-range-reply in
     range-read _ _ (c .same .result) (range-written _ _ (put .ensures .0) (put .ensures .1)) (c .same .ensures .0) (c .same .ensures .1)
@@ -31,13 +38,10 @@ same-requires c κs = search needs
 
 returns : tie.Need-returns
 returns c =
-    let a = c .before .before .before .before .before .before .before in
-    read-reply AskFrequencyRange (a .args .bytes .now) refl (a .pre) _ (whole (c .before) ∙ c .if1 .taken) refl
+    read-reply AskFrequencyRange (came (c .before)) refl (start (c .before) .pre) _ (whole (c .before) ∙ c .if1 .taken) refl
 
 returns-2 : tie.Need-returns-2
-returns-2 c =
-    let a = c .before .before .before .before .before .before .before in
-    read-none AskFrequencyRange (a .args .bytes .now) refl (a .pre) (whole (c .before) ∙ c .if1 .left)
+returns-2 c = read-none AskFrequencyRange (came (c .before)) refl (start (c .before) .pre) (whole (c .before) ∙ c .if1 .left)
 
 pub read-range-spec : {M : Type 1} → statement M
 read-range-spec =

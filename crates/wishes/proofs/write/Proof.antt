@@ -14,10 +14,14 @@ use Rattle.wishes.proofs.Answers.{code-not-allowed, code-no-room, code-
 use Rattle.wishes.proofs.write.Statement.{statement}
 use Rattle.wishes.proofs.write.Tie as tie
 
-refused : (c : tie.Then1) → allowed (c .before .before .before .args .w) ≡ false
+-- the call, from the first test
+abbrev start : tie.After-is-allowed → tie.Start
+start c = c .before .before
+
+refused : (c : tie.Then1) → allowed (start (c .before) .args .w) ≡ false
 refused c = sym (c .before .is-allowed .ensures) ∙ not-true _ (c .if1 .taken)
 
-taken : (c : tie.Else1) → allowed (c .before .before .before .args .w) ≡ true
+taken : (c : tie.Else1) → allowed (start (c .before) .args .w) ≡ true
 taken c = sym (c .before .is-allowed .ensures) ∙ not-false _ (c .if1 .left)
 
 is-allowed-requires : tie.Need-is-allowed-requires
@@ -26,14 +30,14 @@ is-allowed-requires c κs = search needs
 returns : tie.Need-returns
 unfolding bytesWritten
 returns c =
-    let a = c .before .before .before .args in
+    let a = start (c .before) .args in
     let e = code-not-allowed (a .w) (length (a .buffer .now)) (refused c) in
     (rw e, rw e)
 
 returns-2 : tie.Need-returns-2
 unfolding bytesWritten
 returns-2 c =
-    let a = c .before .before .before .before .args in
+    let a = start (c .before .before) .args in
     let e = code-no-room (a .w) (length (a .buffer .now)) (taken (c .before)) (c .if2 .taken) in
     (rw e, rw e)
 
@@ -52,10 +56,11 @@ returns-3 c =
     let p = c .before .before in
     let l = p .before in
     let room = l .before .before in
-    let a = room .before .before .before .before .args in
+    let a = start (room .before .before) .args in
     let e = code-written (a .w) (length (a .buffer .now)) (taken (room .before)) (room .if2 .left) in
     let put = rw (l .layout-of .ensures) at (p .put-message .ensures) in
-    let whole = written-whole (a .buffer .now) (layoutOf (a .w)) _ _ (le-trans (short-message (a .w)) (le-trans (lit≤ tt) (room .if2 .left))) put in
+    let fits = le-trans (short-message (a .w)) (le-trans (lit≤ tt) (room .if2 .left)) in
+    let whole = written-whole (a .buffer .now) (layoutOf (a .w)) _ _ fits put in
     (rw e (ap (λ n. record { code = 1; wrote = n }) (whole .0)), rw e (whole .1))
 
 pub write-spec : {M : Type 1} → statement M

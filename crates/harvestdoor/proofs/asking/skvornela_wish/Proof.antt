@@ -1,4 +1,4 @@
--- The number's wish is written, and the writer's answer told as numbers.
+-- The number's wish is written, and the writer's answer said as numbers.
 use mathlib.Core.Path.{_∙_}
 use mir.Facts.{toZ-ofZ}
 use Rattle.harvestdoor.proofs.Asked.{wished}
@@ -12,8 +12,8 @@ wish-of-requires c κs = search needs
 write-requires : tie.Need-write-requires
 write-requires c κs = search needs
 
-told-by-requires : tie.Need-told-by-requires
-told-by-requires c κs = search needs
+wrote-by-requires : tie.Need-wrote-by-requires
+wrote-by-requires c κs = search needs
 
 same-length : tie.Need-same-length
 same-length c = search needs
@@ -24,9 +24,10 @@ returns c =
     let wish = write .before .before in
     let start = wish .before .before in
     let a = start .args in
-    let is = wished (a .which) (a .byte) (a .mode) (a .word) (a .hertz) (a .gain) _ _ (toZ-ofZ (start .fits .gain)) (wish .wish-of .ensures) in
-    rw (← is) (c .told-by .ensures ∙ write .write .ensures .0, write .write .ensures .1)
+    let gain = toZ-ofZ (start .fits .gain) in
+    let is = wished (a .which) (a .byte) (a .mode) (a .word) (a .hertz) (a .gain) _ _ gain (wish .wish-of .ensures) in
+    rw (← is) (c .wrote-by .ensures ∙ write .write .ensures .0, write .write .ensures .1)
 
 pub skvornela-wish-spec : {M : Type 1} → statement M
 skvornela-wish-spec =
-    tie.close (tie.spec wish-of-requires write-requires told-by-requires same-length returns)
+    tie.close (tie.spec wish-of-requires write-requires wrote-by-requires same-length returns)

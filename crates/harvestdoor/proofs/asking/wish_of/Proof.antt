@@ -1,5 +1,5 @@
 -- Each arm knows its number, at which the list has the arm's wish; the last knows that the list has none.
-use Prim.Native.Nat.{ℕ, suc, _≤_}
+use Prim.Native.Nat.{ℕ, zero, suc, _≤_}
 use mathlib.Core.Path.{_≡_, sym, ap}
 use mir.Facts.{toZ-ofZ}
 use Rattle.wishes.specs.declared.Wish.the-variants as W
@@ -9,8 +9,14 @@ use Rattle.harvestdoor.specs.Asking.{wishTable, noWish}
 use Rattle.harvestdoor.proofs.asking.wish_of.Statement.{statement}
 use Rattle.harvestdoor.proofs.asking.wish_of.Tie as tie
 
-past : (k n : ℕ) → k ≤ n → (n ≡ k → ⊥) → suc k ≤ n
-past k n least other = omega arith
+-- a number is none of those below k, which the first k arms name one after another
+abbrev Others : ℕ → ℕ → Type 0
+Others zero n = Unit {0}
+Others (suc k) n = Others k n × (n ≡ k → ⊥)
+
+past : (k n : ℕ) → Others k n → k ≤ n
+past zero n others = omega arith
+past (suc k) n others = let least : k ≤ n = past k n (others .0) in let other : n ≡ k → ⊥ = others .1 in omega arith
 
 returns : tie.Need-returns
 unfolding wishTable
@@ -88,10 +94,8 @@ returns-19 : tie.Need-returns-19
 unfolding wishTable
 returns-19 c =
     let a = c .before .args in
-    let n = a .which in
-    let r = c .match .rest in
-    let least : 0 ≤ n = omega arith in
-    sym (List·getD-eq-default (wishTable (a .byte) (a .mode) (a .gain) (a .word) (a .hertz)) noWish (past 17 n (past 16 n (past 15 n (past 14 n (past 13 n (past 12 n (past 11 n (past 10 n (past 9 n (past 8 n (past 7 n (past 6 n (past 5 n (past 4 n (past 3 n (past 2 n (past 1 n (past 0 n least (r .0 .0 .0 .0 .0 .0 .0 .0 .0 .0 .0 .0 .0 .0 .0 .0 .0 .1)) (r .0 .0 .0 .0 .0 .0 .0 .0 .0 .0 .0 .0 .0 .0 .0 .0 .1)) (r .0 .0 .0 .0 .0 .0 .0 .0 .0 .0 .0 .0 .0 .0 .0 .1)) (r .0 .0 .0 .0 .0 .0 .0 .0 .0 .0 .0 .0 .0 .0 .1)) (r .0 .0 .0 .0 .0 .0 .0 .0 .0 .0 .0 .0 .0 .1)) (r .0 .0 .0 .0 .0 .0 .0 .0 .0 .0 .0 .0 .1)) (r .0 .0 .0 .0 .0 .0 .0 .0 .0 .0 .0 .1)) (r .0 .0 .0 .0 .0 .0 .0 .0 .0 .0 .1)) (r .0 .0 .0 .0 .0 .0 .0 .0 .0 .1)) (r .0 .0 .0 .0 .0 .0 .0 .0 .1)) (r .0 .0 .0 .0 .0 .0 .0 .1)) (r .0 .0 .0 .0 .0 .0 .1)) (r .0 .0 .0 .0 .0 .1)) (r .0 .0 .0 .0 .1)) (r .0 .0 .0 .1)) (r .0 .0 .1)) (r .0 .1)) (r .1)))
+    sym
+    (List·getD-eq-default (wishTable (a .byte) (a .mode) (a .gain) (a .word) (a .hertz)) noWish (past 18 (a .which) (c .match .rest)))
 
 pub wish-of-spec : {M : Type 1} → statement M
 wish-of-spec =

@@ -1,9 +1,32 @@
 -- The reader's bytes are read, the packet by that reader, and the reader is written back where the packet was heard.
+use Prim.Native.Nat.{ℕ}
+use mathlib.Core.Path.{_≡_}
+use mathlib.Core.List.{List}
+use lib.Dec.{eqb}
 use borrow.Author.Tests.{eq-eqb, ne-eqb}
+use Rattle.wire.specs.Choice.{pick}
+use Rattle.harvestdoor.specs.States.{readerBytes}
+use Rattle.harvestdoor.specs.Reading.{readOver}
 use Rattle.harvestdoor.proofs.Heard.{read-whole, read-broken}
 use borrow.Author.Needs.{needs}
 use Rattle.harvestdoor.proofs.reading.skvornela_read.Statement.{statement}
 use Rattle.harvestdoor.proofs.reading.skvornela_read.Tie as tie
+
+-- the packet was read by the reader of the 25 bytes
+abbrev whole : tie.After-read → tie.Then1
+whole c = c .before .before .before
+
+abbrev start : tie.After-read → tie.Start
+start c = whole c .before .before .before
+
+-- and the bytes that are left are those of the reader after it, if it was heard
+read-over : (c : tie.After-read) (after : List ℕ) → (let h = c .read .result in
+    after ≡ pick (eqb (h .code) 1) (readerBytes (h .reader)) (start c .args .state .now)
+    → record { code = h .code; position = h .position; sample = h .sample; state = after }
+    ≡ readOver (start c .args .state .now) (start c .args .packet .now))
+read-over c after is =
+    let a = start c .args in
+    read-whole (a .state .now) (a .packet .now) after _ _ (whole c .if1 .taken) (c .before .reader-in .ensures) (c .read .ensures) is
 
 reader-in-requires : tie.Need-reader-in-requires
 reader-in-requires c κs = search needs
@@ -21,20 +44,13 @@ returns : tie.Need-returns
 returns c =
     let written = c .before .before in
     let heard = written .before .before .before in
-    let read = heard .before .before in
-    let whole = read .before .before .before in
-    let a = whole .before .before .before .args in
-    read-whole (a .state .now) (a .packet .now) _ _ _ (whole .if1 .taken) (read .before .reader-in .ensures) (read .read .ensures) (rw (eq-eqb _ 1 (heard .if2 .taken)) (written .put-reader .ensures))
+    read-over (heard .before .before) _ (rw (eq-eqb _ 1 (heard .if2 .taken)) (written .put-reader .ensures))
 
 same-length-2 : tie.Need-same-length-2
 same-length-2 c = search needs
 
 returns-2 : tie.Need-returns-2
-returns-2 c =
-    let read = c .before .before in
-    let whole = read .before .before .before in
-    let a = whole .before .before .before .args in
-    read-whole (a .state .now) (a .packet .now) _ _ _ (whole .if1 .taken) (read .before .reader-in .ensures) (read .read .ensures) (rw (ne-eqb _ 1 (c .if2 .left)))
+returns-2 c = read-over (c .before .before) _ (rw (ne-eqb _ 1 (c .if2 .left)))
 
 returns-3 : tie.Need-returns-3
 returns-3 c = read-broken _ _ (c .if1 .left)

@@ -29,7 +29,8 @@ returns c =
     let second = third .before .before .before .before in
     let first = second .before .before .before .before in
     let start = first .before .before .before .before in
-    reader-stored (start .args .r) (start .args .b .now) _ _ _ _ (start .pre) (first .put .ensures) (second .put2 .ensures) (third .put3 .ensures) (fourth .put4 .ensures)
+    reader-stored (start .args .r) (start .args .b .now) _ _ _ _ (start .pre)
+    (first .put .ensures) (second .put2 .ensures) (third .put3 .ensures) (fourth .put4 .ensures)
 
 pub put-reader-spec : {M : Type 1} → statement M
 put-reader-spec =

@@ -9,10 +9,15 @@ returns : tie.Need-returns
 returns c = sym (sized-by (c .before .before .args .d) (lt-leb _ _ (c .if1 .taken)) refl refl)
 
 returns-2 : tie.Need-returns-2
-returns-2 c = sym (sized-by (c .before .before .before .before .args .d) (le-leb _ _ (c .before .before .if1 .left)) (lt-leb _ _ (c .if2 .taken)) refl)
+returns-2 c =
+    let near = c .before .before in
+    sym (sized-by (near .before .before .args .d) (le-leb _ _ (near .if1 .left)) (lt-leb _ _ (c .if2 .taken)) refl)
 
 returns-3 : tie.Need-returns-3
-returns-3 c = sym (sized-by (c .before .before .before .before .before .args .d) (le-leb _ _ (c .before .before .before .if1 .left)) (le-leb _ _ (c .before .if2 .left)) refl)
+returns-3 c =
+    let few = c .before in
+    let near = few .before .before in
+    sym (sized-by (near .before .before .args .d) (le-leb _ _ (near .if1 .left)) (le-leb _ _ (few .if2 .left)) refl)
 
 pub is-sized-spec : {M : Type 1} → statement M
 is-sized-spec = tie.close (tie.spec returns returns-2 returns-3)

@@ -3,17 +3,19 @@ use borrow.Author.Needs.{needs}
 use Prim.Native.Nat.{_+_, _*_, _≤_}
 use native.Mathlib.Omega.{arith}
 use borrow.Author.Tests.{eq-eqb, ne-eqb}
-use Rattle.lines.specs.Lines.{captureLine}
+use Rattle.lines.specs.Due.{captureIn}
 use Rattle.lines.proofs.Texts.{stored-within, nothing-stored}
 use Rattle.lines.proofs.Dues.{one-line, sizes, samples-fit, time-fits}
 use Rattle.lines.proofs.telling.put_capture.Statement.{statement}
 use Rattle.lines.proofs.telling.put_capture.Tie as tie
 
-samples : (c : tie.After-struct-known3)
-    → (let d = c .before .before .before .before .before .args .d in
-    (d .position + 1) * d .pairs ≤ 1_024_000_000_000)
+-- the call, from where the fields are known
+abbrev start : tie.After-struct-known3 → tie.Start
+start c = c .before .before .before .before .before
+
+samples : (c : tie.After-struct-known3) → (let d = start c .args .d in (d .position + 1) * d .pairs ≤ 1_024_000_000_000)
 samples c =
-    let s = c .before .before .before .before .before in
+    let s = start c in
     let p = sizes (s .args .d) (s .pre .1) in
     samples-fit _ _ (omega (arith, p .position)) (p .pairs)
 
@@ -30,7 +32,7 @@ mul-samples c = omega (arith, samples c)
 
 mul-t8 : tie.Need-mul-t8
 mul-t8 c =
-    let s = c .before .before .before .before .before .before in
+    let s = start (c .before) in
     omega (arith, time-fits _ _ (samples (c .before)) (sizes (s .args .d) (s .pre .1) .divisor))
 
 slice-aggregate-put-line : tie.Need-slice-aggregate-put-line
@@ -47,8 +49,7 @@ returns-2 c =
     let put = c .before .before in
     let tested = put .before .before .before .before .before .before in
     let d = tested .before .before .before .args .d in
-    rw (ne-eqb _ 0 (tested .if1 .left))
-    (one-line (captureLine (record { bits = d .bits; pairs = d .pairs }) (d .divisor) (d .capture) (d .heard) (d .position)) (put .put-line .ensures))
+    rw (ne-eqb _ 0 (tested .if1 .left)) (one-line (captureIn d) (put .put-line .ensures))
 
 pub put-capture-spec : {M : Type 1} → statement M
 put-capture-spec =

@@ -21,7 +21,8 @@ returns c =
     let third = c .before .before in
     let second = third .before .before .before .before in
     let first = second .before .before .before .before in
-    due-stored (first .before .before .before .args .d) _ _ _ _ _ _ _ (first .put-opening .ensures) (second .put-capture .ensures) (third .put-ending .ensures)
+    due-stored (first .before .before .before .args .d) _ _ _ _ _ _ _
+    (first .put-opening .ensures) (second .put-capture .ensures) (third .put-ending .ensures)
 
 pub put-due-spec : {M : Type 1} → statement M
 put-due-spec =

@@ -43,7 +43,9 @@ returns-2 c =
     let put = c .before .before in
     let tested = put .before .before in
     let a = tested .before .before .before .args in
-    let says = telling-sized (a .d) (length (now (a .out))) (fits tested) ∙ telling-short (textOf (dueLines (a .d))) (length (now (a .out))) _ (put .put-due .ensures .ends) (c .if2 .taken) in
+    let n = length (now (a .out)) in
+    let ends = put .put-due .ensures .ends in
+    let says = telling-sized (a .d) n (fits tested) ∙ telling-short (textOf (dueLines (a .d))) n _ ends (c .if2 .taken) in
     (rw says, rw says)
 
 array-share-prefix-text : tie.Need-array-share-prefix-text
@@ -65,7 +67,9 @@ returns-3 c =
     let put = room .before .before in
     let tested = put .before .before in
     let a = tested .before .before .before .args in
-    let says = telling-sized (a .d) (length (now (a .out))) (fits tested) ∙ telling-whole (textOf (dueLines (a .d))) (length (now (a .out))) _ (put .put-due .ensures .ends) (room .if2 .left) in
+    let n = length (now (a .out)) in
+    let ends = put .put-due .ensures .ends in
+    let says = telling-sized (a .d) n (fits tested) ∙ telling-whole (textOf (dueLines (a .d))) n _ ends (room .if2 .left) in
     (rw says, rw says (copied .copy .ensures ∙ ap (sets (now (a .out)) 0) (taken-back _ _ _ _ (put .put-due .ensures) (omega arith))))
 
 pub tell-spec : {M : Type 1} → statement M

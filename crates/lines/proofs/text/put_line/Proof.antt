@@ -28,7 +28,8 @@ returns c =
     let last = c .before .before in
     let numbers = last .before .before .before .before in
     let first = numbers .before .before .before .before in
-    line-stored _ _ _ _ (now (first .before .before .before .before .args .ns)) _ _ _ _ (first .put .ensures) (numbers .put-numbers .ensures) (last .put2 .ensures)
+    line-stored _ _ _ _ (now (first .before .before .before .before .args .ns)) _ _ _ _
+    (first .put .ensures) (numbers .put-numbers .ensures) (last .put2 .ensures)
 
 pub put-line-spec : {M : Type 1} → statement M
 put-line-spec =

@@ -40,7 +40,8 @@ loop-again : tie.Need-loop-again Inv-loop μ-loop
 loop-again c =
     let put = c .before .before in
     let l = put .before .before .before .before .loop in
-    (omega arith, put .put-number .kept .1 .0 ∙ l .inv .1, numbers-turn _ _ _ _ _ (l .i) _ _ (omega arith) (l .inv .2) (put .put-number .ensures))
+    let more = numbers-turn _ _ _ _ _ (l .i) _ _ (omega arith) (l .inv .2) (put .put-number .ensures) in
+    (omega arith, put .put-number .kept .1 .0 ∙ l .inv .1, more)
 
 same-length : tie.Need-same-length Inv-loop μ-loop
 same-length c = c .before .loop .inv .1

@@ -138,7 +138,8 @@ returns-11 c =
     let k = c .before .before in
     let start = k .before .before .before in
     let asked = rw (k .before .w3 .given .1) at (start .pre .0) in
-    rw (k .before .w3 .given .1) (ap (eqb (start .args .n)) (rate-achieved _ _ _ asked (c .before .nearest .ensures) (c .achieved .ensures)))
+    rw (k .before .w3 .given .1)
+    (ap (eqb (start .args .n)) (rate-achieved _ _ _ asked (c .before .nearest .ensures) (c .achieved .ensures)))
 
 returns-12 : tie.Need-returns-12
 returns-12 c = rw (c .before .enum-told9 .given .1) (ap (ltb 0) (c .d-of .ensures) ∙ rate-listed _)

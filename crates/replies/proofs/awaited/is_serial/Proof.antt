@@ -33,7 +33,8 @@ returns c =
     let l = c .before .before .before .loop in
     let n = c .before .before .before .before .args .n in
     let bad = sym (not-true (c .before .is-serial-byte .result) (c .if1 .taken)) ∙ c .before .is-serial-byte .ensures in
-    sym (and-not-left (allSerial (bytes 8 n)) (ltb n (256 ^ 8)) (sym (serial-turn (l .i) (l .rest) false (allSerial (bytes 8 n)) (omega arith) bad (l .inv .1))))
+    let whole = serial-turn (l .i) (l .rest) false (allSerial (bytes 8 n)) (omega arith) bad (l .inv .1) in
+    sym (and-not-left (allSerial (bytes 8 n)) (ltb n (256 ^ 8)) (sym whole))
 
 add-i : tie.Need-add-i Inv-loop μ-loop
 add-i c = omega arith

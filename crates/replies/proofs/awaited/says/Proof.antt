@@ -40,22 +40,30 @@ enum-told-5 c = search needs
 
 cast-signed-byte : tie.Need-cast-signed-byte
 unfolding widths
-cast-signed-byte c = record { fits = rw (← width-in 1 (10 ∷ 11 ∷ []) (c .before .args .w) refl (refl, (refl, tt)) (c .match .keys9)) at (c .before .pre) }
+cast-signed-byte c =
+    let width = width-in 1 (10 ∷ 11 ∷ []) (c .before .args .w) refl (refl, (refl, tt)) (c .match .keys9) in
+    record { fits = rw (← width) at (c .before .pre) }
 
 signed-byte-requires : tie.Need-signed-byte-requires
 signed-byte-requires c κs = search needs
 
 cast-t11 : tie.Need-cast-t11
 unfolding widths
-cast-t11 c = record { fits = rw (← width-in 4 (12 ∷ 13 ∷ []) (c .before .args .w) refl (refl, (refl, tt)) (c .match .keys10)) at (c .before .pre) }
+cast-t11 c =
+    let width = width-in 4 (12 ∷ 13 ∷ []) (c .before .args .w) refl (refl, (refl, tt)) (c .match .keys10) in
+    record { fits = rw (← width) at (c .before .pre) }
 
 cast-t12 : tie.Need-cast-t12
 unfolding widths
-cast-t12 c = record { fits = rw (← width-in 4 (14 ∷ 15 ∷ []) (c .before .args .w) refl (refl, (refl, tt)) (c .match .keys11)) at (c .before .pre) }
+cast-t12 c =
+    let width = width-in 4 (14 ∷ 15 ∷ []) (c .before .args .w) refl (refl, (refl, tt)) (c .match .keys11) in
+    record { fits = rw (← width) at (c .before .pre) }
 
 cast-t13 : tie.Need-cast-t13
 unfolding widths
-cast-t13 c = record { fits = rw (← width-in 1 (16 ∷ 17 ∷ []) (c .before .args .w) refl (refl, (refl, tt)) (c .match .keys12)) at (c .before .pre) }
+cast-t13 c =
+    let width = width-in 1 (16 ∷ 17 ∷ []) (c .before .args .w) refl (refl, (refl, tt)) (c .match .keys12) in
+    record { fits = rw (← width) at (c .before .pre) }
 
 returns : tie.Need-returns
 returns c = rw (c .enum-told .given .1)
@@ -74,11 +82,16 @@ returns-5 c = rw (c .enum-told4 .given .1)
 
 returns-6 : tie.Need-returns-6
 unfolding sayings
-returns-6 c = c .state-in .ensures ∙ says-in (c .before .before .args .n) (saysState (c .before .before .args .n)) (5 ∷ 6 ∷ []) (c .before .before .args .w) refl ((refl, refl), ((refl, refl), tt)) (c .before .match .keys6)
+returns-6 c =
+    let a = c .before .before .args in
+    c .state-in .ensures
+    ∙ says-in (a .n) (saysState (a .n)) (5 ∷ 6 ∷ []) (a .w) refl ((refl, refl), ((refl, refl), tt)) (c .before .match .keys6)
 
 returns-7 : tie.Need-returns-7
 unfolding sayings
-returns-7 c = says-in (c .before .args .n) (Frequency (c .before .args .n)) (7 ∷ 8 ∷ []) (c .before .args .w) refl ((refl, refl), ((refl, refl), tt)) (c .match .keys7)
+returns-7 c =
+    let a = c .before .args in
+    says-in (a .n) (Frequency (a .n)) (7 ∷ 8 ∷ []) (a .w) refl ((refl, refl), ((refl, refl), tt)) (c .match .keys7)
 
 returns-8 : tie.Need-returns-8
 returns-8 c = rw (c .enum-told5 .given .1)
@@ -86,20 +99,27 @@ returns-8 c = rw (c .enum-told5 .given .1)
 returns-9 : tie.Need-returns-9
 unfolding sayings
 returns-9 c =
+    let a = c .before .before .args in
     ap Gain (toZ-ofZ {w = w8} (record { sfits = c .signed-byte .ok }) ∙ c .signed-byte .ensures)
-    ∙ says-in (c .before .before .args .n) (Gain (signed 8 (c .before .before .args .n))) (10 ∷ 11 ∷ []) (c .before .before .args .w) refl ((refl, refl), ((refl, refl), tt)) (c .before .match .keys9)
+    ∙ says-in (a .n) (Gain (signed 8 (a .n))) (10 ∷ 11 ∷ []) (a .w) refl ((refl, refl), ((refl, refl), tt)) (c .before .match .keys9)
 
 returns-10 : tie.Need-returns-10
 unfolding sayings
-returns-10 c = says-in (c .before .args .n) (Clock (c .before .args .n)) (12 ∷ 13 ∷ []) (c .before .args .w) refl ((refl, refl), ((refl, refl), tt)) (c .match .keys10)
+returns-10 c =
+    let a = c .before .args in
+    says-in (a .n) (Clock (a .n)) (12 ∷ 13 ∷ []) (a .w) refl ((refl, refl), ((refl, refl), tt)) (c .match .keys10)
 
 returns-11 : tie.Need-returns-11
 unfolding sayings
-returns-11 c = says-in (c .before .args .n) (Rate (c .before .args .n)) (14 ∷ 15 ∷ []) (c .before .args .w) refl ((refl, refl), ((refl, refl), tt)) (c .match .keys11)
+returns-11 c =
+    let a = c .before .args in
+    says-in (a .n) (Rate (a .n)) (14 ∷ 15 ∷ []) (a .w) refl ((refl, refl), ((refl, refl), tt)) (c .match .keys11)
 
 returns-12 : tie.Need-returns-12
 unfolding sayings
-returns-12 c = says-in (c .before .args .n) (PacketSize (c .before .args .n)) (16 ∷ 17 ∷ []) (c .before .args .w) refl ((refl, refl), ((refl, refl), tt)) (c .match .keys12)
+returns-12 c =
+    let a = c .before .args in
+    says-in (a .n) (PacketSize (a .n)) (16 ∷ 17 ∷ []) (a .w) refl ((refl, refl), ((refl, refl), tt)) (c .match .keys12)
 
 pub says-spec : {M : Type 1} → statement M
 says-spec =

@@ -20,15 +20,22 @@ cast-result-2 : tie.Need-cast-result-2
 cast-result-2 c = search needs
 
 sub-result : tie.Need-sub-result
-sub-result c = rw (lowered (c .before .args .byte) (c .if1 .left) (byte c)) (lowered-wide (c .before .args .byte) (c .if1 .left) (byte c))
+sub-result c =
+    let n = c .before .args .byte in
+    rw (lowered n (c .if1 .left) (byte c)) (lowered-wide n (c .if1 .left) (byte c))
 
 cast-result-3 : tie.Need-cast-result-3
-cast-result-3 c = rw (lowered (c .before .args .byte) (c .if1 .left) (byte c), toZ-ofZ (lowered-wide (c .before .args .byte) (c .if1 .left) (byte c))) (lowered-fits (c .before .args .byte) (c .if1 .left) (byte c))
+cast-result-3 c =
+    let n = c .before .args .byte in
+    let wide = lowered-wide n (c .if1 .left) (byte c) in
+    rw (lowered n (c .if1 .left) (byte c), toZ-ofZ wide) (lowered-fits n (c .if1 .left) (byte c))
 
 returns-2 : tie.Need-returns-2
 returns-2 c =
     let n = c .before .args .byte in
-    rw (lowered n (c .if1 .left) (byte c), toZ-ofZ (lowered-wide n (c .if1 .left) (byte c)), toZ-ofZ (lowered-fits n (c .if1 .left) (byte c)))
+    let wide = lowered-wide n (c .if1 .left) (byte c) in
+    let fits = lowered-fits n (c .if1 .left) (byte c) in
+    rw (lowered n (c .if1 .left) (byte c), toZ-ofZ wide, toZ-ofZ fits)
     (lowered-signed n (c .if1 .left) (byte c))
 
 pub signed-byte-spec : {M : Type 1} → statement M

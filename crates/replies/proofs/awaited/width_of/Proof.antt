@@ -42,7 +42,9 @@ returns-7 c = width-in 1 (16 ∷ 17 ∷ []) (c .before .args .w) refl (refl, (re
 
 returns-8 : tie.Need-returns-8
 unfolding widths
-returns-8 c = width-in 4 (5 ∷ 6 ∷ 12 ∷ 13 ∷ 14 ∷ 15 ∷ []) (c .before .args .w) refl (refl, (refl, (refl, (refl, (refl, (refl, tt)))))) (c .match .keys8)
+returns-8 c =
+    width-in 4 (5 ∷ 6 ∷ 12 ∷ 13 ∷ 14 ∷ 15 ∷ []) (c .before .args .w) refl
+    (refl, (refl, (refl, (refl, (refl, (refl, tt)))))) (c .match .keys8)
 
 pub width-of-spec : {M : Type 1} → statement M
 width-of-spec =

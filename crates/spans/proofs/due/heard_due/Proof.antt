@@ -12,7 +12,8 @@ returns : tie.Need-returns
 returns c =
     let tested = c .before in
     let s = tested .before .before .before in
-    due-is (c .ended-due .ensures) (rw (eq-eqb _ 1 (tested .if1 .taken))) (due-sized (s .args .h) (s .args .r .tally) _ (s .pre .0) (s .pre .1))
+    let fit = due-sized (s .args .h) (s .args .r .tally) _ (s .pre .0) (s .pre .1) in
+    due-is (c .ended-due .ensures) (rw (eq-eqb _ 1 (tested .if1 .taken))) fit
 
 ended-due-requires-2 : tie.Need-ended-due-requires-2
 ended-due-requires-2 c κs = search needs
@@ -21,7 +22,8 @@ returns-2 : tie.Need-returns-2
 returns-2 c =
     let tested = c .before in
     let s = tested .before .before .before in
-    due-is (c .ended-due2 .ensures) (rw (ne-eqb _ 1 (tested .if1 .left))) (due-sized (s .args .h) (s .args .r .tally) _ (s .pre .0) (s .pre .1))
+    let fit = due-sized (s .args .h) (s .args .r .tally) _ (s .pre .0) (s .pre .1) in
+    due-is (c .ended-due2 .ensures) (rw (ne-eqb _ 1 (tested .if1 .left))) fit
 
 pub heard-due-spec : {M : Type 1} → statement M
 heard-due-spec =

@@ -32,7 +32,9 @@ returns-2 c =
     let first = h .before .before .before in
     let s = first .before .before in
     let t = s .args .s .tally in
-    due-is (c .ended-due .ensures ∙ ap (λ (x : Head). dueNow x t (Captures (t .captures))) (h .head-in .ensures)) (rw (le-ltb _ _ (first .if1 .left), eq-eqb _ 0 (tested .if2 .taken))) (due-sized (headOf (s .args .s)) t _ (s .pre .1 (first .if1 .left)) (s .pre .0))
+    let fit = due-sized (headOf (s .args .s)) t _ (s .pre .1 (first .if1 .left)) (s .pre .0) in
+    let due = c .ended-due .ensures ∙ ap (λ (x : Head). dueNow x t (Captures (t .captures))) (h .head-in .ensures) in
+    due-is due (rw (le-ltb _ _ (first .if1 .left), eq-eqb _ 0 (tested .if2 .taken))) fit
 
 ended-due-requires-2 : tie.Need-ended-due-requires-2
 ended-due-requires-2 c κs = search needs
@@ -44,7 +46,9 @@ returns-3 c =
     let first = h .before .before .before in
     let s = first .before .before in
     let t = s .args .s .tally in
-    due-is (c .ended-due2 .ensures ∙ ap (λ (x : Head). dueNow x t (Refusal 30 (t .begins))) (h .head-in .ensures)) (rw (le-ltb _ _ (first .if1 .left), ne-eqb _ 0 (tested .if2 .left))) (due-sized (headOf (s .args .s)) t _ (s .pre .1 (first .if1 .left)) (s .pre .0))
+    let fit = due-sized (headOf (s .args .s)) t _ (s .pre .1 (first .if1 .left)) (s .pre .0) in
+    let due = c .ended-due2 .ensures ∙ ap (λ (x : Head). dueNow x t (Refusal 30 (t .begins))) (h .head-in .ensures) in
+    due-is due (rw (le-ltb _ _ (first .if1 .left), ne-eqb _ 0 (tested .if2 .left))) fit
 
 pub last-due-spec : {M : Type 1} → statement M
 last-due-spec =

@@ -10,8 +10,12 @@ use Rattle.spans.proofs.Eats.{answers, valid-range, valid-head, eating-
 use Rattle.spans.proofs.eating.eat.Statement.{statement}
 use Rattle.spans.proofs.eating.eat.Tie as tie
 
+-- the call, from the first test
+abbrev start : tie.After-is-valid → tie.Start
+start c = c .before .before .before
+
 -- the span is not broken
-valid : (c : tie.Else1) → validSpan (c .before .before .before .before .args .s) ≡ true
+valid : (c : tie.Else1) → validSpan (start (c .before) .args .s) ≡ true
 valid c = sym (c .before .is-valid .ensures) ∙ not-false _ (c .if1 .left)
 
 is-valid-requires : tie.Need-is-valid-requires
@@ -23,12 +27,13 @@ refuse-requires c κs = search needs
 returns : tie.Need-returns
 returns c =
     let v = c .before .before in
-    let a = v .before .before .before .args in
-    answers (now (a .out)) _ (eating-broken (a .s) (now (a .piece)) (length (now (a .out))) (sym (v .is-valid .ensures) ∙ not-true _ (c .before .if1 .taken))) (c .refuse .ensures) refl
+    let a = start v .args in
+    let bad = sym (v .is-valid .ensures) ∙ not-true _ (c .before .if1 .taken) in
+    answers (now (a .out)) _ (eating-broken (a .s) (now (a .piece)) (length (now (a .out))) bad) (c .refuse .ensures) refl
 
 returns-2 : tie.Need-returns-2
 returns-2 c =
-    let a = c .before .before .before .before .before .args in
+    let a = start (c .before .before) .args in
     answers (now (a .out)) _ (eating-stopped (a .s) (now (a .piece)) (length (now (a .out))) (valid (c .before)) (c .if2 .taken)) refl refl
 
 open-requires : tie.Need-open-requires
@@ -42,15 +47,17 @@ returns-3 c =
     let o = c .before .before in
     let tested = o .before .before in
     let e = tested .before .before in
-    let a = e .before .before .before .before .before .args in
-    answers (now (a .out)) _ (eating-head (a .s) (now (a .piece)) (length (now (a .out))) (valid (e .before)) (e .if2 .left) (tested .if3 .taken)) (o .«open» .ensures .0) (o .«open» .ensures .1)
+    let a = start (e .before .before) .args in
+    let is = eating-head (a .s) (now (a .piece)) (length (now (a .out))) (valid (e .before)) (e .if2 .left) (tested .if3 .taken) in
+    answers (now (a .out)) _ is (o .«open» .ensures .0) (o .«open» .ensures .1)
 
 listen-requires : tie.Need-listen-requires
 listen-requires c κs =
     let tested = c .before in
     let e = tested .before .before in
-    let s = e .before .before .before .before .before in
-    (valid-head (s .args .s) (valid (e .before)) (e .if2 .left) (tested .if3 .left), valid-range (s .args .s) (valid (e .before)) (e .if2 .left))
+    let s = start (e .before .before) in
+    let ok = valid (e .before) in
+    (valid-head (s .args .s) ok (e .if2 .left) (tested .if3 .left), valid-range (s .args .s) ok (e .if2 .left))
 
 same-length-2 : tie.Need-same-length-2
 same-length-2 c = search needs
@@ -60,8 +67,9 @@ returns-4 c =
     let l = c .before .before in
     let tested = l .before .before in
     let e = tested .before .before in
-    let a = e .before .before .before .before .before .args in
-    answers (now (a .out)) _ (eating-packets (a .s) (now (a .piece)) (length (now (a .out))) (valid (e .before)) (e .if2 .left) (tested .if3 .left)) (l .listen .ensures .0) (l .listen .ensures .1)
+    let a = start (e .before .before) .args in
+    let is = eating-packets (a .s) (now (a .piece)) (length (now (a .out))) (valid (e .before)) (e .if2 .left) (tested .if3 .left) in
+    answers (now (a .out)) _ is (l .listen .ensures .0) (l .listen .ensures .1)
 
 pub eat-spec : {M : Type 1} → statement M
 eat-spec =

@@ -16,8 +16,12 @@ use Rattle.lines.proofs.Dues.{telling-sized}
 use Rattle.spans.proofs.eating.finish.Statement.{statement}
 use Rattle.spans.proofs.eating.finish.Tie as tie
 
+-- the call, from the first test
+abbrev start : tie.After-is-valid → tie.Start
+start c = c .before .before
+
 -- the span is not broken
-valid : (c : tie.Else1) → validSpan (c .before .before .before .args .s) ≡ true
+valid : (c : tie.Else1) → validSpan (start (c .before) .args .s) ≡ true
 valid c = sym (c .before .is-valid .ensures) ∙ not-false _ (c .if1 .left)
 
 is-valid-requires : tie.Need-is-valid-requires
@@ -26,18 +30,21 @@ is-valid-requires c κs = search needs
 returns : tie.Need-returns
 returns c =
     let v = c .before in
-    let a = v .before .before .args in
-    finishes (now (a .out)) _ (finishing-broken (a .s) (length (now (a .out))) (sym (v .is-valid .ensures) ∙ not-true _ (c .if1 .taken))) (refl, refl)
+    let a = start v .args in
+    let bad = sym (v .is-valid .ensures) ∙ not-true _ (c .if1 .taken) in
+    finishes (now (a .out)) _ (finishing-broken (a .s) (length (now (a .out))) bad) (refl, refl)
 
 returns-2 : tie.Need-returns-2
 returns-2 c =
-    let a = c .before .before .before .before .args in
+    let a = start (c .before .before) .args in
     finishes (now (a .out)) _ (finishing-stopped (a .s) (length (now (a .out))) (valid (c .before)) (c .if2 .taken)) (refl, refl)
 
 last-due-requires : tie.Need-last-due-requires
 last-due-requires c κs =
-    let s = c .before .before .before .before .args .s in
-    (range-sane (s .tally) 0 (valid-range s (valid (c .before)) (c .if2 .left)) (omega arith) .position, λ whole. valid-head s (valid (c .before)) (c .if2 .left) whole)
+    let s = start (c .before .before) .args .s in
+    let ok = valid (c .before) in
+    let near = range-sane (s .tally) 0 (valid-range s ok (c .if2 .left)) (omega arith) in
+    (near .position, λ whole. valid-head s ok (c .if2 .left) whole)
 
 tell-requires : tie.Need-tell-requires
 tell-requires c κs = search needs
@@ -50,10 +57,11 @@ returns-3 c =
     let t = c .before .before in
     let l = t .before .before in
     let e = l .before in
-    let a = e .before .before .before .before .args in
-    finishes (now (a .out)) _
-    (finishing-says (a .s) (length (now (a .out))) (valid (e .before)) (e .if2 .left) ∙ ap (λ (ls : List Line). telling (textOf ls) (length (now (a .out)))) (sym (l .last-due .ensures .0)) ∙ sym (telling-sized (l .last-due .result) (length (now (a .out))) (l .last-due .ensures .1)))
-    (t .tell .ensures)
+    let a = start (e .before .before) .args in
+    let n = length (now (a .out)) in
+    let lines = ap (λ (ls : List Line). telling (textOf ls) n) (sym (l .last-due .ensures .0)) in
+    let told = telling-sized (l .last-due .result) n (l .last-due .ensures .1) in
+    finishes (now (a .out)) _ (finishing-says (a .s) n (valid (e .before)) (e .if2 .left) ∙ lines ∙ sym told) (t .tell .ensures)
 
 pub finish-spec : {M : Type 1} → statement M
 finish-spec =

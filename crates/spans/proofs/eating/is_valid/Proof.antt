@@ -21,7 +21,8 @@ head-ok-requires c κs = search needs
 returns-3 : tie.Need-returns-3
 returns-3 c =
     let e = c .before in
-    sym (valid-by _ (e .before .before .if1 .left) (sym (e .before .in-range .ensures) ∙ not-false _ (e .if2 .left)) (sym (c .head-ok .ensures)))
+    let near = sym (e .before .in-range .ensures) ∙ not-false _ (e .if2 .left) in
+    sym (valid-by _ (e .before .before .if1 .left) near (sym (c .head-ok .ensures)))
 
 pub is-valid-spec : {M : Type 1} → statement M
 is-valid-spec = tie.close (tie.spec returns in-range-requires returns-2 head-ok-requires returns-3)

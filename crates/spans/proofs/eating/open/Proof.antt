@@ -1,31 +1,65 @@
 -- The head waits, or its lines are told or do not fit.
 use borrow.Author.Needs.{needs}
-use Prim.Native.Nat.{_≤_, _-_}
+use Prim.Native.Nat.{ℕ, _≤_, _-_}
 use mathlib.Core.Path.{_≡_, refl, ap, _∙_}
+use mathlib.Core.List.{List}
 use native.Mathlib.Omega.{arith}
 use denote.Ref.{now}
 use lib.ListN.{length}
 use Rattle.spans.specs.declared.Span.{Span}
-use Rattle.spans.specs.Eating.{headLines, headRead, opening, saying}
-use Rattle.spans.proofs.Eats.{answers, opening-by, opening-waits, opening-says, no-room, room}
+use Rattle.spans.specs.Eating.{headLines, headRead, opening, openingBy}
+use Rattle.spans.proofs.Eats.{answers, opening-by, opening-waits, opening-says, Tells, no-room, room}
 use Rattle.spans.proofs.eating.open.Statement.{statement}
 use Rattle.spans.proofs.eating.open.Tie as tie
 
-grows : (c : tie.After-take-head) → c .before .before .before .args .s .taken ≤ c .take-head .result .taken
-grows c = omega (arith, ap (λ (x : Span). x .taken) (c .take-head .ensures))
+-- the call, from where the head's bytes were taken: the span that was given, and the one that has them
+abbrev start : tie.After-take-head → tie.Start
+start c = c .before .before .before
 
-whole : (c : tie.After-tell)
-    → (let t = c .before .before .before .before .before .before .before .before .before .before in
-    let a = t .before .before .before .args in
-    let code = c .before .before .before .head-code .result in
-    opening (a .s) (now (a .piece)) (length (now (a .out)))
-    ≡ saying (a .s) (length (now (a .out))) (t .take-head .result .taken - a .s .taken) (headLines code) (headRead code (t .take-head .result)))
-whole c =
-    let h = c .before .before .before in
-    let t = h .before .before .before .before .before .before .before in
-    let a = t .before .before .before .args in
-    opening-by (a .s) (now (a .piece)) (length (now (a .out))) (t .take-head .result) (t .take-head .ensures)
-    ∙ opening-says _ _ _ _ _ (h .before .before .before .if1 .left) (h .head-code .ensures)
+abbrev given : tie.After-take-head → Span
+given c = start c .args .s
+
+abbrev piece : tie.After-take-head → List ℕ
+piece c = now (start c .args .piece)
+
+abbrev out : tie.After-take-head → List ℕ
+out c = now (start c .args .out)
+
+abbrev after : tie.After-take-head → Span
+after c = c .take-head .result
+
+abbrev count : tie.After-take-head → ℕ
+count c = after c .came - given c .came
+
+grows : (c : tie.After-take-head) → given c .came ≤ after c .came
+grows c = omega (arith, ap (λ (x : Span). x .came) (c .take-head .ensures))
+
+opens : (c : tie.After-take-head) → opening (given c) (piece c) (length (out c)) ≡ openingBy (given c) (length (out c)) (count c) (after c)
+opens c = opening-by (given c) (piece c) (length (out c)) (after c) (c .take-head .ensures)
+
+-- the head is whole, and its lines were told
+abbrev coded : tie.After-tell → tie.After-head-code
+coded c = c .before .before .before
+
+abbrev code : tie.After-tell → ℕ
+code c = coded c .head-code .result
+
+abbrev taken : tie.After-tell → tie.After-take-head
+taken c = coded c .before .before .before .before .before .before .before
+
+tells : (c : tie.After-tell)
+    → (let t = taken c in
+    Tells (given t) (headRead (code c) (after t)) (count t) (headLines (code c)) (out t) (c .tell .last .1 .0) (c .tell .result)
+    (opening (given t) (piece t) (length (out t))))
+tells c =
+    let d = c .before .before in
+    record {
+      due = d .head-due .result;
+      are = d .head-due .ensures .0;
+      fit = d .head-due .ensures .1;
+      did = c .tell .ensures;
+      is = opens (taken c) ∙ opening-says _ _ _ _ _ (coded c .before .before .before .if1 .left) (coded c .head-code .ensures);
+    }
 
 take-head-requires : tie.Need-take-head-requires
 take-head-requires c κs = search needs
@@ -36,8 +70,7 @@ sub-k c = omega (arith, grows (c .before .before))
 returns : tie.Need-returns
 returns c =
     let t = c .before .before .before .before in
-    let a = t .before .before .before .args in
-    answers (now (a .out)) _ (opening-by (a .s) (now (a .piece)) (length (now (a .out))) (t .take-head .result) (t .take-head .ensures) ∙ opening-waits _ _ _ _ (c .if1 .taken)) refl refl
+    answers (out t) _ (opens t ∙ opening-waits _ _ _ _ (c .if1 .taken)) refl refl
 
 slice-aggregate-head-code : tie.Need-slice-aggregate-head-code
 slice-aggregate-head-code c = search needs
@@ -60,12 +93,7 @@ same-length c = search needs
 returns-2 : tie.Need-returns-2
 returns-2 c =
     let tested = c .before in
-    let told = tested .before .before .before .before in
-    let h = told .before .before .before in
-    let t = told .before .before .before .before .before .before .before .before .before .before in
-    let a = t .before .before .before .args in
-    let code = h .head-code .result in
-    no-room (a .s) (headRead code (t .take-head .result)) (t .take-head .result .taken - a .s .taken) (headLines code) (told .before .before .head-due .result) (told .before .before .head-due .ensures .0) (told .before .before .head-due .ensures .1) (now (a .out)) _ (told .tell .result) (told .tell .ensures) _ (whole told) _ (c .refuse .ensures) (tested .if2 .taken)
+    no-room (tells (tested .before .before .before .before)) _ (c .refuse .ensures) (tested .if2 .taken)
 
 after-head-requires : tie.Need-after-head-requires
 after-head-requires c κs = search needs
@@ -77,11 +105,10 @@ returns-3 : tie.Need-returns-3
 returns-3 c =
     let tested = c .before in
     let told = tested .before .before .before .before in
-    let h = told .before .before .before in
-    let t = told .before .before .before .before .before .before .before .before .before .before in
-    let a = t .before .before .before .args in
-    let code = h .head-code .result in
-    room (a .s) (headRead code (t .take-head .result)) (t .take-head .result .taken - a .s .taken) (headLines code) (told .before .before .head-due .result) (told .before .before .head-due .ensures .0) (told .before .before .head-due .ensures .1) (now (a .out)) _ (told .tell .result) (told .tell .ensures) _ (whole told) _ (ap (λ (x : Span). record { code = 1; consumed = t .take-head .result .taken - a .s .taken; wrote = told .tell .result .wrote; span = x }) (c .after-head .ensures)) (tested .if2 .left)
+    let n = count (taken told) in
+    let wrote = told .tell .result .wrote in
+    room (tells told) _
+    (ap (λ (x : Span). record { code = 1; consumed = n; wrote = wrote; span = x }) (c .after-head .ensures)) (tested .if2 .left)
 
 pub open-spec : {M : Type 1} → statement M
 open-spec =

@@ -8,7 +8,7 @@ use Rattle.spans.proofs.Eats.{lacked, head-taken}
 use Rattle.spans.proofs.head.take_head.Statement.{statement}
 use Rattle.spans.proofs.head.take_head.Tie as tie
 
-long : (c : tie.Start) → length (c .args .s .held) ≡ 14
+long : (c : tie.Start) → length (c .args .s .head) ≡ 14
 long c = search needs
 
 sub-lesser : tie.Need-sub-lesser

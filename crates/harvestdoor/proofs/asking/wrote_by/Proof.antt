@@ -1,7 +1,7 @@
 -- Each arm knows the writer's answer.
 use borrow.Author.Needs.{needs}
-use Rattle.harvestdoor.proofs.asking.told_by.Statement.{statement}
-use Rattle.harvestdoor.proofs.asking.told_by.Tie as tie
+use Rattle.harvestdoor.proofs.asking.wrote_by.Statement.{statement}
+use Rattle.harvestdoor.proofs.asking.wrote_by.Tie as tie
 
 enum-known-w : tie.Need-enum-known-w
 enum-known-w c = search needs
@@ -21,5 +21,5 @@ returns-2 c = rw (c .enum-told .given .1)
 returns-3 : tie.Need-returns-3
 returns-3 c = rw (c .enum-told2 .given .1)
 
-pub told-by-spec : {M : Type 1} → statement M
-told-by-spec = tie.close (tie.spec enum-known-w enum-told enum-told-2 returns returns-2 returns-3)
+pub wrote-by-spec : {M : Type 1} → statement M
+wrote-by-spec = tie.close (tie.spec enum-known-w enum-told enum-told-2 returns returns-2 returns-3)
