@@ -39,67 +39,6 @@ fn read(words: &[u8], r: Reader, header: u64, number: u64, n: usize) {
     say(b"\n");
 }
 
-pub(crate) fn readings() {
-    read(b"number 0 first", reader::silent(), SMALL_24, 0, 388);
-    read(b"number 1 first", reader::silent(), SMALL_24, 1, 388);
-    read(b"387 bytes", heard(0), SMALL_24, 1, 387);
-    read(b"388 bytes", heard(0), SMALL_24, 1, 388);
-    read(b"389 bytes", heard(0), SMALL_24, 1, 389);
-    read(b"another form", heard(0), SMALL_16, 1, 516);
-    read(b"another form, number 0", heard(7), SMALL_16, 0, 516);
-    unpack(b"unpacked to 127 numbers", 388, 127);
-    unpack(b"unpacked to 128 numbers", 388, 128);
-    unpack(b"387 bytes unpacked", 387, 0);
-}
-
-// "position past 3,999,999,999"
-pub(crate) fn last_positions() {
-    read(
-        b"one step to 3999999999",
-        heard(3_999_999_998),
-        SMALL_24,
-        5739,
-        388,
-    );
-    read(
-        b"one step to 4000000000",
-        heard(3_999_999_999),
-        SMALL_24,
-        5740,
-        388,
-    );
-    read(
-        b"one turn to 3999999999",
-        heard(3_999_934_464),
-        SMALL_24,
-        5739,
-        388,
-    );
-    read(
-        b"one turn to 4000000000",
-        heard(3_999_934_465),
-        SMALL_24,
-        5740,
-        388,
-    );
-    read(
-        b"a new capture from there",
-        heard(3_999_999_999),
-        SMALL_24,
-        0,
-        388,
-    );
-    read(
-        b"a reader at 4000000000",
-        heard(4_000_000_000),
-        SMALL_24,
-        0,
-        388,
-    );
-    read(b"32 before 33", heard(3_999_999_999), SMALL_16, 5740, 516);
-    read(b"21 before 30", heard(4_000_000_000), SMALL_24, 0, 387);
-}
-
 // Unpacks a packet of 24 bits, small, cut off after n bytes, to so many numbers, and tells how many were written and how many
 // sample bytes there are.
 fn unpack(words: &[u8], n: usize, room: usize) {
@@ -118,6 +57,21 @@ fn unpack(words: &[u8], n: usize, room: usize) {
     say(b"\n");
 }
 
+// What is no packet, and "position past 3,999,999,999".
+pub(crate) fn packets_read() {
+    read(b"387 bytes", heard(0), SMALL_24, 1, 387);
+    read(b"388 bytes", heard(0), SMALL_24, 1, 388);
+    read(b"number 1 first", reader::silent(), SMALL_24, 1, 388);
+    read(b"another form", heard(0), SMALL_16, 1, 516);
+    read(b"to 3999999999", heard(3_999_999_998), SMALL_24, 5739, 388);
+    read(b"to 4000000000", heard(3_999_999_999), SMALL_24, 5740, 388);
+    read(b"32 before 33", heard(3_999_999_999), SMALL_16, 5740, 516);
+    read(b"from 4000000000", heard(4_000_000_000), SMALL_24, 0, 387);
+    unpack(b"387 bytes unpacked", 387, 0);
+    unpack(b"to 127 numbers", 388, 127);
+    unpack(b"to 128 numbers", 388, 128);
+}
+
 // Writes a wish to a buffer of so many bytes.
 fn write(words: &[u8], w: Wish, room: usize) {
     let mut buffer = [0u8; 16];
@@ -134,54 +88,19 @@ fn write(words: &[u8], w: Wish, room: usize) {
     }
 }
 
-pub(crate) fn requests() {
+pub(crate) fn wishes_written() {
     write(b"AskName in 15 bytes", Wish::AskName, 15);
-    write(b"AskName", Wish::AskName, 16);
-    write(b"AskSerial", Wish::AskSerial, 16);
-    write(b"AskInterface", Wish::AskInterface, 16);
-    write(b"AskVersion 3", Wish::AskVersion(3), 16);
-    write(b"AskVersion 4", Wish::AskVersion(4), 16);
-    write(b"AskVersion 4 in 15 bytes", Wish::AskVersion(4), 15);
-    write(b"AskStatus", Wish::AskStatus, 16);
-    write(b"AskState", Wish::AskState, 16);
-    write(b"AskFrequency", Wish::AskFrequency, 16);
-    write(b"AskFrequencyRange", Wish::AskFrequencyRange, 16);
-    write(b"AskGain", Wish::AskGain, 16);
-    write(b"AskClock", Wish::AskClock, 16);
-    write(b"AskRate", Wish::AskRate, 16);
-    write(b"AskPacketSize", Wish::AskPacketSize, 16);
-}
-
-// A state wished for.
-fn state(words: &[u8], run: u8, mode: u8) {
-    write(words, Wish::SetState(StateFields { run, mode }), 16);
-}
-
-pub(crate) fn sets() {
-    state(b"SetState 1, mode 55", 1, 0x55);
-    state(b"SetState 2, mode 80", 2, 0x80);
-    state(b"SetState 2, mode 00", 2, 0x00);
-    state(b"SetState 2, mode 01", 2, 0x01);
-    state(b"SetState 0, mode 80", 0, 0x80);
-    state(b"SetState 3, mode 80", 3, 0x80);
-    write(
-        b"SetFrequency 150000000",
-        Wish::SetFrequency(150_000_000),
-        16,
-    );
-    write(
-        b"SetFrequency 150000001",
-        Wish::SetFrequency(150_000_001),
-        16,
-    );
+    write(b"AskName in 16 bytes", Wish::AskName, 16);
+    write(b"16 before 20", Wish::AskVersion(4), 15);
     write(b"SetGain -30", Wish::SetGain(-30), 16);
     write(b"SetGain -31", Wish::SetGain(-31), 16);
-    write(b"SetClock 80008000", Wish::SetClock(80_008_000), 16);
-    write(b"SetClock 80008001", Wish::SetClock(80_008_001), 16);
-    write(b"SetRate 32000", Wish::SetRate(32_000), 16);
-    write(b"SetRate 31999", Wish::SetRate(31_999), 16);
-    write(b"SetPacketSize 1", Wish::SetPacketSize(1), 16);
-    write(b"SetPacketSize 2", Wish::SetPacketSize(2), 16);
+    write(b"idle", Wish::SetState(StateFields { run: 1, mode: 1 }), 16);
+    write(b"run", Wish::SetState(StateFields { run: 2, mode: 0 }), 16);
+    write(
+        b"run 3",
+        Wish::SetState(StateFields { run: 3, mode: 0 }),
+        16,
+    );
 }
 
 // Reads bytes as the reply to a wish.
@@ -194,9 +113,9 @@ fn hear(words: &[u8], w: Wish, bytes: &[u8]) {
     }
 }
 
-pub(crate) fn answers() {
-    hear(b"02 00 to AskRate", Wish::AskRate, b"\x02\x00");
-    hear(b"02 00 to AskVersion 4", Wish::AskVersion(4), b"\x02\x00");
+pub(crate) fn replies_read() {
+    hear(b"NAK to AskRate", Wish::AskRate, b"\x02\x00");
+    hear(b"NAK to AskVersion 4", Wish::AskVersion(4), b"\x02\x00");
     hear(b"nothing to AskRate", Wish::AskRate, b"");
     hear(
         b"rate 200000",
@@ -208,44 +127,17 @@ pub(crate) fn answers() {
         Wish::AskRate,
         b"\x09\x00\xB8\x00\x00\x41\x0D\x03\x00",
     );
-    hear(
-        b"clock 80008000",
-        Wish::AskClock,
-        b"\x09\x00\xB0\x00\x00\x40\xD3\xC4\x04",
-    );
-    hear(
-        b"clock 80008001",
-        Wish::AskClock,
-        b"\x09\x00\xB0\x00\x00\x41\xD3\xC4\x04",
-    );
-    hear(
-        b"clock of channel 01",
-        Wish::AskClock,
-        b"\x09\x00\xB0\x00\x01\x40\xD3\xC4\x04",
-    );
-    hear(b"gain E2", Wish::AskGain, b"\x06\x00\x38\x00\x00\xE2");
-    hear(b"gain E1", Wish::AskGain, b"\x06\x00\x38\x00\x00\xE1");
     hear(b"status 0C", Wish::AskStatus, b"\x05\x00\x05\x00\x0C");
     hear(b"status 0D", Wish::AskStatus, b"\x05\x00\x05\x00\x0D");
     hear(
-        b"serial MT12345Z",
+        b"serial of Z",
         Wish::AskSerial,
-        b"\x0D\x00\x02\x00MT12345Z\x00",
+        b"\x0D\x00\x02\x00ZZZZZZZZ\x00",
     );
     hear(
-        b"serial MT12345[",
+        b"serial of [",
         Wish::AskSerial,
-        b"\x0D\x00\x02\x00MT12345[\x00",
-    );
-    hear(
-        b"version 2 66 00",
-        Wish::AskVersion(2),
-        b"\x07\x00\x04\x00\x02\x66\x00",
-    );
-    hear(
-        b"version 2 67 00",
-        Wish::AskVersion(2),
-        b"\x07\x00\x04\x00\x02\x67\x00",
+        b"\x0D\x00\x02\x00ZZZZZZZ[\x00",
     );
 }
 
@@ -272,13 +164,10 @@ fn head(words: &[u8], divisor: u32, frequency: u64, mode: u8, size: u8, room: us
 }
 
 pub(crate) fn heads_written() {
-    head(b"head of D 9", 9, 10_000_000, 0x80, 0, 14);
-    head(b"head of D 10", 10, 10_000_000, 0x80, 0, 14);
-    head(b"head of D 625", 625, 10_000_000, 0x00, 1, 14);
-    head(b"head of D 626", 626, 10_000_000, 0x80, 0, 14);
-    head(b"head of 99999 Hz", 100, 99_999, 0x80, 0, 14);
-    head(b"head of mode 01", 100, 10_000_000, 0x01, 0, 14);
-    head(b"head of size 2", 100, 10_000_000, 0x80, 2, 14);
-    head(b"head in 13 bytes", 100, 10_000_000, 0x80, 0, 13);
+    head(b"D 9", 9, 10_000_000, 0x80, 0, 14);
+    head(b"D 10", 10, 10_000_000, 0x80, 0, 14);
+    head(b"D 625", 625, 10_000_000, 0x00, 1, 14);
+    head(b"D 626", 626, 10_000_000, 0x80, 0, 14);
+    head(b"in 13 bytes", 100, 10_000_000, 0x80, 0, 13);
     head(b"16 before 20", 9, 10_000_000, 0x80, 0, 13);
 }

@@ -12,16 +12,20 @@ fn main() {
     let mut text = io::large_buffer();
     let n = io::read_full(STDIN_FILENO, &mut text);
     script::run(&text[..n]);
-    telling::say(b"\n# The box by hand\n");
+    telling::say(b"\n# Packets cut: code, and the packet's first ten bytes\n");
     boxes::forms();
     boxes::cuts();
     boxes::counts();
+    telling::say(b"\n# Replies with little room\n");
     boxes::feeds();
-    telling::say(b"\n# The harvester\n");
-    harvest::readings();
-    harvest::last_positions();
-    harvest::requests();
-    harvest::sets();
-    harvest::answers();
+    telling::say(
+        b"\n# Packets read: code, position, first sample; unpacked: code, numbers, sample bytes\n",
+    );
+    harvest::packets_read();
+    telling::say(b"\n# Wishes written\n");
+    harvest::wishes_written();
+    telling::say(b"\n# Replies read\n");
+    harvest::replies_read();
+    telling::say(b"\n# Heads written\n");
     harvest::heads_written();
 }
