@@ -6,7 +6,7 @@ use station::Station;
 
 // A box that runs or not, in a mode and a size, and has cut so many packets.
 fn made(running: bool, mode: u8, size: u8, count: u64) -> Station {
-    let mut settings = station::fresh(b"MT123456").station.settings;
+    let mut settings = station::fresh(b"00000000").station.settings;
     settings.running = running;
     settings.mode = mode;
     settings.size = size;

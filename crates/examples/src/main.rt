@@ -1,6 +1,6 @@
 // Runs document 01's examples and edges, and the examples that source document 003 prints. What is printed is compared, a line
-// for each call: what it was, its code, and its bytes or numbers. So a constant of 01 that were written wrong in a definition and
-// in the code alike would be proved, and would show here.
+// for each call: what it was, its code, and its bytes or numbers. A constant of 01 that is wrong in its definition and in the code
+// alike is proved all the same: here it shows, since what is taken stands beside what lies next to it.
 mod boxes; // boxes.rt: the box at edges that no message of the script reaches
 mod harvest; // harvest.rt: the harvester's calls at their edges
 mod script; // script.rt: the messages on standard input, fed to boxes

@@ -110,7 +110,7 @@ fn run_line(s: Station, line: &[u8]) -> Station {
 
 // One line after the other.
 pub(crate) fn run(text: &[u8]) {
-    let mut now = station::fresh(b"MT123456").station;
+    let mut now = station::fresh(b"00000000").station;
     let mut at = 0;
     while at < text.len() {
         let end = find(text, at, b'\n');
