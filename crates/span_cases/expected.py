@@ -159,7 +159,8 @@ CASES = [
 ]
 
 WAYS = ["whole", "byte by byte", "pieces of 7", "pieces of 389"]
-TURNS = [(f"{n} turns", head() + small(0) + small(65535) * n) for n in [61036, 61037]]
+# 61,036 full turns behind position 5,739, the last, and behind 5,740
+TURNS = [(f"to position {n + 61036 * 65535}", head() + small(0) + small(n) * 61037) for n in [5739, 5740]]
 
 if sys.argv[1:] == ["stdin"]:
     for name, data in CASES:

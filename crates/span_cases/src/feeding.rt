@@ -82,8 +82,8 @@ fn again(s: Span, packet: &[u8], count: u32) -> Span {
     span
 }
 
-// A case of a packet numbered 0 and so many packets numbered 65,535 behind it, each handed over by itself.
-pub(crate) fn repeated(name: &[u8], count: u32) {
+// A case of a packet numbered 0 and so many packets of another number behind it, each handed over by itself.
+pub(crate) fn repeated(name: &[u8], number: u64, count: u32) {
     say(name);
     say(b": packet by packet\n");
     let opened = hand_over(
@@ -93,6 +93,6 @@ pub(crate) fn repeated(name: &[u8], count: u32) {
     let mut packet = [0u8; 388];
     wire::put(&mut packet, 0, 4, 0x0000_8184);
     let begun = again(opened.span, &packet, 1);
-    wire::put(&mut packet, 0, 4, 0xFFFF_8184);
+    wire::put(&mut packet, 2, 2, number);
     close(again(begun, &packet, count));
 }

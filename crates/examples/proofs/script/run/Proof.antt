@@ -2,8 +2,8 @@
 use Prim.Native.Nat.{_≤_, _-_}
 use lib.ListN.{length}
 use borrow.Author.Needs.{needs}
-use Rattle.examples.proofs.run.Statement.{statement}
-use Rattle.examples.proofs.run.Tie as tie
+use Rattle.examples.proofs.script.run.Statement.{statement}
+use Rattle.examples.proofs.script.run.Tie as tie
 
 abbrev Inv-loop : tie.InvT-loop
 Inv-loop text now₀ at₀ now at = at ≤ length text
@@ -20,8 +20,8 @@ fresh-requires c κs = search needs
 loop-holds : tie.Need-loop-holds Inv-loop μ-loop
 loop-holds c = search needs
 
-line-end-requires : tie.Need-line-end-requires Inv-loop μ-loop
-line-end-requires c κs = search needs
+find-requires : tie.Need-find-requires Inv-loop μ-loop
+find-requires c κs = search needs
 
 sub-run-line : tie.Need-sub-run-line Inv-loop μ-loop
 sub-run-line c = search needs
@@ -59,7 +59,7 @@ run-spec =
     slice-aggregate-fresh
     fresh-requires
     loop-holds
-    line-end-requires
+    find-requires
     sub-run-line
     part-run-line-start
     part-run-line-end

@@ -5,8 +5,8 @@ use mathlib.Core.Path.{_≡_}
 use native.Mathlib.Omega.{arith}
 use borrow.Author.Needs.{needs}
 use borrow.Author.Tests.{ltb-true}
-use Rattle.examples.proofs.read_bytes.Statement.{statement}
-use Rattle.examples.proofs.read_bytes.Tie as tie
+use Rattle.examples.proofs.script.read_bytes.Statement.{statement}
+use Rattle.examples.proofs.script.read_bytes.Tie as tie
 
 abbrev Inv-loop : tie.InvT-loop
 Inv-loop line out₀ n₀ at₀ out n at = (n ≤ at) × (n ≤ length out₀) × (at ≤ length line) × (length out ≡ length out₀)

@@ -1,0 +1,111 @@
+// The box at edges that no message of the script reaches: packets cut, and little room for a reply.
+use crate::telling::first;
+use crate::telling::name;
+use crate::telling::tell;
+use station::Station;
+
+// A box that runs or not, in a mode and a size, and has cut so many packets.
+fn made(running: bool, mode: u8, size: u8, count: u64) -> Station {
+    let mut settings = station::fresh(b"00000000").station.settings;
+    settings.running = running;
+    settings.mode = mode;
+    settings.size = size;
+    settings.count = count;
+    Station {
+        settings,
+        store: framing::between(),
+    }
+}
+
+// Cuts a packet from n numbers, each of them v, in so many bytes. Of the packet its first ten bytes are told.
+fn cut(words: &[u8], s: Station, n: usize, v: i32, room: usize) {
+    let samples = [v; 512];
+    let mut packet = [0u8; 1444];
+    if 512 < n {
+        return;
+    }
+    if 1444 < room {
+        return;
+    }
+    let part = &mut packet[..room];
+    let cut = cutting::cut_packet(s, &samples[..n], part);
+    name(words);
+    tell(cut.code, first(first(part, cut.wrote), 10));
+}
+
+// The four forms.
+pub(crate) fn forms() {
+    let large = made(true, 0x80, 0, 1);
+    cut(b"24 bits, large, of -257", large, 480, -257, 1444);
+    let small = made(true, 0x80, 1, 1);
+    cut(b"24 bits, small, of -257", small, 128, -257, 388);
+    let large_16 = made(true, 0x00, 0, 1);
+    cut(b"16 bits, large, of -257", large_16, 512, -257, 1028);
+    let small_16 = made(true, 0x00, 1, 1);
+    cut(b"16 bits, small, of -257", small_16, 256, -257, 516);
+    cut(b"in 515 bytes", small_16, 256, -257, 515);
+}
+
+// 24 bits, small: 64 pairs, so 128 numbers, in 388 bytes.
+pub(crate) fn cuts() {
+    let begun = made(true, 0x80, 1, 0);
+    cut(b"while idle", made(false, 0x80, 1, 0), 128, 0, 388);
+    cut(b"from 127 numbers", begun, 127, 0, 388);
+    cut(b"from 129 numbers", begun, 129, 0, 388);
+    cut(b"of -8388609", begun, 128, -8_388_609, 388);
+    cut(b"of -8388608", begun, 128, -8_388_608, 388);
+    cut(b"of 8388607", begun, 128, 8_388_607, 388);
+    cut(b"of 8388608", begun, 128, 8_388_608, 388);
+}
+
+// "capture holds 4,000,000,000 packets", and a box that would hold one more is broken; then the order, "21, 22, 25, 23, 24, 20".
+pub(crate) fn counts() {
+    let last = made(true, 0x80, 1, 3_999_999_999);
+    let full = made(true, 0x80, 1, 4_000_000_000);
+    cut(b"at 3999999999", last, 128, 0, 388);
+    cut(b"at 4000000000", full, 128, 0, 388);
+    cut(
+        b"21 before 22",
+        made(false, 0x80, 1, 4_000_000_001),
+        127,
+        8_388_608,
+        0,
+    );
+    cut(
+        b"22 before 25",
+        made(false, 0x80, 1, 4_000_000_000),
+        127,
+        8_388_608,
+        0,
+    );
+    cut(b"25 before 23", full, 127, 8_388_608, 0);
+    cut(b"23 before 24", last, 127, 8_388_608, 0);
+    cut(b"24 before 20", last, 128, 8_388_608, 0);
+}
+
+// Feeds a message with so much room for the reply.
+fn feed(words: &[u8], s: Station, message: &[u8], room: usize) {
+    let mut reply = [0u8; 64];
+    if 64 < room {
+        return;
+    }
+    let part = &mut reply[..room];
+    let fed = station::feed(s, message, part);
+    name(words);
+    tell(fed.code, first(part, fed.wrote));
+}
+
+// Little room: NAK has 2 bytes, and the reply with the name 11.
+pub(crate) fn feeds() {
+    let valid = made(false, 0x80, 0, 4_000_000_000);
+    feed(b"name in 10 bytes", valid, b"\x04\x20\x01\x00", 10);
+    feed(b"name in 11 bytes", valid, b"\x04\x20\x01\x00", 11);
+    feed(b"NAK in 1 byte", valid, b"\x04\x20\x09\x00", 1);
+    feed(b"NAK in 2 bytes", valid, b"\x04\x20\x09\x00", 2);
+    feed(
+        b"21 before 20",
+        made(false, 0x80, 0, 4_000_000_001),
+        b"\x04\x20\x09\x00",
+        1,
+    );
+}
