@@ -44,22 +44,21 @@ turn : (c : tie.After-feed-once Inv-loop μ-loop) → c .feed-once .result .writ
     (c .feed-once .result .fed)
 turn c w = turns _ _ _ _ (c .before .before .before .loop .inv) (c .before .before .loop-test .taken) _ (c .feed-once .ensures w)
 
-turned : (c : tie.Else1 Inv-loop μ-loop)
-    → Turn
-    (c .before .before .before .before .before .before .before .before .before .args .s)
-    (c .before .before .before .before .before .before .before .before .before .args .piece .now)
-    (c .before .before .before .before .before .before .before .loop .at)
-    (c .before .before .before .before .feed-once .result .fed)
-turned c = turn (c .before .before .before .before) (not-false _ (c .if1 .left))
+-- where the call was made, of a turn whose reply was written
+abbrev fed : tie.After-struct-known2 Inv-loop μ-loop → tie.After-feed-once Inv-loop μ-loop
+fed c = c .before .before .before .before .before
+
+written : (c : tie.After-struct-known2 Inv-loop μ-loop) → fed c .feed-once .result .written ≡ true
+written c = not-false _ (c .before .if1 .left)
 
 add-at : tie.Need-add-at Inv-loop μ-loop
-add-at c = omega (arith, turned (c .before) .going .inside)
+add-at c = omega (arith, turn (fed c) (written c) .going .inside)
 
 loop-less : tie.Need-loop-less Inv-loop μ-loop
-loop-less c = omega (arith, turned (c .before) .some)
+loop-less c = omega (arith, turn (fed c) (written c) .some)
 
 loop-again : tie.Need-loop-again Inv-loop μ-loop
-loop-again c = turned (c .before) .going
+loop-again c = turn (fed c) (written c) .going
 
 returns-2 : tie.Need-returns-2 Inv-loop μ-loop
 returns-2 c = λ w. ends _ _ _ _ (c .before .loop .inv) (c .loop-test .left)

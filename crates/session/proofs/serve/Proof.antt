@@ -34,22 +34,26 @@ same-length c = search needs
 returns : tie.Need-returns Inv-loop μ-loop
 returns c w = no-more (toZ w64 (ofZ w64 (c .before .before .before .read .result))) (c .if1 .taken)
 
-same-long : (c : tie.After-buf Inv-loop μ-loop) → length (c .before .read .last .1 .0) ≡ length (c .before .before .before .loop .buf)
+-- the loop's turn in which a read was made, and the read of a piece that is counted
+abbrev looped : tie.After-buf Inv-loop μ-loop → tie.At-loop Inv-loop μ-loop
+looped c = c .before .before .before
+
+abbrev readOf : tie.After-count Inv-loop μ-loop → tie.After-buf Inv-loop μ-loop
+readOf c = c .before .before .before .before
+
+-- reading keeps the buffer's length
+same-long : (c : tie.After-buf Inv-loop μ-loop) → length (c .before .read .last .1 .0) ≡ length (looped c .loop .buf)
 same-long c = search needs
 
 -- what a read gave that neither failed nor met the end
 given : (c : tie.After-count Inv-loop μ-loop)
-    → Gave
-    (toZ w64 (ofZ w64 (c .before .before .before .before .before .read .result)))
-    (c .count .result)
-    (c .before .before .before .before .before .read .last .1 .0)
+    → Gave (toZ w64 (ofZ w64 (readOf c .before .read .result))) (c .count .result) (readOf c .before .read .last .1 .0)
 given c =
-    let held = c .before .before .before .before in
-    let read = held .before .read in
-    gave (read .result) _ (c .count .result) (held .before .before .before .loop .buf) (read .last .1 .0)
+    let read = readOf c .before .read in
+    gave (read .result) _ (c .count .result) (looped (readOf c) .loop .buf) (read .last .1 .0)
     (read .ensures)
     (toZ-ofZ (record { sfits = read .ok }))
-    (same-long held)
+    (same-long (readOf c))
     (c .before .before .if1 .left)
     (c .count .ensures .1)
 
@@ -57,7 +61,7 @@ count-requires : tie.Need-count-requires Inv-loop μ-loop
 count-requires c κs = search needs
 
 sub-if2 : tie.Need-sub-if2 Inv-loop μ-loop
-sub-if2 c = c .before .before .before .before .before .before .before .loop .inv .2
+sub-if2 c = looped (readOf c) .loop .inv .2
 
 same-length-2 : tie.Need-same-length-2 Inv-loop μ-loop
 same-length-2 c = search needs
@@ -73,8 +77,8 @@ slice-aggregate-feed-piece c = search needs
 
 feed-piece-requires : tie.Need-feed-piece-requires Inv-loop μ-loop
 feed-piece-requires c κs =
-    let held = c .before .before .before .before .before .before .before .before .before .loop .inv in
-    (held .1, given (c .before .before) .all)
+    let counted = c .before .before in
+    (looped (readOf counted) .loop .inv .1, given counted .all)
 
 same-length-3 : tie.Need-same-length-3 Inv-loop μ-loop
 same-length-3 c = search needs
@@ -94,7 +98,7 @@ loop-less c = omega (arith, given (counted c) .some, c .before .before .before .
 
 loop-again : tie.Need-loop-again Inv-loop μ-loop
 loop-again c =
-    let held = counted c .before .before .before .before .before .before .before .loop .inv in
+    let held = looped (readOf (counted c)) .loop .inv in
     let went = c .before .before .before .feed-piece .ensures (not-false _ (c .if3 .left)) in (
       search needs,
       piece-read _ _ _ _ _ (held .1) (given (counted c) .count) went,
