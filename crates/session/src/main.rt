@@ -7,7 +7,7 @@ use station::Station;
 ghost use mathlib.Core.Path.{_≡_};
 ghost use mathlib.Core.Bool.{true};
 ghost use Rattle.station.specs.Feeding.{feedingOf};
-ghost use Rattle.reads.specs.Got.{AllOf, NoMore};
+ghost use Rattle.reads.specs.Got.{AllOf, NoMore, Whole};
 ghost use Rattle.session.specs.Session.{HandedOver, ReadSoFar};
 
 // Writes the reply of a box to some bytes of the host, in one write, and answers whether it was written. Box and bytes are
@@ -56,7 +56,7 @@ fn feed_piece(s: Station, read: usize, got: isize, piece: &[u8]) -> Handed
         if !answered.written {
             return Handed {
                 station: next,
-                written: false,
+                written: answered.written,
             };
         }
         station = next;
@@ -102,13 +102,18 @@ fn serve(s: Station, buf: &mut [u8]) -> Ended
         if !handed.written {
             return Ended {
                 got,
-                written: false,
+                written: handed.written,
             };
         }
         station = next;
         read += n;
     }
 }
+
+// Nothing is left to do. It is there for the contract alone: a read that failed is not the end of the input.
+fn served(got: isize)
+    requires { ⌜ Whole got ⌝ }
+{}
 
 // Says once, and after all else, what could not be done.
 fn main() {
@@ -121,5 +126,7 @@ fn main() {
     }
     if ended.got < 0 {
         os::fail(b"session: the input could not be read to its end");
+        return;
     }
+    served(ended.got);
 }

@@ -67,7 +67,7 @@ fn hand_over(s: Span, read: usize, got: isize, piece: &[u8], out: &mut [u8]) -> 
         if !reported.written {
             return Handed {
                 span: next,
-                written: false,
+                written: reported.written,
             };
         }
         span = next;
@@ -125,7 +125,7 @@ fn run(buf: &mut [u8], out: &mut [u8]) -> Ended
                 span: next,
                 read,
                 got,
-                written: false,
+                written: handed.written,
             };
         }
         span = next;

@@ -1,10 +1,10 @@
 -- Each turn is one call, which leaves fewer bytes; what is left leads where the whole piece leads.
 use Prim.Native.Nat.{_-_}
 use native.Mathlib.Omega.{arith}
-use mathlib.Core.Path.{_≡_, sym}
+use mathlib.Core.Path.{_≡_, sym, _∙_}
 use mathlib.Core.Bool.{true, true≢false}
 use lib.ListN.{length}
-use borrow.Author.Tests.{not-false}
+use borrow.Author.Tests.{not-true, not-false}
 use borrow.Author.Needs.{needs}
 use Rattle.session.proofs.Pieces.{Going, begins, ends, Turn, turns}
 use Rattle.session.proofs.feed_piece.Statement.{statement}
@@ -33,7 +33,7 @@ feed-once-requires c κs = search needs
 
 -- nothing is promised where a reply was not written
 returns : tie.Need-returns Inv-loop μ-loop
-returns c w = absurd (true≢false (sym w))
+returns c w = absurd (true≢false (sym w ∙ not-true _ (c .if1 .taken)))
 
 -- what a call did whose reply was written
 turn : (c : tie.After-feed-once Inv-loop μ-loop) → c .feed-once .result .written ≡ true

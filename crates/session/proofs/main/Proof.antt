@@ -1,6 +1,13 @@
--- A fresh box is valid, and nothing has been read.
-use borrow.Author.Needs.{needs}
+-- A fresh box is valid, and nothing has been read; at the end the input was read whole.
+use mathlib.Core.Path.{sym, subst}
+use borrow.Author.Tests.{not-false}
+use mir.Syntax.{w64}
+use mir.Val.{SFits}
+use mir.Facts.{toZ-ofZ}
+use Rattle.reads.specs.Got.{NoMore}
+use Rattle.reads.proofs.Got.{whole}
 use Rattle.session.proofs.Reaching.{none-read}
+use borrow.Author.Needs.{needs}
 use Rattle.session.proofs.main.Statement.{statement}
 use Rattle.session.proofs.main.Tie as tie
 
@@ -34,6 +41,13 @@ fail-requires-2 c κs = search needs
 returns-2 : tie.Need-returns-2
 returns-2 c = search needs
 
+served-requires : tie.Need-served-requires
+served-requires c κs =
+    let serve = c .before .before .before .before .before .before .before .serve in
+    let written = not-false _ (c .before .before .before .before .if1 .left) in
+    let fits : SFits w64 (serve .result .got) = record { sfits = c .before .before .struct-told .given .0 .1 } in
+    whole _ (subst NoMore (sym (toZ-ofZ fits)) (serve .ensures written)) (c .before .if2 .left)
+
 returns-3 : tie.Need-returns-3
 returns-3 c = search needs
 
@@ -51,4 +65,5 @@ main-spec =
     slice-aggregate-fail-2
     fail-requires-2
     returns-2
+    served-requires
     returns-3)

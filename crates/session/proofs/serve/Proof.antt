@@ -2,11 +2,11 @@
 -- counted as it is handed on.
 use Prim.Native.Nat.{_-_, _≤_}
 use native.Mathlib.Omega.{arith}
-use mathlib.Core.Path.{_≡_, refl, sym}
+use mathlib.Core.Path.{_≡_, sym, _∙_}
 use mathlib.Core.Bool.{true≢false}
 use lib.ListN.{length}
 use borrow.Author.Needs.{needs}
-use borrow.Author.Tests.{not-false}
+use borrow.Author.Tests.{not-true, not-false}
 use mir.Syntax.{w64}
 use mir.Val.{toZ, ofZ}
 use mir.Facts.{toZ-ofZ}
@@ -84,7 +84,7 @@ same-length-3 : tie.Need-same-length-3 Inv-loop μ-loop
 same-length-3 c = search needs
 
 returns-3 : tie.Need-returns-3 Inv-loop μ-loop
-returns-3 c w = absurd (true≢false (sym w))
+returns-3 c w = absurd (true≢false (sym w ∙ not-true _ (c .if3 .taken)))
 
 -- where the read's bytes were counted, of a turn whose replies were written
 abbrev counted : tie.Else3 Inv-loop μ-loop → tie.After-count Inv-loop μ-loop

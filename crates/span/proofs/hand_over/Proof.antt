@@ -5,7 +5,7 @@ use mathlib.Core.Path.{_≡_, sym, _∙_}
 use mathlib.Core.Bool.{true, true≢false}
 use lib.ListN.{length}
 use borrow.Author.Needs.{needs}
-use borrow.Author.Tests.{not-false}
+use borrow.Author.Tests.{not-true, not-false}
 use Rattle.span.proofs.Pieces.{Onward, begins, ends, Turn, turns}
 use Rattle.span.proofs.hand_over.Statement.{statement}
 use Rattle.span.proofs.hand_over.Tie as tie
@@ -41,7 +41,7 @@ same-length c =
 
 -- nothing is promised of the span where lines were not written
 returns : tie.Need-returns Inv-loop μ-loop
-returns c = (λ w. absurd (true≢false (sym w)), c .before .before .before .before .before .before .eat-some .ensures .1)
+returns c = (λ w. absurd (true≢false (sym w ∙ not-true _ (c .if1 .taken))), c .before .before .before .before .before .before .eat-some .ensures .1)
 
 -- what a call did whose lines were written
 turn : (c : tie.After-eat-some Inv-loop μ-loop) → c .eat-some .result .written ≡ true

@@ -7,7 +7,7 @@ use mathlib.Core.Bool.{true≢false}
 use mathlib.Core.Logic.{_⊎_, inl, inr}
 use lib.ListN.{length}
 use borrow.Author.Needs.{needs}
-use borrow.Author.Tests.{not-false}
+use borrow.Author.Tests.{not-true, not-false}
 use mir.Syntax.{w64}
 use mir.Val.{toZ, ofZ}
 use mir.Facts.{toZ-ofZ}
@@ -111,7 +111,7 @@ same-length-6 c =
     gone .hand-over .ensures .1 ∙ sym (start .pre)
 
 returns-3 : tie.Need-returns-3 Inv-loop μ-loop
-returns-3 c = (λ w. absurd (true≢false (sym w)), c .before .before .before .before .before .hand-over .ensures .1)
+returns-3 c = (λ w. absurd (true≢false (sym w ∙ not-true _ (c .if4 .taken))), c .before .before .before .before .before .hand-over .ensures .1)
 
 -- where the read's bytes were counted, of a turn whose lines were written
 abbrev counted : tie.Else4 Inv-loop μ-loop → tie.After-count Inv-loop μ-loop
