@@ -119,16 +119,16 @@ fn run(buf: &mut [u8], out: &mut [u8]) -> Ended
             };
         }
         let handed = hand_over(span, read, got, &buf[..n], out);
-        let next = handed.span;
+        let after = handed.span;
         if !handed.written {
             return Ended {
-                span: next,
+                span: after,
                 read,
                 got,
                 written: handed.written,
             };
         }
-        span = next;
+        span = after;
         read += n;
     }
     Ended {
