@@ -91,12 +91,12 @@ struct Ended {
 // Reads pieces as they come and hands them over, until the input ends, a read fails, lines cannot be written, or the span has
 // stopped. A proved loop has to end, and nothing says that the input does. So the loop counts the bytes that it reads, up to
 // as many as a span can count, 2^63, to which no run comes; past them the program ends as where a read fails.
-fn run(buf: &mut [u8], out: &mut [u8]) -> Ended
-    requires { ⌜ length (now out) ≡ 256 ⌝ }
+fn run(s: Span, buf: &mut [u8], out: &mut [u8]) -> Ended
+    requires { ⌜ SpanSoFar s 0 × (length (now out) ≡ 256) ⌝ }
     ensures { λ r. ⌜ (r .written ≡ true → SpanSoFar (r .span) (r .read) × WantsNoMore (r .span) (r .got)) ⌝ }
     ensures { λ r. ⌜ length (now (out .exit)) ≡ 256 ⌝ }
 {
-    let mut span = spans::fresh();
+    let mut span = s;
     let mut read = 0;
     let mut got = 1;
     while !span.stopped {
@@ -141,9 +141,10 @@ fn run(buf: &mut [u8], out: &mut [u8]) -> Ended
 
 // Says once, and after all else, what could not be done. No last line says that the input ended where it was not read so far.
 fn main() {
+    let fresh = spans::fresh();
     let mut buf = [0u8; 262144];
     let mut out = [0u8; 256];
-    let ended = run(&mut buf, &mut out);
+    let ended = run(fresh, &mut buf, &mut out);
     if !ended.written {
         os::fail(b"span: a line could not be written");
         return;

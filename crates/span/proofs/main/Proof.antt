@@ -9,7 +9,7 @@ use mir.Facts.{toZ-ofZ}
 use Rattle.spans.specs.Eating.{finishingOf}
 use Rattle.span.specs.SoFar.{SpanSoFar, WantsNoMore}
 use Rattle.span.proofs.Lines.{Lines, lines-of-end}
-use Rattle.span.proofs.Reaching.{to-its-end}
+use Rattle.span.proofs.Reaching.{none-read, to-its-end}
 use Rattle.span.proofs.main.Statement.{statement}
 use Rattle.span.proofs.main.Tie as tie
 
@@ -29,6 +29,9 @@ lines c =
     let long = ran c .run .ensures .1 in
     lines-of-end _ _ _ _ long (rw long at (c .finish .ensures .0)) (rw long at (c .finish .ensures .1))
 
+fresh-requires : tie.Need-fresh-requires
+fresh-requires c κs = search needs
+
 slice-aggregate-run : tie.Need-slice-aggregate-run
 slice-aggregate-run c = search needs
 
@@ -36,7 +39,7 @@ slice-aggregate-run-2 : tie.Need-slice-aggregate-run-2
 slice-aggregate-run-2 c = search needs
 
 run-requires : tie.Need-run-requires
-run-requires c κs = search needs
+run-requires c κs = (rw (c .before .before .fresh .ensures) none-read, search needs)
 
 slice-aggregate-fail : tie.Need-slice-aggregate-fail
 slice-aggregate-fail c = search needs
@@ -93,6 +96,7 @@ pub main-spec : {M : Type 1} → statement M
 main-spec =
     tie.close
     (tie.spec
+    fresh-requires
     slice-aggregate-run
     slice-aggregate-run-2
     run-requires

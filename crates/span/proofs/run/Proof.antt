@@ -14,7 +14,7 @@ use mir.Facts.{toZ-ofZ}
 use Rattle.hearing.specs.Hearing.{farthest}
 use Rattle.reads.proofs.Got.{no-more, Gave, gave}
 use Rattle.span.specs.SoFar.{SpanSoFar}
-use Rattle.span.proofs.Reaching.{none-read, piece-read}
+use Rattle.span.proofs.Reaching.{piece-read}
 use Rattle.span.proofs.run.Statement.{statement}
 use Rattle.span.proofs.run.Tie as tie
 
@@ -24,11 +24,8 @@ Inv-loop buf₀ out₀ span₀ read₀ got₀ buf out span read got = (length bu
 abbrev μ-loop : tie.MeasureT-loop
 μ-loop buf₀ out₀ span₀ read₀ got₀ buf out span read got = farthest - read
 
-fresh-requires : tie.Need-fresh-requires Inv-loop μ-loop
-fresh-requires c κs = search needs
-
 loop-holds : tie.Need-loop-holds Inv-loop μ-loop
-loop-holds c = (refl, c .before .before .before .pre, rw (c .fresh .ensures) none-read)
+loop-holds c = (refl, c .before .before .pre .1, c .before .before .pre .0)
 
 read-requires : tie.Need-read-requires Inv-loop μ-loop
 read-requires c κs = search needs
@@ -107,8 +104,8 @@ same-length-5 c = search needs
 same-length-6 : tie.Need-same-length-6 Inv-loop μ-loop
 same-length-6 c =
     let gone = c .before .before .before .before .before in
-    let start = looped (readOf (gone .before .before .before .before)) .before .before .before .before in
-    gone .hand-over .ensures .1 ∙ sym (start .pre)
+    let start = looped (readOf (gone .before .before .before .before)) .before .before .before in
+    gone .hand-over .ensures .1 ∙ sym (start .pre .1)
 
 returns-3 : tie.Need-returns-3 Inv-loop μ-loop
 returns-3 c = (λ w. absurd (true≢false (sym w ∙ not-true _ (c .if4 .taken))), c .before .before .before .before .before .hand-over .ensures .1)
@@ -159,7 +156,6 @@ run-spec =
     (tie.spec
     Inv-loop
     μ-loop
-    fresh-requires
     loop-holds
     read-requires
     same-length
