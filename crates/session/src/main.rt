@@ -68,8 +68,11 @@ fn feed_piece(s: Station, read: usize, got: isize, piece: &[u8]) -> Handed
     }
 }
 
-// How serving came to an end: what the last read answered, and whether each reply was written.
+// How serving came to an end: the box then, the bytes that it was fed, what the last read answered, and whether each reply
+// was written.
 struct Ended {
+    station: Station,
+    read: usize,
     got: isize,
     written: bool,
 }
@@ -81,18 +84,25 @@ const MOST: usize = 0x8000_0000_0000_0000;
 // Reads pieces as they come, until the input ends, a read fails or a reply cannot be written.
 fn serve(s: Station, buf: &mut [u8]) -> Ended
     requires { ⌜ ReadSoFar s 0 ⌝ }
-    ensures { λ r. ⌜ (r .written ≡ true → NoMore (r .got)) ⌝ }
+    ensures { λ r. ⌜ (r .written ≡ true → ReadSoFar (r .station) (r .read) × NoMore (r .got)) ⌝ }
 {
     let mut station = s;
     let mut read = 0;
     loop {
         let got = libc::read(STDIN_FILENO, buf);
         if got <= 0 {
-            return Ended { got, written: true };
+            return Ended {
+                station,
+                read,
+                got,
+                written: true,
+            };
         }
         let n = io::count(got, buf);
         if MOST - read < n {
             return Ended {
+                station,
+                read,
                 got: -1,
                 written: true,
             };
@@ -101,6 +111,8 @@ fn serve(s: Station, buf: &mut [u8]) -> Ended
         let next = handed.station;
         if !handed.written {
             return Ended {
+                station: next,
+                read,
                 got,
                 written: handed.written,
             };
@@ -110,9 +122,10 @@ fn serve(s: Station, buf: &mut [u8]) -> Ended
     }
 }
 
-// Nothing is left to do. It is there for the contract alone: a read that failed is not the end of the input.
-fn served(got: isize)
-    requires { ⌜ Whole got ⌝ }
+// Nothing is left to do. It is there for the contract alone: the box was fed all that was read, and a read that failed is not
+// the end of the input.
+fn served(s: Station, read: usize, got: isize)
+    requires { ⌜ ReadSoFar s read × Whole got ⌝ }
 {}
 
 // Says once, and after all else, what could not be done.
@@ -128,5 +141,5 @@ fn main() {
         os::fail(b"session: the input could not be read to its end");
         return;
     }
-    served(ended.got);
+    served(ended.station, ended.read, ended.got);
 }

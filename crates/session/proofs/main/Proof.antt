@@ -45,8 +45,9 @@ served-requires : tie.Need-served-requires
 served-requires c κs =
     let serve = c .before .before .before .before .before .before .before .serve in
     let written = not-false _ (c .before .before .before .before .if1 .left) in
-    let fits : SFits w64 (serve .result .got) = record { sfits = c .before .before .struct-told .given .0 .1 } in
-    whole _ (subst NoMore (sym (toZ-ofZ fits)) (serve .ensures written)) (c .before .if2 .left)
+    let fits : SFits w64 (serve .result .got) = record { sfits = c .before .before .struct-told .given .1 .1 .0 .1 } in
+    let ended = serve .ensures written in
+    (ended .0, whole _ (subst NoMore (sym (toZ-ofZ fits)) (ended .1)) (c .before .if2 .left))
 
 returns-3 : tie.Need-returns-3
 returns-3 c = search needs

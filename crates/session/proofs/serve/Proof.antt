@@ -32,7 +32,9 @@ same-length : tie.Need-same-length Inv-loop μ-loop
 same-length c = search needs
 
 returns : tie.Need-returns Inv-loop μ-loop
-returns c w = no-more (toZ w64 (ofZ w64 (c .before .before .before .read .result))) (c .if1 .taken)
+returns c w =
+    let read = c .before .before in
+    (read .before .before .before .loop .inv .1, no-more (toZ w64 (ofZ w64 (read .before .read .result))) (c .if1 .taken))
 
 -- the loop's turn in which a read was made, and the read of a piece that is counted
 abbrev looped : tie.After-buf Inv-loop μ-loop → tie.At-loop Inv-loop μ-loop
@@ -67,7 +69,7 @@ same-length-2 : tie.Need-same-length-2 Inv-loop μ-loop
 same-length-2 c = search needs
 
 returns-2 : tie.Need-returns-2 Inv-loop μ-loop
-returns-2 c w = tt
+returns-2 c w = (looped (readOf (c .before)) .loop .inv .1, tt)
 
 slice-reshare-prefix-feed-piece : tie.Need-slice-reshare-prefix-feed-piece Inv-loop μ-loop
 slice-reshare-prefix-feed-piece c = search needs
