@@ -41,7 +41,9 @@ same-length c =
 
 -- nothing is promised of the span where lines were not written
 returns : tie.Need-returns Inv-loop μ-loop
-returns c = (λ w. absurd (true≢false (sym w ∙ not-true _ (c .if1 .taken))), c .before .before .before .before .before .before .eat-some .ensures .1)
+returns c =
+    let ate = c .before .before .before .before .before .before in
+    (λ w. absurd (true≢false (sym w ∙ not-true _ (c .if1 .taken))), ate .eat-some .ensures .1)
 
 -- what a call did whose lines were written
 turn : (c : tie.After-eat-some Inv-loop μ-loop) → c .eat-some .result .written ≡ true

@@ -108,7 +108,9 @@ same-length-6 c =
     gone .hand-over .ensures .1 ∙ sym (start .pre .1)
 
 returns-3 : tie.Need-returns-3 Inv-loop μ-loop
-returns-3 c = (λ w. absurd (true≢false (sym w ∙ not-true _ (c .if4 .taken))), c .before .before .before .before .before .hand-over .ensures .1)
+returns-3 c =
+    let gone = c .before .before .before .before .before in
+    (λ w. absurd (true≢false (sym w ∙ not-true _ (c .if4 .taken))), gone .hand-over .ensures .1)
 
 -- where the read's bytes were counted, of a turn whose lines were written
 abbrev counted : tie.Else4 Inv-loop μ-loop → tie.After-count Inv-loop μ-loop
