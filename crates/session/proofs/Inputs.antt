@@ -26,9 +26,11 @@ calling-follows rooms zero before r host = refl
 calling-follows rooms (suc calls) before r [] = refl
 calling-follows rooms (suc calls) before r (b ∷ bs) =
     rw (noting-follows before (r .replies) (feedingOf (r .station) (b ∷ bs) (rooms calls) .bytes))
-    (calling-follows rooms calls before (called (rooms calls) r (b ∷ bs)) (drop (feedingOf (r .station) (b ∷ bs) (rooms calls) .fed .consumed) (b ∷ bs)))
+    (calling-follows rooms calls before (called (rooms calls) r (b ∷ bs))
+    (drop (feedingOf (r .station) (b ∷ bs) (rooms calls) .fed .consumed) (b ∷ bs)))
 
-serving-follows : (before : List (List ℕ)) (r : Served) (ps : List Piece) → serving (following before r) ps ≡ following before (serving r ps)
+serving-follows : (before : List (List ℕ)) (r : Served) (ps : List Piece)
+    → serving (following before r) ps ≡ following before (serving r ps)
 unfolding serving
 serving-follows before r [] = refl
 serving-follows before r (p ∷ ps) =

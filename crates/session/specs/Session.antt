@@ -3,9 +3,10 @@ use Prim.Native.Nat.{ℕ}
 use mathlib.Core.Path.{_≡_}
 use mathlib.Core.Bool.{true}
 use mathlib.Core.List.{List, [], _∷_, _++_}
+use lib.ListN.{length}
 use Rattle.station.specs.declared.Station.{Station}
 use Rattle.station.specs.Station.{valid, freshStation, sessionSerial}
-use Rattle.station.specs.Serving.{Served, unserved, Piece, serving}
+use Rattle.station.specs.Serving.{Served, unserved, Piece, serving, joined}
 
 -- a piece as it was read; each call has 64 bytes of room for its reply
 abbrev pub piece : List ℕ → Piece
@@ -33,8 +34,10 @@ abbrev pub pieces : List (List ℕ) → List Piece
 pieces [] = []
 pieces (p ∷ ps) = piece p ∷ pieces ps
 
--- "The session program feeds standard input to a fresh box with serial MT123456": a box that pieces of an input have left
-pub record Reached (s : Station) : Type 0 where
-  pub pieces : List (List ℕ)
-  pub box : s ≡ handedAll (freshStation sessionSerial) pieces .station
+-- "The session program feeds standard input to a fresh box with serial MT123456": the box that pieces of an input have left,
+-- so many bytes in all. The program counts what it reads, so a box that misses a piece is none.
+pub record ReadSoFar (s : Station) (read : ℕ) : Type 0 where
+  pub parts : List (List ℕ)
+  pub count : length (joined (pieces parts)) ≡ read
+  pub box : s ≡ handedAll (freshStation sessionSerial) parts .station
   pub valid : valid s ≡ true

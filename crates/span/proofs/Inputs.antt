@@ -13,7 +13,7 @@ use Rattle.spans.specs.Pieces.{room, Handed, nothingHanded, before, handing, ha
 use Rattle.spans.proofs.Going.{stopped-valid}
 use Rattle.spans.proofs.Eats.{eating-stopped}
 use Rattle.spans.proofs.Inputs.{report-is}
-use Rattle.span.specs.Reached.{LastWriteEndsTheReport, StopsWithTheReport}
+use Rattle.span.specs.SoFar.{LastWriteEndsTheReport, StopsWithTheReport}
 use Rattle.span.proofs.Reaching.{handed-on}
 
 -- ---- a span that has stopped
@@ -37,9 +37,9 @@ module _ (s : Span) (stopped : s .stopped ≡ true) where
 -- ---- the report
 
 pub last-ends : LastWriteEndsTheReport
-last-ends s lines r is =
+last-ends s read lines r is =
     ap (λ (l : List ℕ). handedAll freshSpan (r .pieces) .text ++ l) (is ∙ ap (λ (x : Span). finishingOf x room .bytes) (r .span))
-    ∙ report-is (r .pieces) (r .areBytes) (omega (arith, r .room))
+    ∙ report-is (r .pieces) (r .areBytes) (omega (arith, r .count, r .near))
 
 pub stopped-is : StopsWithTheReport
 stopped-is ps more stopped small near =

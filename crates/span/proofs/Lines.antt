@@ -25,14 +25,18 @@ stand text l array wrote count fits stored =
       bytes = sets-taken l 0 text (omega arith);
     })
 
-pub lines-of-piece : (s : Span) (piece l array : List ℕ) (r : Eaten) → length l ≡ 256 → r ≡ eatingOf s piece 256 .eaten → array ≡ sets l 0 (eatingOf s piece 256 .bytes)
+pub lines-of-piece : (s : Span) (piece l array : List ℕ) (r : Eaten) → length l ≡ 256 → r ≡ eatingOf s piece 256 .eaten
+    → array ≡ sets l 0 (eatingOf s piece 256 .bytes)
     → Lines (eatingOf s piece 256 .bytes) (r .wrote) array
 lines-of-piece s piece l array r long is stored =
     let wrote : r .wrote ≡ eatingOf s piece 256 .eaten .wrote = ap (λ (e : Eaten). e .wrote) is in
-    stand (eatingOf s piece 256 .bytes) l array (r .wrote) (wrote ∙ eating-within s piece 256 .counts) (omega (arith, eating-within s piece 256 .wrote)) stored
+    let within = eating-within s piece 256 in
+    stand (eatingOf s piece 256 .bytes) l array (r .wrote) (wrote ∙ within .counts) (omega (arith, within .wrote)) stored
 
-pub lines-of-end : (s : Span) (l array : List ℕ) (r : Told) → length l ≡ 256 → r ≡ finishingOf s 256 .told → array ≡ sets l 0 (finishingOf s 256 .bytes)
+pub lines-of-end : (s : Span) (l array : List ℕ) (r : Told) → length l ≡ 256 → r ≡ finishingOf s 256 .told
+    → array ≡ sets l 0 (finishingOf s 256 .bytes)
     → Lines (finishingOf s 256 .bytes) (r .wrote) array
 lines-of-end s l array r long is stored =
     let wrote : r .wrote ≡ finishingOf s 256 .told .wrote = ap (λ (t : Told). t .wrote) is in
-    stand (finishingOf s 256 .bytes) l array (r .wrote) (wrote ∙ finishing-within s 256 .counts) (omega (arith, finishing-within s 256 .wrote)) stored
+    let within = finishing-within s 256 in
+    stand (finishingOf s 256 .bytes) l array (r .wrote) (wrote ∙ within .counts) (omega (arith, within .wrote)) stored

@@ -14,8 +14,8 @@ use Rattle.spans.specs.declared.Eaten.{Eaten}
 use Rattle.spans.specs.Eating.{eatingOf}
 use Rattle.spans.specs.Pieces.{room, handing, handed}
 use Rattle.spans.proofs.Cuts.{OneCall, one-call}
-use Rattle.span.specs.Reached.{Reached}
-use Rattle.span.proofs.Reaching.{Goes, reached-goes}
+use Rattle.span.specs.SoFar.{SpanSoFar, Countable}
+use Rattle.span.proofs.Reaching.{Goes, so-far-goes}
 
 none-left : (calls : ℕ) (s : Span) (piece : List ℕ) → length piece ≡ 0 → handing calls s piece .span ≡ s
 unfolding handing
@@ -24,7 +24,8 @@ none-left (suc calls) s [] none = refl
 none-left (suc calls) s (b ∷ bs) none = absurd (omega arith)
 
 one-turn : (calls : ℕ) (s : Span) (piece : List ℕ) → 0 < calls → 0 < length piece
-    → handing calls s piece .span ≡ handing (calls - 1) (eatingOf s piece room .eaten .span) (drop (eatingOf s piece room .eaten .consumed) piece) .span
+    → handing calls s piece .span
+    ≡ handing (calls - 1) (eatingOf s piece room .eaten .span) (drop (eatingOf s piece room .eaten .consumed) piece) .span
 unfolding handing
 one-turn zero s piece some more = absurd (omega arith)
 one-turn (suc calls) s [] some more = absurd (omega arith)
@@ -42,13 +43,13 @@ pub record Onward (s : Span) (piece : List ℕ) (now : Span) (at : ℕ) : Type 0
   pub enough : length piece - at ≤ calls
   pub left : handing calls now (drop at piece) .span ≡ handed s piece .span
 
-pub begins : (s : Span) (piece : List ℕ) → Reached s (length piece) → Onward s piece s 0
-begins s piece r =
+pub begins : (s : Span) (read : ℕ) (piece : List ℕ) → SpanSoFar s read → Countable read piece → Onward s piece s 0
+begins s read piece r near =
     record {
       inside = omega arith;
-      used = _;
-      goes = reached-goes s (length piece) r;
-      near = omega (arith, r .room);
+      used = read;
+      goes = so-far-goes s read r;
+      near = omega (arith, near);
       calls = length piece;
       enough = omega arith;
       left = refl;

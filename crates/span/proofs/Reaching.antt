@@ -1,22 +1,25 @@
--- Spans that pieces of an input have left: a piece more leaves another, and so long as there is room each goes on.
+-- Spans that pieces of an input have left: a piece more leaves another, and so long as its bytes can be counted each goes on.
 -- Assumes nothing.
 use Prim.Native.Nat.{ℕ, suc, _+_, _-_, _≤_, _<_}
 use native.Mathlib.Nat.{zero-add}
 use native.Mathlib.Omega.{arith}
 use mathlib.Core.Path.{_≡_, refl, sym, ap, subst, _∙_}
 use mathlib.Core.Bool.{false}
+use mathlib.Core.Logic.{inl, inr}
 use mathlib.Core.List.{List, [], _∷_, _++_, append-nil, append-assoc}
-use lib.ListN.{length, getD, take, length-append, length-take}
-use lib.Seq.{length-take-le}
+use lib.IntN.{ℤ, pos}
+use lib.Signed.{ltZ}
+use lib.ListN.{length, getD, take, length-append}
 use Rattle.wire.specs.Lists.{allBytes, joined}
 use Rattle.wire.proofs.Lists.{bytes-append, bytes-take}
 use Rattle.hearing.specs.Hearing.{farthest}
+use Rattle.reads.proofs.Got.{whole}
 use Rattle.spans.specs.declared.Span.{Span}
 use Rattle.spans.specs.Eating.{freshSpan}
 use Rattle.spans.specs.Pieces.{Handed, before, handed, handedAll}
 use Rattle.spans.proofs.Going.{Going, fresh-going}
 use Rattle.spans.proofs.Cuts.{all-calls}
-use Rattle.span.specs.Reached.{Reached}
+use Rattle.span.specs.SoFar.{SpanSoFar, WantsNoMore, ReadToItsEnd}
 
 -- it has stopped, or it goes on after so many bytes of input
 abbrev pub Goes : Span → ℕ → Type 0
@@ -30,15 +33,19 @@ all-go (p ∷ ps) s used goes near =
     let long = length-append p (joined ps) in
     let one = all-calls (length p) s used p [] (omega arith) goes (omega (arith, long)) in
     let count : used + length p + length (joined ps) ≡ used + length (p ++ joined ps) = omega (arith, long) in
-    subst (Goes (handedAll (handed s p .span) ps .span)) count (all-go ps (handed s p .span) (used + length p) (one .goes) (omega (arith, long)))
+    let rest = all-go ps (handed s p .span) (used + length p) (one .goes) (omega (arith, long)) in
+    subst (Goes (handedAll (handed s p .span) ps .span)) count rest
 
-pub reached-goes : (s : Span) (more : ℕ) (r : Reached s more) → Goes s (length (joined (r .pieces)))
-reached-goes s more r =
-    rw (r .span, ← zero-add (length (joined (r .pieces)))) (all-go (r .pieces) freshSpan 0 (λ e. fresh-going) (omega (arith, r .room)))
+pub so-far-goes : (s : Span) (read : ℕ) → SpanSoFar s read → Goes s read
+so-far-goes s read r =
+    let near : 0 + length (joined (r .pieces)) ≤ farthest = omega (arith, r .count, r .near) in
+    let all : 0 + length (joined (r .pieces)) ≡ read = omega (arith, r .count) in
+    rw (r .span) (subst (Goes (handedAll freshSpan (r .pieces) .span)) all (all-go (r .pieces) freshSpan 0 (λ e. fresh-going) near))
 
 -- ---- more pieces
 
-pub handed-on : (ps more : List (List ℕ)) (s : Span) → handedAll s (ps ++ more) ≡ before (handedAll s ps .text) (handedAll (handedAll s ps .span) more)
+pub handed-on : (ps more : List (List ℕ)) (s : Span)
+    → handedAll s (ps ++ more) ≡ before (handedAll s ps .text) (handedAll (handedAll s ps .span) more)
 unfolding handedAll
 handed-on [] more s = refl
 handed-on (p ∷ ps) more s =
@@ -64,28 +71,27 @@ joined-last : (ps : List (List ℕ)) (p : List ℕ) → length (joined (ps ++ p 
 joined-last [] p = simp length-append (omega arith)
 joined-last (q ∷ qs) p = simp length-append (omega (arith, joined-last qs p))
 
--- a span that can count more bytes can count fewer
-pub reached-fewer : (s : Span) (more fewer : ℕ) → fewer ≤ more → Reached s more → Reached s fewer
-reached-fewer s more fewer less r = record { pieces = r .pieces; areBytes = r .areBytes; span = r .span; room = omega (arith, r .room) }
-
--- The first n bytes of a buffer are the piece.
-module _ (s : Span) (more n : ℕ) (buf : List ℕ) (r : Reached s more) (fits : n ≤ more) where
-  abbrev piece : List ℕ
-  piece = take n buf
-
-  pub room-for : Reached s (length piece)
-  room-for = reached-fewer s more (length piece) (simp length-take (omega arith)) r
-
-  pub reached-next : (after : Span) → n ≤ length buf → after ≡ handed s piece .span → ((k : ℕ) → getD buf k 0 < 256) → Reached after (more - n)
-  reached-next after there is small =
-      record {
-        pieces = r .pieces ++ piece ∷ [];
-        areBytes = subst allBytes (sym (joined-snoc (r .pieces) piece)) (bytes-append (joined (r .pieces)) piece (r .areBytes) (bytes-take n buf (all-bytes buf small)));
-        span = is ∙ ap (λ (x : Span). handed x piece .span) (r .span) ∙ sym (handed-last (r .pieces) freshSpan piece);
-        room = omega (arith, joined-last (r .pieces) piece, length-take-le n buf there, r .room);
-      }
-
 -- before the first piece
-pub reached-fresh : Reached freshSpan farthest
+pub none-read : SpanSoFar freshSpan 0
 unfolding handedAll
-reached-fresh = record { pieces = []; areBytes = tt; span = refl; room = omega arith }
+none-read = record { pieces = []; count = refl; near = omega arith; areBytes = tt; span = refl }
+
+-- a piece more, the first n bytes of a buffer, and they are counted
+pub piece-read : (s after : Span) (read n : ℕ) (buf : List ℕ) → SpanSoFar s read → length (take n buf) ≡ n → read + n ≤ farthest
+    → ((k : ℕ) → getD buf k 0 < 256) → after ≡ handed s (take n buf) .span
+    → SpanSoFar after (read + n)
+piece-read s after read n buf r long near small is =
+    let piece : List ℕ = take n buf in
+    let bytes = bytes-append (joined (r .pieces)) piece (r .areBytes) (bytes-take n buf (all-bytes buf small)) in
+    record {
+      pieces = r .pieces ++ piece ∷ [];
+      count = omega (arith, joined-last (r .pieces) piece, long, r .count);
+      near = near;
+      areBytes = subst allBytes (sym (joined-snoc (r .pieces) piece)) bytes;
+      span = is ∙ ap (λ (x : Span). handed x piece .span) (r .span) ∙ sym (handed-last (r .pieces) freshSpan piece);
+    }
+
+-- a read that met the end, and did not fail
+pub to-its-end : (s : Span) (got : ℤ) → WantsNoMore s got → ltZ got (pos 0) ≡ false → ReadToItsEnd s got
+to-its-end s got (inl stopped) h = inl stopped
+to-its-end s got (inr none) h = inr (whole got none h)

@@ -7,7 +7,12 @@ use Rattle.session.proofs.feed_once.Statement.{statement}
 use Rattle.session.proofs.feed_once.Tie as tie
 
 -- what feeding left in the array
-reply : (c : tie.After-feed) → Reply (c .before .before .before .args .s) (c .before .before .before .args .host .now) (c .feed .result) (c .feed .last .1 .1 .0)
+reply : (c : tie.After-feed)
+    → Reply
+    (c .before .before .before .args .s)
+    (c .before .before .before .args .host .now)
+    (c .feed .result)
+    (c .feed .last .1 .1 .0)
 reply c = reply-is _ _ _ _ _ refl (c .feed .ensures .0) (c .feed .ensures .1)
 
 slice-aggregate-feed : tie.Need-slice-aggregate-feed

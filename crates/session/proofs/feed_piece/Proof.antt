@@ -1,20 +1,23 @@
 -- Each turn is one call, which leaves fewer bytes; what is left leads where the whole piece leads.
 use Prim.Native.Nat.{_-_}
 use native.Mathlib.Omega.{arith}
+use mathlib.Core.Path.{_≡_, sym, _∙_}
+use mathlib.Core.Bool.{true, true≢false}
 use lib.ListN.{length}
+use borrow.Author.Tests.{not-true, not-false}
 use borrow.Author.Needs.{needs}
 use Rattle.session.proofs.Pieces.{Going, begins, ends, Turn, turns}
 use Rattle.session.proofs.feed_piece.Statement.{statement}
 use Rattle.session.proofs.feed_piece.Tie as tie
 
 abbrev Inv-loop : tie.InvT-loop
-Inv-loop piece now₀ at₀ now at = Going now₀ piece now at
+Inv-loop read got piece station₀ at₀ station at = Going station₀ piece station at
 
 abbrev μ-loop : tie.MeasureT-loop
-μ-loop piece now₀ at₀ now at = length piece - at
+μ-loop read got piece station₀ at₀ station at = length piece - at
 
 loop-holds : tie.Need-loop-holds Inv-loop μ-loop
-loop-holds c = begins _ _ (c .before .pre .valid)
+loop-holds c = begins _ _ (c .before .pre .0 .valid)
 
 sub-feed-once : tie.Need-sub-feed-once Inv-loop μ-loop
 sub-feed-once c = search needs
@@ -28,22 +31,37 @@ part-feed-once-end c = search needs
 feed-once-requires : tie.Need-feed-once-requires Inv-loop μ-loop
 feed-once-requires c κs = search needs
 
--- what the call did
-turn : (c : tie.After-feed-once Inv-loop μ-loop)
-    → Turn (c .before .before .before .before .before .args .s) (c .before .before .before .before .before .args .piece .now) (c .before .before .before .loop .at) (c .feed-once .result)
-turn c = turns _ _ _ _ (c .before .before .before .loop .inv) (c .before .before .loop-test .taken) _ (c .feed-once .ensures)
+-- nothing is promised where a reply was not written
+returns : tie.Need-returns Inv-loop μ-loop
+returns c w = absurd (true≢false (sym w ∙ not-true _ (c .if1 .taken)))
+
+-- what a call did whose reply was written
+turn : (c : tie.After-feed-once Inv-loop μ-loop) → c .feed-once .result .written ≡ true
+    → Turn
+    (c .before .before .before .before .before .args .s)
+    (c .before .before .before .before .before .args .piece .now)
+    (c .before .before .before .loop .at)
+    (c .feed-once .result .fed)
+turn c w = turns _ _ _ _ (c .before .before .before .loop .inv) (c .before .before .loop-test .taken) _ (c .feed-once .ensures w)
+
+-- where the call was made, of a turn whose reply was written
+abbrev fed : tie.After-struct-known2 Inv-loop μ-loop → tie.After-feed-once Inv-loop μ-loop
+fed c = c .before .before .before .before .before
+
+written : (c : tie.After-struct-known2 Inv-loop μ-loop) → fed c .feed-once .result .written ≡ true
+written c = not-false _ (c .before .if1 .left)
 
 add-at : tie.Need-add-at Inv-loop μ-loop
-add-at c = omega (arith, turn (c .before .before) .going .inside)
+add-at c = omega (arith, turn (fed c) (written c) .going .inside)
 
 loop-less : tie.Need-loop-less Inv-loop μ-loop
-loop-less c = omega (arith, turn (c .before .before) .some)
+loop-less c = omega (arith, turn (fed c) (written c) .some)
 
 loop-again : tie.Need-loop-again Inv-loop μ-loop
-loop-again c = turn (c .before .before) .going
+loop-again c = turn (fed c) (written c) .going
 
-returns : tie.Need-returns Inv-loop μ-loop
-returns c = ends _ _ _ _ (c .before .loop .inv) (c .loop-test .left)
+returns-2 : tie.Need-returns-2 Inv-loop μ-loop
+returns-2 c = λ w. ends _ _ _ _ (c .before .loop .inv) (c .loop-test .left)
 
 pub feed-piece-spec : {M : Type 1} → statement M
 feed-piece-spec =
@@ -56,7 +74,8 @@ feed-piece-spec =
     part-feed-once-start
     part-feed-once-end
     feed-once-requires
+    returns
     add-at
     loop-less
     loop-again
-    returns)
+    returns-2)

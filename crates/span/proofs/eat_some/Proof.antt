@@ -10,7 +10,10 @@ use Rattle.span.proofs.eat_some.Tie as tie
 
 -- what eating left in the lent bytes
 lines : (c : tie.After-eat)
-    → Lines (eatingOf (c .before .before .before .before .args .s) (c .before .before .before .before .args .piece .now) 256 .bytes) (c .eat .result .wrote) (c .eat .last .1 .1 .0)
+    → Lines
+    (eatingOf (c .before .before .before .before .args .s) (c .before .before .before .before .args .piece .now) 256 .bytes)
+    (c .eat .result .wrote)
+    (c .eat .last .1 .1 .0)
 lines c =
     let long = c .before .before .before .before .pre in
     lines-of-piece _ _ _ _ _ long (rw long at (c .eat .ensures .0)) (rw long at (c .eat .ensures .1))
@@ -34,7 +37,7 @@ returns : tie.Need-returns
 returns c =
     let eaten = c .before .before .before .before in
     let long = eaten .before .before .before .before .pre in
-    (rw long at (eaten .eat .ensures .0), ap length (eaten .eat .ensures .1) ∙ rw length-sets long)
+    (λ w. rw long at (eaten .eat .ensures .0), ap length (eaten .eat .ensures .1) ∙ rw length-sets long)
 
 pub eat-some-spec : {M : Type 1} → statement M
 eat-some-spec =

@@ -1,0 +1,57 @@
+#!/bin/sh
+# stored.sh: the long inputs that the gate runs session and span on, each over two full reads of the program and a short
+# third. What is made in one read is asked for in another, and a message or packet lies across each seam.
+#
+#     outside/stored.sh session > crates/session/stdin
+#     outside/stored.sh span > crates/span/stdin
+set -eu
+
+zeros() { head -c "$1" /dev/zero; }
+low() { printf "\\$(printf '%03o' $(($1 % 256)))"; }
+number() { low "$1" && low $(($1 / 256)); } # in two bytes, the least significant first
+
+# a data item of so many bytes, which the box takes and leaves unanswered; 8,194 stands as 0 in its header
+item() {
+    case $1 in 8194) number $((4 * 8192)) ;; *) number $((4 * 8192 + $1)) ;; esac
+    zeros $(($1 - 2))
+}
+items() { for i in $(seq "$1"); do item 8194; done; }
+
+# The box's buffer is 65,536 bytes. The first read sets frequency, gain, rate, clock and packet size; the second begins in the midst
+# of setting the gain to -10, and sets 7,050,000 Hz; the third begins in the midst of a data item, and asks for gain,
+# frequency, rate and serial.
+session() {
+    # 90 bytes: name, serial, version; 14,010,000 Hz and the range; gain -20 set and asked for; a rate, the clock, the
+    # acknowledgement and the data item that are unanswered, another rate, 20,000,000 Hz
+    printf '\004\040\001\000\004\040\002\000\004\040\005\000'
+    printf '\012\000\040\000\000\220\306\325\000\000\005\100\040\000\000'
+    printf '\006\000\070\000\000\354\005\040\070\000\000'
+    printf '\011\000\270\000\000\040\241\007\000\011\000\260\000\000\173\264\304\004\005\000\304\000\001'
+    printf '\003\140\002\007\300\022\064\126\170\232\011\000\270\000\000\240\206\001\000'
+    printf '\012\000\040\000\000\000\055\061\001\000'
+    items 7
+    item 8085                                    # 65,533 bytes so far
+    printf '\006\000\070'                        # set the gain,
+    printf '\000\000\366'                        # to -10
+    printf '\012\000\040\000\000\020\223\153\000\000' # 7,050,000 Hz
+    items 7
+    item 8175                                    # its last ten bytes come in the third read
+    printf '\005\040\070\000\000'                # the gain?
+    printf '\005\040\040\000\000'                # the frequency?
+    printf '\005\040\270\000\000'                # the rate?
+    printf '\004\040\002\000'                    # the serial?
+}
+
+# Span's buffer is 262,144 bytes. Large packets of 16 bits, D = 100: the 255th lies across the first seam, and the 510th and
+# last across the second, with six bytes in the third read. Capture 1 has 300 of them, with the numbers 7 and 8 lost;
+# capture 2 has 210, with the number 100 lost.
+packet() { printf '\004\204' && number "$1" && zeros 1024; }
+span() {
+    printf 'SPN\001\000\144\000\220\306\325\000\000\000\000'
+    for n in $(seq 0 6) $(seq 9 301) $(seq 0 99) $(seq 101 210); do packet "$n"; done
+}
+
+case ${1-} in
+session | span) "$1" ;;
+*) sed -n '2,6s/^# \{0,1\}//p' "$0" >&2; exit 2 ;;
+esac
