@@ -65,19 +65,19 @@ module _ (s : Settings) (m : Message) where
   unfolding replyOf
   unanswered-reply e = rw e refl
 
-  due-reply : 4 < length (m .held) → (codeOf s m ≡ 2 → ⊥)
-      → due (codeOf s m) (m .type) (itemIn m) (getD (m .held) 4 0) (settingsAfter s m) ≡ replyOf s m
+  due-reply : 4 < length (m .bytes) → (codeOf s m ≡ 2 → ⊥)
+      → due (codeOf s m) (m .type) (itemIn m) (getD (m .bytes) 4 0) (settingsAfter s m) ≡ replyOf s m
   due-reply h answered =
       let p = parameters m in
-      let some : 0 < length p = rw (length-drop 4 (m .held)) (omega arith) in
-      let first : getD p 0 0 ≡ getD (m .held) 4 0 = getD-drop 4 (m .held) 0 0 in
+      let some : 0 < length p = rw (length-drop 4 (m .bytes)) (omega arith) in
+      let first : getD p 0 0 ≡ getD (m .bytes) 4 0 = getD-drop 4 (m .bytes) 0 0 in
       let after = settingsAfter s m in
       let of-first = reply-first (itemIn m) (m .type) after p some ∙ ap (λ (b : ℕ). replyTo (row m) (m .type) after (b ∷ [])) first in
       rw (reply-by-code s m, ne-eqb (codeOf s m) 2 answered) (ap (λ (l : List ℕ). pick (eqb (codeOf s m) 1) l nak) (sym of-first))
 
   -- of a message that was judged
   pub judged-reply : (code item : ℕ) (after : Settings) → code ≡ codeOf s m → item ≡ itemIn m → after ≡ settingsAfter s m
-      → 4 < length (m .held) → (code ≡ 2 → ⊥) → due code (m .type) item (getD (m .held) 4 0) after ≡ replyOf s m
+      → 4 < length (m .bytes) → (code ≡ 2 → ⊥) → due code (m .type) item (getD (m .bytes) 4 0) after ≡ replyOf s m
   judged-reply code item after c i a long answered = rw (c, i, a) (due-reply long (λ e. answered (c ∙ e)))
 
 -- something is due

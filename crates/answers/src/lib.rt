@@ -22,10 +22,10 @@ pub struct Answered {
 // buffer that is shorter than the reply is 20: nothing is written, and the settings are those given.
 pub fn answer(s: Settings, kind: u8, size: u16, opening: &[u8; 10], reply: &mut [u8]) -> Answered
     ensures { λ r.
-        ⌜ (r ≡ answerOf s (record { type = kind; size = size; held = now (opening .entry) }) (length (now (reply .entry))) .answered)
+        ⌜ (r ≡ answerOf s (record { type = kind; size = size; bytes = now (opening .entry) }) (length (now (reply .entry))) .answered)
         × (now (reply .exit)
         ≡ sets (now (reply .entry)) 0
-        (answerOf s (record { type = kind; size = size; held = now (opening .entry) }) (length (now (reply .entry))) .bytes)) ⌝ }
+        (answerOf s (record { type = kind; size = size; bytes = now (opening .entry) }) (length (now (reply .entry))) .bytes)) ⌝ }
 {
     let judged = judging::judge(s, kind, size, opening);
     let code = judged.code;

@@ -6,7 +6,7 @@ use wire::codes;
 ghost use mathlib.Core.Path.{_≡_};
 ghost use lib.ListN.{length};
 ghost use lib.Seq.{sets};
-ghost use Rattle.station.specs.Station.{told};
+ghost use Rattle.station.specs.Station.{tuningSays};
 ghost use Rattle.boxdoor.specs.Feeding.{feedOver, repliedOver, freshOver, tuned, tunedOver};
 
 // A fresh box with a serial, in 108 bytes. Answers the code.
@@ -65,7 +65,7 @@ struct Tuned {
 }
 
 fn tuned_by(t: Tuning) -> Tuned
-    ensures { λ r. ⌜ record { code = r .code; word = r .word } ≡ tuned (told t) ⌝ }
+    ensures { λ r. ⌜ record { code = r .code; word = r .word } ≡ tuned (tuningSays t) ⌝ }
 {
     match t {
         Tuning::Word(w) => Tuned {

@@ -3,7 +3,7 @@
 use mathlib.Core.Path.{_≡_}
 use mathlib.Core.Bool.{true}
 use Rattle.wire.proofs.Laws.{one-of-two}
-use Rattle.packets.specs.Forms.{listed}
+use Rattle.packets.specs.Forms.{listedForm}
 use Rattle.packets.proofs.Forms.{form-for-listed}
 use Rattle.station.specs.declared.Station.{Station}
 use Rattle.station.specs.Station.{valid}
@@ -11,7 +11,7 @@ use Rattle.station.proofs.Kept.{ranges}
 use Rattle.station.proofs.Valid.{valid-settings}
 use Rattle.cutting.specs.Cutting.{formNow}
 
-pub valid-form : (s : Station) → valid s ≡ true → listed (formNow (s .settings)) ≡ true
+pub valid-form : (s : Station) → valid s ≡ true → listedForm (formNow (s .settings)) ≡ true
 valid-form s v =
     let r = ranges (s .settings) (valid-settings (s .settings) (s .store) v) in
     form-for-listed (s .settings .mode) (s .settings .size) (one-of-two (s .settings .mode) 0x80 0x00 (r .mode))

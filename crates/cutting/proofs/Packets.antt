@@ -13,7 +13,7 @@ use Rattle.wire.specs.Header.{headerOf, typeData}
 use Rattle.wire.proofs.Numbers.{number-bytes}
 use Rattle.wire.proofs.Headers.{header-below}
 use Rattle.packets.specs.declared.Form.{Form}
-use Rattle.packets.specs.Forms.{totalOf, listed, wholeOf}
+use Rattle.packets.specs.Forms.{totalOf, listedForm, wholeOf}
 use Rattle.packets.specs.Numbers.{numberAt, numberIn}
 use Rattle.packets.specs.Samples.{samplesBytes}
 use Rattle.packets.proofs.Forms.{whole-cut}
@@ -35,5 +35,5 @@ module _ (f : Form) (p : ℕ) (zs : List ℤ) where
   pub packet-number : numberIn (packetOf f p zs) ≡ numberAt p
   packet-number = number-bytes 2 (numberAt p) (omega (arith, number-le p))
 
-  pub packet-whole : listed f ≡ true → length zs ≡ 2 * f .pairs → wholeOf (packetOf f p zs) ≡ f
+  pub packet-whole : listedForm f ≡ true → length zs ≡ 2 * f .pairs → wholeOf (packetOf f p zs) ≡ f
   packet-whole l e = whole-cut f l (packetOf f p zs) packet-header (packet-length e)

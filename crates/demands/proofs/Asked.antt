@@ -14,7 +14,7 @@ use Rattle.wire.specs.Number.{bytes, field}
 use Rattle.wire.specs.Header.{nak, headerOf, typeIn, lengthIn, typeData}
 use Rattle.wire.proofs.Checks.{absent}
 use Rattle.wire.proofs.Headers.{length-header, type-header, header-below}
-use Rattle.framing.specs.Framing.{taken, between, announced, headerIn, totalOf}
+use Rattle.framing.specs.Framing.{callTakes, between, announced, headerIn, totalOf}
 use Rattle.framing.proofs.Leaving.{between-left}
 use Rattle.layouts.specs.declared.Layout.{Layout}
 use Rattle.layouts.specs.Layouts.{sizeOf, laid}
@@ -25,11 +25,11 @@ use Rattle.items.specs.Answer.{Message, codeOf, settingsAfter, replyOf}
 use Rattle.station.specs.Feeding.{Feeding, feedingOf, messageIn, answered}
 use Rattle.station.proofs.Valid.{valid-both}
 use Rattle.wishes.specs.declared.Wish.{Wish}
-use Rattle.wishes.specs.Wishes.{asking, layoutOf, messageOf, asMessage, allowed}
-use Rattle.wishes.specs.Writing.{writeChecks, writeCode, bytesWritten}
+use Rattle.wishes.specs.Wishes.{asking, layoutOf, messageOf, asMessage, allowedWish}
+use Rattle.wishes.specs.Writing.{wishChecks, wishCode, bytesWritten}
 use Rattle.wishes.proofs.Rows.{of-row, short-message}
 use Rattle.wishes.proofs.Understood.{code-of-wish, settings-of-wish}
-use Rattle.replies.specs.Reading.{toldOf}
+use Rattle.replies.specs.Reading.{replyReaderSays}
 use Rattle.replies.specs.Exactly.{Given}
 use Rattle.replies.proofs.Exactly.{box-reply-is-read, exactly}
 use Rattle.demands.specs.Shown.{resting, hasRoom}
@@ -66,7 +66,7 @@ few : (w : Wish) → sizeOf (layoutOf w) ≤ 64
 few w = omega (arith, short-message w)
 
 -- it is taken whole, in one call
-pub wish-taken : (w : Wish) → taken between (messageOf w) ≡ tookAll (messageOf w)
+pub wish-taken : (w : Wish) → callTakes between (messageOf w) ≡ tookAll (messageOf w)
 unfolding messageOf
 wish-taken w =
     one-message (laid (layoutOf w)) announces (omega arith) (omega (arith, length-laid (layoutOf w), few w))
@@ -83,7 +83,7 @@ unfolding messageOf
 wish-held w =
     let rest : List ℕ = replicate (64 - length (laid (layoutOf w))) 0 in
     rw (type-laid (layoutOf w) rest (kind-low w) (few w), size-laid (layoutOf w) rest (kind-low w) (few w))
-    (ap (λ (n : ℕ). record { type = asking w .kind; size = n; held = laid (layoutOf w) ++ rest }) (sym (length-laid (layoutOf w))))
+    (ap (λ (n : ℕ). record { type = asking w .kind; size = n; bytes = laid (layoutOf w) ++ rest }) (sym (length-laid (layoutOf w))))
 
 -- ---- the demand
 
@@ -112,22 +112,22 @@ roomy-wish : (w : Wish) (s : Settings) (room : ℕ) → inRange s ≡ true → 6
 roomy-wish w s room v enough =
     whole-fed (messageOf w) s room (wish-taken w) (valid-both s between v between-left) enough ∙ answered-wish w s
 
-understands : (w : Wish) (s : Settings) (room : ℕ) → allowed w ≡ true → inRange s ≡ true
+understands : (w : Wish) (s : Settings) (room : ℕ) → allowedWish w ≡ true → inRange s ≡ true
     → feedingOf (resting s) (messageOf w) room ≡ answering w s
     → Understands w (messageOf w) s room
 understands w s room e v fed =
     record {
       code = ap (λ (f : Feeding). f .fed .code) fed ∙ code-of-wish w s e;
       does = ap (λ (f : Feeding). f .fed .station) fed ∙ ap resting (settings-of-wish w s e);
-      says = ap (λ (f : Feeding). toldOf w (f .bytes)) fed ∙ box-reply-is-read w s e v;
+      says = ap (λ (f : Feeding). replyReaderSays w (f .bytes)) fed ∙ box-reply-is-read w s e v;
     }
 
 -- the writer accepts exactly what is allowed, and writes its message
-pub accepted : (w : Wish) (buffer : ℕ) → writeCode w buffer ≡ 1 → allowed w ≡ true
-unfolding writeCode
-accepted w buffer e = not-false (allowed w) (absent (writeChecks w buffer) 1 refl e .0)
+pub accepted : (w : Wish) (buffer : ℕ) → wishCode w buffer ≡ 1 → allowedWish w ≡ true
+unfolding wishCode
+accepted w buffer e = not-false (allowedWish w) (absent (wishChecks w buffer) 1 refl e .0)
 
-pub message-written : (w : Wish) (buffer : ℕ) → writeCode w buffer ≡ 1 → bytesWritten w buffer ≡ messageOf w
+pub message-written : (w : Wish) (buffer : ℕ) → wishCode w buffer ≡ 1 → bytesWritten w buffer ≡ messageOf w
 unfolding bytesWritten
 message-written w buffer e = rw e refl
 
@@ -137,13 +137,13 @@ what-is-asked-is-understood w buffer e s v room some =
     rw written (understands w s room (accepted w buffer e) v (fed-wish w s room v (rw written at some)))
 
 -- with 64 bytes of room
-pub understood-in-64 : (w : Wish) (s : Settings) → allowed w ≡ true → inRange s ≡ true → Understands w (messageOf w) s 64
+pub understood-in-64 : (w : Wish) (s : Settings) → allowedWish w ≡ true → inRange s ≡ true → Understands w (messageOf w) s 64
 understood-in-64 w s e v = understands w s 64 e v (roomy-wish w s 64 v (le-refl 64))
 
 pub reads-what-boxes-write : ReadsWhatBoxesWrite
 reads-what-boxes-write w buffer bs e = rw (message-written w buffer e) (λ h. into (exactly w bs ok .0 h), λ h. exactly w bs ok .1 (from h))
   where
-    ok : allowed w ≡ true
+    ok : allowedWish w ≡ true
     ok = accepted w buffer e
 
     bytes-of : (s : Settings) → inRange s ≡ true → feedingOf (resting s) (messageOf w) 64 .bytes ≡ replyOf s (asMessage w)

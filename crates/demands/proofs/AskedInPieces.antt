@@ -11,7 +11,7 @@ use lib.ListN.{length}
 use Rattle.wire.specs.Choice.{pick}
 use Rattle.wire.specs.Codes.{boxWrites}
 use Rattle.wire.specs.Header.{typeRange, typeReply, typeRangeReply}
-use Rattle.framing.specs.Framing.{between, taken}
+use Rattle.framing.specs.Framing.{between, callTakes}
 use Rattle.framing.proofs.Leaving.{between-left}
 use Rattle.layouts.proofs.Sizes.{least, length-laid}
 use Rattle.items.specs.declared.Settings.{Settings}
@@ -24,7 +24,7 @@ use Rattle.station.proofs.Valid.{valid-both}
 use Rattle.wishes.specs.declared.Wish.{Wish}
 use Rattle.wishes.specs.Wishes.{layoutOf, messageOf, notNow}
 use Rattle.wishes.proofs.Rows.{short-message}
-use Rattle.replies.specs.Reading.{Told, toldOf}
+use Rattle.replies.specs.Reading.{ReplyAnswer, replyReaderSays}
 use Rattle.demands.specs.Shown.{resting}
 use Rattle.demands.specs.Asked.{Understands}
 use Rattle.demands.specs.AskedInPieces.{UnderstandsInPieces, WhatIsAskedIsUnderstoodInPieces}
@@ -53,7 +53,7 @@ aloud false s m = go (eqb (m .type) typeRange)
     go true = omega arith
     go false = omega arith
 
-read-once : (w : Wish) (reply : List ℕ) → 1 ≤ length reply → map (toldOf w) (noting [] reply) ≡ toldOf w reply ∷ []
+read-once : (w : Wish) (reply : List ℕ) → 1 ≤ length reply → map (replyReaderSays w) (noting [] reply) ≡ replyReaderSays w reply ∷ []
 read-once w [] some = absurd (omega arith)
 read-once w (b ∷ bs) some = refl
 
@@ -64,9 +64,9 @@ understood-in-pieces w s pieces ranged enough same u =
     record {
       does = ap (λ (r : Served). r .station) served ∙ u .does;
       says =
-          ap (λ (r : Served). map (toldOf w) (r .replies)) served
+          ap (λ (r : Served). map (replyReaderSays w) (r .replies)) served
           ∙ read-once w (feedingOf (resting s) (messageOf w) 64 .bytes) some
-          ∙ ap (λ (t : Told). t ∷ []) (u .says);
+          ∙ ap (λ (t : ReplyAnswer). t ∷ []) (u .says);
     }
   where
     v : valid (resting s) ≡ true
@@ -81,7 +81,7 @@ understood-in-pieces w s pieces ranged enough same u =
     some : 1 ≤ length (feedingOf (resting s) (messageOf w) 64 .bytes)
     some =
         rw (feeds-by-the-table (resting s) (messageOf w) 64 .bytes, u .code)
-        (aloud (notNow w s) s (messageIn (taken between (messageOf w) .store)))
+        (aloud (notNow w s) s (messageIn (callTakes between (messageOf w) .store)))
 
 pub what-is-asked-is-understood-in-pieces : WhatIsAskedIsUnderstoodInPieces
 what-is-asked-is-understood-in-pieces w buffer e s ranged pieces enough same =

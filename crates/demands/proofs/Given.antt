@@ -18,19 +18,19 @@ use Rattle.items.specs.Answer.{Message, checks, codeOf}
 use Rattle.items.specs.declared.Settings.{Settings}
 use Rattle.items.specs.declared.FreshSettings.{FreshSettings}
 use Rattle.items.specs.Settings.{isSerial, freshOf}
-use Rattle.framing.specs.Framing.{taken, finished}
+use Rattle.framing.specs.Framing.{callTakes, finished}
 use Rattle.framing.proofs.Cutting.{finished-taking}
 use Rattle.station.specs.declared.Station.{Station}
 use Rattle.station.specs.Station.{valid, freshBox}
 use Rattle.station.proofs.Valid.{comes-below, feeding-by, feeding-waiting, feeding-answered, each-way}
 use Rattle.station.specs.Feeding.{Feeding, refused, comesTo, feedChecks, feedCode, feedingOf}
 use Rattle.cutting.specs.Cutting.{cutCode}
-use Rattle.reader.specs.Reading.{readCode, unpackCode}
-use Rattle.heads.specs.Head.{mark, version, headLength, allowed, headIn}
-use Rattle.heads.specs.Head.{writeCode as headCode}
+use Rattle.reader.specs.Reading.{readingCode, unpackCode}
+use Rattle.heads.specs.Head.{mark, version, headLength, allowedHead, headIn}
+use Rattle.heads.specs.Head.{headWriteCode}
 use Rattle.heads.proofs.Codes.{code-by}
-use Rattle.wishes.specs.Writing.{writeCode}
-use Rattle.replies.specs.Reading.{readCode as replyCode}
+use Rattle.wishes.specs.Writing.{wishCode}
+use Rattle.replies.specs.Reading.{replyCode}
 use Rattle.demands.specs.Shown.{finishedBy}
 use Rattle.demands.specs.Given.{EachExactly, HeadExactly, Answers, GivenExactly}
 
@@ -119,9 +119,9 @@ module _ (s : Station) (host : List ℕ) (room : ℕ) where
       subst (EachExactly (feedChecks s host room)) (sym code-is)
       (each (feedChecks s host room) n refl (rw (ne-eqb 21 n (λ e. omega arith), ne-eqb 20 n (λ e. omega arith)) refl))
 
-  waits-each : (code ≡ 0) ↔ ((valid s ≡ true) × (finished (taken (s .store) host .store) ≡ false))
+  waits-each : (code ≡ 0) ↔ ((valid s ≡ true) × (finished (callTakes (s .store) host .store) ≡ false))
   waits-each = (
-    each-way (λ f. f .fed .code ≡ 0 → (valid s ≡ true) × (finished (taken (s .store) host .store) ≡ false)) s host room
+    each-way (λ f. f .fed .code ≡ 0 → (valid s ≡ true) × (finished (callTakes (s .store) host .store) ≡ false)) s host room
         (λ v e. absurd (omega arith)) (λ v e. absurd (omega arith)) (λ v f e. (v, finished-taking 0 (s .store) host ∙ f))
         (λ v f enough e. absurd (not-waiting (s .settings) (finishedBy s host) e)),
     λ h. ap (λ (f : Feeding). f .fed .code) (feeding-waiting (s .settings) (s .store) host room (h .0) (h .1)),
@@ -163,17 +163,17 @@ module _ (s : Station) (host : List ℕ) (room : ℕ) where
 
 head-each : (s : List ℕ) → HeadExactly s
 head-each s =
-    by (ltb (length s) headLength) (eqb (field 0 3 s) (number mark)) (eqb (field 3 2 s) version) (allowed (headIn s)) refl refl refl refl
+    by (ltb (length s) headLength) (eqb (field 0 3 s) (number mark)) (eqb (field 3 2 s) version) (allowedHead (headIn s)) refl refl refl refl
   where
     -- none of the three ways to be no head
-    against : headLength ≤ length s → field 0 3 s ≡ number mark → (field 3 2 s ≡ version → allowed (headIn s) ≡ false → ⊥)
-        → (length s < headLength) ⊎ (field 0 3 s ≡ number mark → ⊥) ⊎ ((field 3 2 s ≡ version) × (allowed (headIn s) ≡ false)) → ⊥
+    against : headLength ≤ length s → field 0 3 s ≡ number mark → (field 3 2 s ≡ version → allowedHead (headIn s) ≡ false → ⊥)
+        → (length s < headLength) ⊎ (field 0 3 s ≡ number mark → ⊥) ⊎ ((field 3 2 s ≡ version) × (allowedHead (headIn s) ≡ false)) → ⊥
     against long marked fine (inl short) = omega arith
     against long marked fine (inr (inl other)) = other marked
     against long marked fine (inr (inr bad)) = fine (bad .0) (bad .1)
 
     by : (short marked one ok : Bool) → ltb (length s) headLength ≡ short → eqb (field 0 3 s) (number mark) ≡ marked
-        → eqb (field 3 2 s) version ≡ one → allowed (headIn s) ≡ ok → HeadExactly s
+        → eqb (field 3 2 s) version ≡ one → allowedHead (headIn s) ≡ ok → HeadExactly s
     by true marked one ok p q r t =
         let code = code-by s p q r t in
         let less = ltb-true (length s) headLength p in
@@ -212,7 +212,7 @@ head-each s =
         }
 
 pub codes-given-exactly : GivenExactly
-unfolding cutCode readCode unpackCode headCode writeCode replyCode
+unfolding cutCode readingCode unpackCode headWriteCode wishCode replyCode
 codes-given-exactly =
     record {
       fresh = fresh-each;

@@ -8,7 +8,7 @@ use mathlib.Core.Path.{_≡_, refl, ap, _∙_}
 use mathlib.Core.Bool.{true}
 use mathlib.Core.List.{List, [], _∷_}
 use lib.ListN.{length, drop, drop-of-length-le}
-use Rattle.framing.specs.Framing.{between, taken}
+use Rattle.framing.specs.Framing.{between, callTakes}
 use Rattle.items.specs.declared.Settings.{Settings}
 use Rattle.station.specs.Station.{valid}
 use Rattle.station.specs.Feeding.{Feeding, feedingOf}
@@ -38,11 +38,11 @@ called-once r (b ∷ bs) some all =
 
 module _ (s : Settings) (v : valid (resting s) ≡ true) where
   -- a whole message is consumed by the call that answers it
-  message-consumed : (m : List ℕ) → taken between m ≡ tookAll m → feedingOf (resting s) m 64 .fed .consumed ≡ length m
+  message-consumed : (m : List ℕ) → callTakes between m ≡ tookAll m → feedingOf (resting s) m 64 .fed .consumed ≡ length m
   message-consumed m took = ap (λ (f : Feeding). f .fed .consumed) (whole-fed m s 64 took v (le-refl 64))
 
   -- so that call is all of its piece's serving
-  pub message-served : (m : List ℕ) (replies : List (List ℕ)) (rest : List Piece) → taken between m ≡ tookAll m → 1 ≤ length m
+  pub message-served : (m : List ℕ) (replies : List (List ℕ)) (rest : List Piece) → callTakes between m ≡ tookAll m → 1 ≤ length m
       → serving (record { station = resting s; replies = replies }) (whole m ∷ rest)
       ≡ serving (called 64 (record { station = resting s; replies = replies }) m) rest
   unfolding serving

@@ -16,7 +16,7 @@ use Rattle.wire.specs.Header.{lengthIn, typeIn}
 use Rattle.wire.proofs.Laws.{never}
 use Rattle.framing.proofs.Cutting.{finished-taking, taking-on}
 use Rattle.framing.specs.declared.Store.{Store}
-use Rattle.framing.specs.Framing.{Taking, taking, taken, pushed, finished, announced, totalOf, between}
+use Rattle.framing.specs.Framing.{Taking, taking, callTakes, pushed, finished, announced, totalOf, between}
 use Rattle.items.specs.declared.Settings.{Settings}
 use Rattle.station.specs.Station.{valid}
 use Rattle.station.specs.Feeding.{messageIn, answered, feedingOf}
@@ -85,19 +85,19 @@ taking-rest p (b ∷ q) e two most =
     ∙ ap tookAll same
 
 -- One whole message, in one call.
-pub one-message : (m : List ℕ) → announced m ≡ length m → 2 ≤ length m → length m ≤ 64 → taken between m ≡ tookAll m
+pub one-message : (m : List ℕ) → announced m ≡ length m → 2 ≤ length m → length m ≤ 64 → callTakes between m ≡ tookAll m
 one-message m e two most = taking-rest [] m e two most
 
 -- and a valid box answers it
-pub whole-fed : (m : List ℕ) (s : Settings) (room : ℕ) → taken between m ≡ tookAll m → valid (resting s) ≡ true → 64 ≤ room
+pub whole-fed : (m : List ℕ) (s : Settings) (room : ℕ) → callTakes between m ≡ tookAll m → valid (resting s) ≡ true → 64 ≤ room
     → feedingOf (resting s) m room ≡ answered s (tookAll m)
 whole-fed m s room took v enough =
     feeding-answered s between m room v (finished-taking 0 between m ∙ ap (λ (t : Taking). t .finished) took)
-    (le-trans (reply-short s (messageIn (taken between m .store)) (valid-settings s between v)) enough)
+    (le-trans (reply-short s (messageIn (callTakes between m .store)) (valid-settings s between v)) enough)
     ∙ ap (answered s) took
 
 -- so does every call that is not refused for want of room
-pub whole-answered : (m : List ℕ) (s : Settings) (room : ℕ) → taken between m ≡ tookAll m → valid (resting s) ≡ true
+pub whole-answered : (m : List ℕ) (s : Settings) (room : ℕ) → callTakes between m ≡ tookAll m → valid (resting s) ≡ true
     → hasRoom (feedingOf (resting s) m room) → feedingOf (resting s) m room ≡ answered s (tookAll m)
 whole-answered m s room took v some =
     each-way (λ f. hasRoom f → f ≡ answered s (tookAll m)) (resting s) m room (λ w h. never (sym w ∙ v)) (λ w h. absurd (h refl))

@@ -8,18 +8,18 @@ use borrow.Author.Tests.{le-ltb}
 use lib.IntN.{ℤ}
 use lib.ListN.{length}
 use Rattle.packets.specs.declared.Form.{Form}
-use Rattle.packets.specs.Forms.{listed, wholeOf}
+use Rattle.packets.specs.Forms.{listedForm, wholeOf}
 use Rattle.packets.specs.Samples.{allSamples, narrowed}
 use Rattle.samples.proofs.RoundTrip.{round-trip-form}
 use Rattle.cutting.specs.Cutting.{Cutting, packetOf, formNow, cuttingOf}
 use Rattle.cutting.proofs.Formed.{valid-form}
 use Rattle.cutting.proofs.Packets.{packet-whole}
 use Rattle.cutting.proofs.Ways.{cut-is}
-use Rattle.reader.specs.Reading.{unpackCode, unpackedOf}
+use Rattle.reader.specs.Reading.{unpackCode, numbersWritten}
 use Rattle.demands.specs.Packed.{WhatIsPackedIsUnpacked}
 
 module _ (f : Form) (position : ℕ) (samples : List ℤ) (out : ℕ)
-    (l : listed f ≡ true) (n : length samples ≡ 2 * f .pairs) (a : allSamples samples ≡ true) (enough : length samples ≤ out) where
+    (l : listedForm f ≡ true) (n : length samples ≡ 2 * f .pairs) (a : allSamples samples ≡ true) (enough : length samples ≤ out) where
   whole : wholeOf (packetOf f position samples) ≡ f
   whole = packet-whole f position samples l n
 
@@ -27,8 +27,8 @@ module _ (f : Form) (position : ℕ) (samples : List ℤ) (out : ℕ)
   unfolding unpackCode
   code = rw (whole, l, le-ltb out (2 * f .pairs) (rw n at enough))
 
-  numbers : unpackedOf (packetOf f position samples) out ≡ map (narrowed (f .bits)) samples
-  unfolding unpackedOf
+  numbers : numbersWritten (packetOf f position samples) out ≡ map (narrowed (f .bits)) samples
+  unfolding numbersWritten
   numbers = rw (code, whole, ← n) (round-trip-form f l samples a)
 
 pub what-is-packed-is-unpacked : WhatIsPackedIsUnpacked
@@ -40,5 +40,5 @@ what-is-packed-is-unpacked s samples room out e enough =
     let cut : cuttingOf s samples room .bytes ≡ packetOf f at samples = ap (λ (c : Cutting). c .bytes) (made .1) in
     record {
       code = ap (λ (p : List ℕ). unpackCode p out) cut ∙ code f at samples out l (made .0 .enough) (made .0 .fits) enough;
-      numbers = ap (λ (p : List ℕ). unpackedOf p out) cut ∙ numbers f at samples out l (made .0 .enough) (made .0 .fits) enough;
+      numbers = ap (λ (p : List ℕ). numbersWritten p out) cut ∙ numbers f at samples out l (made .0 .enough) (made .0 .fits) enough;
     }

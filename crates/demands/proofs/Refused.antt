@@ -12,7 +12,7 @@ use lib.Dec.{eqb, lit≤}
 use lib.IntN.{ℤ}
 use Rattle.wire.specs.Header.{nak}
 use Rattle.wire.proofs.Laws.{pick-keeps}
-use Rattle.framing.specs.Framing.{taking, taken, finished, announced, couldBeLeft}
+use Rattle.framing.specs.Framing.{taking, callTakes, finished, announced, couldBeLeft}
 use Rattle.items.specs.Settings.{inRange}
 use Rattle.station.specs.Station.{valid, freshStation}
 use Rattle.framing.proofs.Cutting.{finished-taking, count-all}
@@ -21,7 +21,7 @@ use Rattle.items.specs.Answer.{Message, codeOf, settingsAfter, replyOf}
 use Rattle.items.proofs.Judging.{reply-by-code}
 use Rattle.reader.specs.declared.Reader.{Reader}
 use Rattle.packets.specs.Numbers.{numberIn}
-use Rattle.reader.specs.Reading.{positionAfter, readCode, readingOf, heardAt, unheard}
+use Rattle.reader.specs.Reading.{positionAfter, readingCode, readingOf, heardAt, unheard}
 use Rattle.station.specs.declared.Station.{Station}
 use Rattle.station.specs.Feeding.{messageIn, feedingOf}
 use Rattle.station.proofs.Kept.{code-below, refused-leaves}
@@ -45,14 +45,14 @@ nak-and-nothing-else s host room =
     each-way (NakOnly s host) s host room (λ v low high. absurd (omega arith)) (λ v low high. absurd (omega arith))
     (λ v f low high. absurd (omega arith))
     (λ v f enough low high.
-    let m = messageIn (taken (s .store) host .store) in
+    let m = messageIn (callTakes (s .store) host .store) in
     rw (refused-reply (s .settings) m low, refused-kept (s .settings) m low) (refl, refl, refl, refl))
 
 pub fed-refused : (s : Station) (host : List ℕ) (room : ℕ) → FeedsNothing s (feedingOf s host room)
 fed-refused s host room =
     each-way (FeedsNothing s) s host room (λ v r. (refl, refl, refl, refl)) (λ v r. (refl, refl, refl, refl))
     (λ v f r. absurd (omega arith))
-    (λ v f enough r. absurd (omega (arith, code-below (s .settings) (messageIn (taken (s .store) host .store)))))
+    (λ v f enough r. absurd (omega (arith, code-below (s .settings) (messageIn (callTakes (s .store) host .store)))))
 
 -- ---- cutting and reading
 
@@ -62,15 +62,15 @@ cut-refused s samples room = each-cut (CutsNothing s) s samples room (λ e r. ab
 pub read-refused : (r : Reader) (packet : List ℕ) → HearsNothing r (readingOf r packet)
 unfolding readingOf
 read-refused r packet =
-    pick-keeps (HearsNothing r) (eqb (readCode r packet) 1)
-    (heardAt (positionAfter r (numberIn packet)) (wholeOf packet)) (unheard (readCode r packet) r)
+    pick-keeps (HearsNothing r) (eqb (readingCode r packet) 1)
+    (heardAt (positionAfter r (numberIn packet)) (wholeOf packet)) (unheard (readingCode r packet) r)
     (λ e h. absurd (omega arith)) (λ e h. refl)
 
 -- ---- a message that is not fully taken
 
 pub waits-for-the-end : WaitsForTheEnd feedingOf
 waits-for-the-end s host room v less =
-    let t = taken (s .store) host in
+    let t = callTakes (s .store) host in
     let open-still : finished (t .store) ≡ false = rw (lt-leb (announced (t .store .held)) (t .store .taken) less, and-false) refl in
     let is = feeding-waiting (s .settings) (s .store) host room v open-still in
     rw is (refl, count-all 0 (s .store) host (sym (finished-taking 0 (s .store) host) ∙ open-still) ∙ zero-add (length host), refl)

@@ -99,7 +99,7 @@ byte-shown at p room h =
 -- what an item shows after a set that was allowed
 abbrev Shows : ℕ → Item → Type 0
 Shows code i =
-    (size : ℕ) → isTotal (i .set) size ≡ true → (s : Settings) (p : List ℕ) → size ≤ 4 + length p → allBytes p → i .rule .settable p ≡ true
+    (size : ℕ) → isTotal (i .onSet) size ≡ true → (s : Settings) (p : List ℕ) → size ≤ 4 + length p → allBytes p → i .rule .settable p ≡ true
     → s .running && i .rule .locked s p ≡ false → (q : List ℕ) → i .rule .value (i .rule .stored s p) q ≡ shownBy code s p
 
 -- a run that is accepted while running has the mode that the box has
@@ -183,7 +183,7 @@ pub has-value-set : (s : Settings) (m : Message) → codeOf s m ≡ 1 → m .typ
 has-value-set s m h kind held q =
     rw (stores s m h kind)
     (found-at Shows (λ code size long. never long) show (itemIn m) (m .size) (rw kind at (has-length s m h)) s
-    (parameters m) (rw length-drop (omega (arith, held .whole))) (bytes-drop 4 (m .held) (held .areBytes)) (rw kind at (has-value s m h))
+    (parameters m) (rw length-drop (omega (arith, held .whole))) (bytes-drop 4 (m .bytes) (held .areBytes)) (rw kind at (has-value s m h))
     (rw kind at (is-free s m h)) q)
 
 -- "is echoed": the reply to an accepted set has the value set

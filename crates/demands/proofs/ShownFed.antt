@@ -15,13 +15,13 @@ use Rattle.wire.specs.Choice.{pick}
 use Rattle.wire.specs.Number.{number}
 use Rattle.wire.specs.Header.{lengthIn, typeIn, typeSet, typeRequest}
 use Rattle.wire.proofs.Laws.{and-rest, never}
-use Rattle.framing.specs.Framing.{between, taking, taken, couldBeLeft}
+use Rattle.framing.specs.Framing.{between, taking, callTakes, couldBeLeft}
 use Rattle.wire.proofs.Lists.{bytes-append, bytes-zero}
 use Rattle.items.proofs.Judging.{passed}
 use Rattle.items.proofs.Rows.{found-at}
 use Rattle.items.specs.declared.Settings.{Settings}
 use Rattle.items.specs.Settings.{inRange, freshOf, withCount}
-use Rattle.items.specs.Items.{status, idle, runByte, rowOf, listed}
+use Rattle.items.specs.Items.{status, idle, runByte, rowOf, listedItem}
 use Rattle.items.specs.Answer.{Message, itemIn, row, parameters, codeOf, settingsAfter, replyOf}
 use Rattle.station.specs.declared.Station.{Station}
 use Rattle.station.specs.Station.{valid}
@@ -77,12 +77,12 @@ module _ (m : List ℕ) (one : OneMessage m) (s : Settings) (low : messageOf m .
         areBytes = bytes-append m (replicate (64 - length m) 0) (one .areBytes) (bytes-zero (64 - length m));
       }
 
-  pub took : taken between m ≡ tookAll m
+  pub took : callTakes between m ≡ tookAll m
   took = one-message m (one .announces) least most
 
   is-message : messageIn (tookAll m .store) ≡ messageOf m
   is-message =
-      ap (λ (bs : List ℕ). record { type = typeIn (number bs); size = lengthIn (number bs); held = m ++ replicate (64 - length m) 0 })
+      ap (λ (bs : List ℕ). record { type = typeIn (number bs); size = lengthIn (number bs); bytes = m ++ replicate (64 - length m) 0 })
       (take-append-le 2 m (replicate (64 - length m) 0) least)
 
   -- a valid box that has room answers it
@@ -187,9 +187,9 @@ fed-set-shows s m room q later v enough more one kind h two asked same answered 
 -- what a valid box that has room writes
 bytes-fed : (s : Settings) (host : List ℕ) (room : ℕ) → valid (resting s) ≡ true → hasRoom (feedingOf (resting s) host room)
     → feedingOf (resting s) host room .bytes
-    ≡ pick (taken between host .finished) (replyOf s (messageIn (taken between host .store))) []
+    ≡ pick (callTakes between host .finished) (replyOf s (messageIn (callTakes between host .store))) []
 bytes-fed s host room v =
-    each-way (λ f. hasRoom f → f .bytes ≡ pick (taken between host .finished) (replyOf s (messageIn (taken between host .store))) [])
+    each-way (λ f. hasRoom f → f .bytes ≡ pick (callTakes between host .finished) (replyOf s (messageIn (callTakes between host .store))) [])
     (resting s) host room (λ w some. never (sym w ∙ v)) (λ w some. absurd (some refl))
     (λ w waits some. rw waits refl) (λ w ends fits some. rw ends refl)
 
@@ -197,7 +197,7 @@ pub fed-same-answer : FedSameAnswer
 fed-same-answer s t q room later v enough more asked calm =
     let k = kept (itemIn (finishedBy (resting s) q)) (resting s) (resting t) calm in
     bytes-fed t q later (k .stays v) more
-    ∙ ap (λ (reply : List ℕ). pick (taken between q .finished) reply []) (answered-alike s t (finishedBy (resting s) q) asked (k .same))
+    ∙ ap (λ (reply : List ℕ). pick (callTakes between q .finished) reply []) (answered-alike s t (finishedBy (resting s) q) asked (k .same))
     ∙ sym (bytes-fed s q room v enough)
 
 -- ---- two boxes that are none of ours
@@ -215,7 +215,7 @@ ask = 0x05 ∷ 0x20 ∷ 0x20 ∷ 0x00 ∷ 0x00 ∷ []
 -- a box that shows its sets answers both with the bytes of the set
 tuned : (feed : Station → List ℕ → ℕ → Feeding) → ShowsSets feed
     → repliesWith (feed (resting start) tune 64) tune × repliesWith (feed (feed (resting start) tune 64 .fed .station) ask 64) tune
-unfolding feedingOf valid inRange couldBeLeft taking listed rowOf codeOf replyOf settingsAfter shownBy
+unfolding feedingOf valid inRange couldBeLeft taking listedItem rowOf codeOf replyOf settingsAfter shownBy
 tuned feed shows =
     shows start tune 64 ask 64 refl not-twenty not-twenty
     (record { areBytes = search lit≤ depth 20; announces = refl }) refl refl
@@ -232,7 +232,7 @@ naks-all-fails code shows =
 
 -- the second shows the frequency set, and not that of the fresh box
 pub echoes-only-fails : ShowsSets echoesOnly → ⊥
-unfolding feedingOf valid inRange couldBeLeft taking listed rowOf codeOf replyOf settingsAfter
+unfolding feedingOf valid inRange couldBeLeft taking listedItem rowOf codeOf replyOf settingsAfter
 echoes-only-fails shows =
     let wrong : _≡_ {A = ℕ} 0x80 0x90 = ap (λ (bs : List ℕ). getD bs 5 0) (tuned echoesOnly shows .1 .1) in
     omega arith

@@ -7,7 +7,7 @@ use mathlib.Core.Path.{_≡_, ap, _∙_}
 use mathlib.Core.Bool.{true}
 use mathlib.Core.List.{List, [], _∷_, append-nil}
 use lib.ListN.{length}
-use Rattle.framing.specs.Framing.{between, taken}
+use Rattle.framing.specs.Framing.{between, callTakes}
 use Rattle.items.specs.declared.Settings.{Settings}
 use Rattle.items.specs.Answer.{settingsAfter}
 use Rattle.station.specs.declared.Station.{Station}
@@ -30,7 +30,7 @@ roomy-call s host v some e =
 
 -- two messages, each in one call
 two-served : (s after : Settings) (m q : List ℕ) → valid (resting s) ≡ true → feedingOf (resting s) m 64 .fed .station ≡ resting after
-    → taken between m ≡ tookAll m → 2 ≤ length m → taken between q ≡ tookAll q → 2 ≤ length q
+    → callTakes between m ≡ tookAll m → 2 ≤ length m → callTakes between q ≡ tookAll q → 2 ≤ length q
     → serving (unserved (resting s)) (whole m ∷ whole q ∷ []) ≡ called 64 (called 64 (unserved (resting s)) m) q
 unfolding serving
 two-served s after m q v is took-m long-m took-q long-q =

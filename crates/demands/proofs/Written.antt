@@ -9,7 +9,7 @@ use Rattle.wire.specs.Codes.{boxWrites}
 use Rattle.wire.specs.Codes as Code
 use Rattle.wire.proofs.Checks.{given-has}
 use Rattle.items.specs.Answer.{Message, replyDue, replyOf}
-use Rattle.framing.specs.Framing.{taken}
+use Rattle.framing.specs.Framing.{callTakes}
 use Rattle.station.specs.declared.Station.{Station}
 use Rattle.station.specs.Feeding.{Feeding, messageIn}
 use Rattle.station.proofs.Valid.{each-way}
@@ -30,7 +30,7 @@ feeds-by-the-table s host room =
     }
   where
     m : Message
-    m = messageIn (taken (s .store) host .store)
+    m = messageIn (callTakes (s .store) host .store)
 
 -- a refused cut writes nothing, as the table has it beside each of its codes
 refused-cut : (s : Station) (samples : List ℤ) (room : ℕ) (packet : List ℕ) → (cutCode s samples room ≡ 1 → ⊥)

@@ -12,8 +12,8 @@ use Rattle.items.specs.Settings.{inRange}
 use Rattle.station.specs.Feeding.{feedingOf}
 use Rattle.wishes.specs.declared.Wish.{Wish}
 use Rattle.wishes.specs.Wishes.{granted, notNow}
-use Rattle.wishes.specs.Writing.{writeCode, bytesWritten}
-use Rattle.replies.specs.Reading.{readCode, told, toldOf}
+use Rattle.wishes.specs.Writing.{wishCode, bytesWritten}
+use Rattle.replies.specs.Reading.{replyCode, replySays, replyReaderSays}
 use Rattle.replies.specs.Saying.{saidBy}
 use Rattle.demands.specs.Shown.{resting, hasRoom}
 
@@ -23,12 +23,12 @@ use Rattle.demands.specs.Shown.{resting, hasRoom}
 pub record Understands (w : Wish) (message : List ℕ) (s : Settings) (room : ℕ) : Type 0 where
   pub code : feedingOf (resting s) message room .fed .code ≡ pick (notNow w s) Code.notWhileRunning Code.done
   pub does : feedingOf (resting s) message room .fed .station ≡ resting (pick (notNow w s) s (granted w s))
-  pub says : toldOf w (feedingOf (resting s) message room .bytes) ≡ told (saidBy w s)
+  pub says : replyReaderSays w (feedingOf (resting s) message room .bytes) ≡ replySays (saidBy w s)
 
 -- every wish that the writer accepts, and what it writes, whatever the buffer
 abbrev pub WhatIsAskedIsUnderstood : Type 0
 WhatIsAskedIsUnderstood =
-    (w : Wish) (buffer : ℕ) → writeCode w buffer ≡ Code.done
+    (w : Wish) (buffer : ℕ) → wishCode w buffer ≡ Code.done
     → (s : Settings) → inRange s ≡ true
     → (room : ℕ) → hasRoom (feedingOf (resting s) (bytesWritten w buffer) room)
     → Understands w (bytesWritten w buffer) s room
@@ -43,5 +43,5 @@ pub record Writes (message bs : List ℕ) : Type 0 where
 -- what the writer wrote
 abbrev pub ReadsWhatBoxesWrite : Type 0
 ReadsWhatBoxesWrite =
-    (w : Wish) (buffer : ℕ) (bs : List ℕ) → writeCode w buffer ≡ Code.done
-    → (readCode w bs ≡ Code.done) ↔ ((bs ≡ nak) ⊎ Writes (bytesWritten w buffer) bs)
+    (w : Wish) (buffer : ℕ) (bs : List ℕ) → wishCode w buffer ≡ Code.done
+    → (replyCode w bs ≡ Code.done) ↔ ((bs ≡ nak) ⊎ Writes (bytesWritten w buffer) bs)

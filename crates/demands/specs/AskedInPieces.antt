@@ -11,8 +11,8 @@ use Rattle.items.specs.Settings.{inRange}
 use Rattle.station.specs.Serving.{Piece, joined, roomy, unserved, serving}
 use Rattle.wishes.specs.declared.Wish.{Wish}
 use Rattle.wishes.specs.Wishes.{granted, notNow}
-use Rattle.wishes.specs.Writing.{writeCode, bytesWritten}
-use Rattle.replies.specs.Reading.{told, toldOf}
+use Rattle.wishes.specs.Writing.{wishCode, bytesWritten}
+use Rattle.replies.specs.Reading.{replySays, replyReaderSays}
 use Rattle.replies.specs.Saying.{saidBy}
 use Rattle.demands.specs.Shown.{resting}
 
@@ -21,12 +21,12 @@ use Rattle.demands.specs.Shown.{resting}
 -- one call).
 pub record UnderstandsInPieces (w : Wish) (pieces : List Piece) (s : Settings) : Type 0 where
   pub does : serving (unserved (resting s)) pieces .station ≡ resting (pick (notNow w s) s (granted w s))
-  pub says : map (toldOf w) (serving (unserved (resting s)) pieces .replies) ≡ told (saidBy w s) ∷ []
+  pub says : map (replyReaderSays w) (serving (unserved (resting s)) pieces .replies) ≡ replySays (saidBy w s) ∷ []
 
 -- every wish that the writer accepts, and any pieces of what it writes, whatever the buffer
 abbrev pub WhatIsAskedIsUnderstoodInPieces : Type 0
 WhatIsAskedIsUnderstoodInPieces =
-    (w : Wish) (buffer : ℕ) → writeCode w buffer ≡ Code.done
+    (w : Wish) (buffer : ℕ) → wishCode w buffer ≡ Code.done
     → (s : Settings) → inRange s ≡ true
     → (pieces : List Piece) → roomy pieces → joined pieces ≡ bytesWritten w buffer
     → UnderstandsInPieces w pieces s

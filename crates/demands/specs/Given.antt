@@ -14,17 +14,17 @@ use Rattle.items.specs.Settings.{isSerial}
 use Rattle.items.specs.Answer.{Message, checks, codeOf, replyOf}
 use Rattle.station.specs.declared.Station.{Station}
 use Rattle.station.specs.Station.{valid, freshBox}
-use Rattle.framing.specs.Framing.{taken, finished}
+use Rattle.framing.specs.Framing.{callTakes, finished}
 use Rattle.station.specs.Feeding.{feedChecks, feedingOf}
 use Rattle.cutting.specs.Cutting.{cutChecks, cutCode}
 use Rattle.reader.specs.declared.Reader.{Reader}
-use Rattle.reader.specs.Reading.{readChecks, readCode, unpackChecks, unpackCode}
+use Rattle.reader.specs.Reading.{readingChecks, readingCode, unpackChecks, unpackCode}
 use Rattle.heads.specs.declared.Head.{Head}
-use Rattle.heads.specs.Head.{mark, version, headLength, allowed, headIn}
-use Rattle.heads.specs.Head.{writeChecks as headChecks, writeCode as headCode, readCode as headReadCode}
+use Rattle.heads.specs.Head.{mark, version, headLength, allowedHead, headIn}
+use Rattle.heads.specs.Head.{headWriteChecks, headWriteCode, headReadCode}
 use Rattle.wishes.specs.declared.Wish.{Wish}
-use Rattle.wishes.specs.Writing.{writeChecks, writeCode}
-use Rattle.replies.specs.Reading.{readChecks as replyChecks, readCode as replyCode}
+use Rattle.wishes.specs.Writing.{wishChecks, wishCode}
+use Rattle.replies.specs.Reading.{replyChecks, replyCode}
 use Rattle.demands.specs.Shown.{finishedBy}
 
 -- of each check of the list: its code is given exactly where it holds and none before it does
@@ -38,7 +38,7 @@ EachExactly cs given =
 pub record HeadExactly (s : List ℕ) : Type 0 where
   pub notAHead :
       (headReadCode s ≡ Code.notAHead)
-      ↔ ((length s < headLength) ⊎ (field 0 3 s ≡ number mark → ⊥) ⊎ ((field 3 2 s ≡ version) × (allowed (headIn s) ≡ false)))
+      ↔ ((length s < headLength) ⊎ (field 0 3 s ≡ number mark → ⊥) ⊎ ((field 3 2 s ≡ version) × (allowedHead (headIn s) ≡ false)))
   pub otherVersion :
       (headReadCode s ≡ Code.otherVersion)
       ↔ ((headLength ≤ length s) × (field 0 3 s ≡ number mark) × (field 3 2 s ≡ version → ⊥))
@@ -46,7 +46,7 @@ pub record HeadExactly (s : List ℕ) : Type 0 where
 -- A call that answers a message: the box is not broken, the bytes finish the message, and there is room for what is written.
 pub record Answers (s : Station) (host : List ℕ) (room : ℕ) : Type 0 where
   pub sound : valid s ≡ true
-  pub finishes : finished (taken (s .store) host .store) ≡ true
+  pub finishes : finished (callTakes (s .store) host .store) ≡ true
   pub fits : length (replyOf (s .settings) (finishedBy s host)) ≤ room
 
 pub record GivenExactly : Type 0 where
@@ -54,7 +54,7 @@ pub record GivenExactly : Type 0 where
   -- 0, which no list has: the box is not broken, and the bytes finish no message
   pub waits : (s : Station) (host : List ℕ) (room : ℕ)
       → (feedingOf s host room .fed .code ≡ Code.waiting)
-      ↔ ((valid s ≡ true) × (finished (taken (s .store) host .store) ≡ false))
+      ↔ ((valid s ≡ true) × (finished (callTakes (s .store) host .store) ≡ false))
   pub feeding : (s : Station) (host : List ℕ) (room : ℕ) → EachExactly (feedChecks s host room) (feedingOf s host room .fed .code)
   -- a call that answers a message gives the message's own code
   pub own : (s : Station) (host : List ℕ) (room : ℕ) → Answers s host room
@@ -68,9 +68,9 @@ pub record GivenExactly : Type 0 where
       → (feedingOf s host room .fed .code ≡ c .code) ↔ (Answers s host room × Absent before × (c .holds ≡ true))
   pub message : (s : Settings) (m : Message) → EachExactly (checks s m) (codeOf s m)
   pub cutting : (s : Station) (samples : List ℤ) (room : ℕ) → EachExactly (cutChecks s samples room) (cutCode s samples room)
-  pub reading : (r : Reader) (packet : List ℕ) → EachExactly (readChecks r packet) (readCode r packet)
+  pub reading : (r : Reader) (packet : List ℕ) → EachExactly (readingChecks r packet) (readingCode r packet)
   pub unpacking : (packet : List ℕ) (room : ℕ) → EachExactly (unpackChecks packet room) (unpackCode packet room)
-  pub headWritten : (h : Head) (room : ℕ) → EachExactly (headChecks h room) (headCode h room)
+  pub headWritten : (h : Head) (room : ℕ) → EachExactly (headWriteChecks h room) (headWriteCode h room)
   pub headRead : (s : List ℕ) → HeadExactly s
-  pub wish : (w : Wish) (room : ℕ) → EachExactly (writeChecks w room) (writeCode w room)
+  pub wish : (w : Wish) (room : ℕ) → EachExactly (wishChecks w room) (wishCode w room)
   pub reply : (w : Wish) (bs : List ℕ) → EachExactly (replyChecks w bs) (replyCode w bs)

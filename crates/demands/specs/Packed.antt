@@ -8,13 +8,13 @@ use Rattle.wire.specs.Codes as Code
 use Rattle.packets.specs.Samples.{narrowed}
 use Rattle.station.specs.declared.Station.{Station}
 use Rattle.cutting.specs.Cutting.{formNow, cuttingOf}
-use Rattle.reader.specs.Reading.{unpackCode, unpackedOf}
+use Rattle.reader.specs.Reading.{unpackCode, numbersWritten}
 
 -- A packet that the box cut, in any of the four forms, unpacked into a slice with room for its numbers: each sample as it
 -- is at the width sent (`narrowed`: itself at 24 bits, divided by 256 towards minus infinity at 16).
 pub record Unpacks (s : Station) (samples : List ℤ) (room out : ℕ) : Type 0 where
   pub code : unpackCode (cuttingOf s samples room .bytes) out ≡ Code.done
-  pub numbers : unpackedOf (cuttingOf s samples room .bytes) out ≡ map (narrowed (formNow (s .settings) .bits)) samples
+  pub numbers : numbersWritten (cuttingOf s samples room .bytes) out ≡ map (narrowed (formNow (s .settings) .bits)) samples
 
 abbrev pub WhatIsPackedIsUnpacked : Type 0
 WhatIsPackedIsUnpacked =

@@ -9,7 +9,7 @@ use lib.ListN.{length}
 use Rattle.wire.specs.Choice.{pick}
 use Rattle.wire.specs.Codes as Code
 use Rattle.wire.specs.Header.{nak}
-use Rattle.framing.specs.Framing.{between, taken, announced}
+use Rattle.framing.specs.Framing.{between, callTakes, announced}
 use Rattle.reader.specs.declared.Heard.{Heard}
 use Rattle.reader.specs.declared.Reader.{Reader}
 use Rattle.station.specs.declared.Station.{Station}
@@ -24,7 +24,7 @@ NakOnly s host f =
     10 ≤ f .fed .code → f .fed .code ≤ 17
     → (f .bytes ≡ nak)
     × (f .fed .wrote ≡ 2)
-    × (f .fed .consumed ≡ taken (s .store) host .count)
+    × (f .fed .consumed ≡ callTakes (s .store) host .count)
     × (f .fed .station ≡ record { settings = s .settings; store = between })
 
 -- a call with a code from 20: "Codes from 20 consume nothing and return the state given"
@@ -42,13 +42,13 @@ HearsNothing r h = 20 ≤ h .code → h .reader ≡ r
 abbrev pub WaitsForTheEnd : (Station → List ℕ → ℕ → Feeding) → Type 0
 WaitsForTheEnd feed =
     (s : Station) (host : List ℕ) (room : ℕ) → valid s ≡ true
-    → taken (s .store) host .store .taken < announced (taken (s .store) host .store .held)
+    → callTakes (s .store) host .store .taken < announced (callTakes (s .store) host .store .held)
     → (feed s host room .fed .code ≡ Code.waiting) × (feed s host room .fed .consumed ≡ length host) × (feed s host room .bytes ≡ [])
 
 -- a box that gives up a message at its 64th byte
 abbrev pub naksAt64 : Station → List ℕ → ℕ → Feeding
 naksAt64 s host room =
-    pick (leb 64 (taken (s .store) host .store .taken))
+    pick (leb 64 (callTakes (s .store) host .store .taken))
     (record {
       fed = record { code = Code.tooLong; consumed = length host; wrote = 2; station = record { settings = s .settings; store = between } };
       bytes = nak;

@@ -11,7 +11,7 @@ use Rattle.wire.specs.Choice.{pick, firstRow}
 use Rattle.wire.specs.Codes as Code
 use Rattle.wire.specs.Number.{bytes, field}
 use Rattle.wire.specs.Header.{lengthIn, typeIn, nak, typeSet, typeRequest, typeReply}
-use Rattle.framing.specs.Framing.{between, taken, headerIn, announced}
+use Rattle.framing.specs.Framing.{between, callTakes, headerIn, announced}
 use Rattle.wire.specs.Lists.{allBytes}
 use Rattle.rates.specs.Rate.{nearestOf, rateOf}
 use Rattle.items.specs.declared.Settings.{Settings}
@@ -65,8 +65,8 @@ valueSet s m = shownBy (itemIn m) s (parameters m)
 
 -- all of the message is held, and each place holds a byte
 pub record HeldWhole (m : Message) : Type 0 where
-  pub whole : m .size ≤ length (m .held)
-  pub areBytes : allBytes (m .held)
+  pub whole : m .size ≤ length (m .bytes)
+  pub areBytes : allBytes (m .bytes)
 
 -- the reply to a set or a request, with this value: "the channel byte or id is echoed"
 abbrev pub showing : Message → List ℕ → List ℕ
@@ -108,7 +108,7 @@ pub record OneMessage (m : List ℕ) : Type 0 where
 -- the message that a box holds when it has taken them: "unused places are zero". (Of more than 64 bytes it would hold the first 64;
 -- but no set or request so long is accepted.)
 abbrev pub messageOf : List ℕ → Message
-messageOf m = record { type = typeIn (headerIn m); size = lengthIn (headerIn m); held = m ++ replicate (64 - length m) 0 }
+messageOf m = record { type = typeIn (headerIn m); size = lengthIn (headerIn m); bytes = m ++ replicate (64 - length m) 0 }
 
 -- a box between messages
 abbrev pub resting : Settings → Station
@@ -154,7 +154,7 @@ echoesOnly s host room =
 
 -- the message that a call finishes, where it finishes one
 abbrev pub finishedBy : Station → List ℕ → Message
-finishedBy s host = messageIn (taken (s .store) host .store)
+finishedBy s host = messageIn (callTakes (s .store) host .store)
 
 -- the call accepts a set, and of an item that can change what `asked` shows
 abbrev pub disturbs : ℕ → Station → List ℕ → ℕ → Bool

@@ -4,13 +4,13 @@ use Prim.Native.Nat.{ℕ}
 use mathlib.Core.Bool.{Bool, true, _&&_}
 use mathlib.Core.List.{List, [], _∷_}
 use lib.Dec.{eqb}
-use lib.IntN.{ℤ, negsuc}
+use lib.IntN.{ℤ}
 use lib.ListN.{replicate}
 use Rattle.wire.specs.Number.{field}
 use Rattle.wire.specs.Header.{nak}
 use Rattle.wire.specs.Codes as Code
 use Rattle.wire.specs.Lists.{same}
-use Rattle.wire.specs.Signed.{signed, sameInteger}
+use Rattle.wire.specs.Signed.{minus, signed, sameInteger}
 use Rattle.rates.specs.Rate.{nearestOf, rateOf, mayAsk}
 use Rattle.tuning.specs.Word.{wordOf}
 use Rattle.packets.specs.Numbers.{numberAt, stepOf}
@@ -77,7 +77,7 @@ starred =
     ∷ getsCode (0x0A ∷ 0x00 ∷ 0x20 ∷ 0x00 ∷ 0x00 ∷ 0x90 ∷ 0xC6 ∷ 0xD5 ∷ 0x00 ∷ 0x01 ∷ []) 16
     ∷ tunes (0x0A ∷ 0x00 ∷ 0x20 ∷ 0x00 ∷ 0x00 ∷ 0x80 ∷ 0xCC ∷ 0x06 ∷ 0x02 ∷ 0x00 ∷ []) 34_000_000
     ∷ getsCode (0x0A ∷ 0x00 ∷ 0x20 ∷ 0x00 ∷ 0x00 ∷ 0x81 ∷ 0xCC ∷ 0x06 ∷ 0x02 ∷ 0x00 ∷ []) 16
-    ∷ gains (0x06 ∷ 0x00 ∷ 0x38 ∷ 0x00 ∷ 0x00 ∷ 0xEC ∷ []) (negsuc 19)
+    ∷ gains (0x06 ∷ 0x00 ∷ 0x38 ∷ 0x00 ∷ 0x00 ∷ 0xEC ∷ []) (minus 20)
     ∷ getsCode (0x06 ∷ 0x00 ∷ 0x38 ∷ 0x00 ∷ 0x00 ∷ 0xF0 ∷ []) 16
     ∷ givesRate 55_556 360 55_556
     ∷ gives (0x09 ∷ 0x00 ∷ 0xB8 ∷ 0x00 ∷ 0x00 ∷ 0x04 ∷ 0xD9 ∷ 0x00 ∷ 0x00 ∷ [])
@@ -93,8 +93,8 @@ starred =
     ∷ hasNumber 65_536 1
     ∷ steps 7 7 65_535
     ∷ steps 65_535 1 1
-    ∷ packs 24 (negsuc 256) (0xFF ∷ 0xFE ∷ 0xFF ∷ [])
-    ∷ packs 16 (negsuc 256) (0xFE ∷ 0xFF ∷ [])
+    ∷ packs 24 (minus 257) (0xFF ∷ 0xFE ∷ 0xFF ∷ [])
+    ∷ packs 16 (minus 257) (0xFE ∷ 0xFF ∷ [])
     ∷ []
 
 abbrev pub allHold : List Example → Bool

@@ -8,7 +8,7 @@ use lib.IntN.{ℤ}
 use lib.ListN.{length}
 use Rattle.wire.specs.Codes.{boxWrites}
 use Rattle.items.specs.Answer.{replyDue}
-use Rattle.framing.specs.Framing.{taken}
+use Rattle.framing.specs.Framing.{callTakes}
 use Rattle.station.specs.declared.Station.{Station}
 use Rattle.station.specs.Feeding.{messageIn, feedingOf}
 use Rattle.cutting.specs.Cutting.{packetOf, formNow, cuttingOf}
@@ -17,7 +17,7 @@ use Rattle.cutting.specs.Cutting.{packetOf, formNow, cuttingOf}
 pub record FeedsByTheTable (s : Station) (host : List ℕ) (room : ℕ) : Type 0 where
   pub bytes :
       feedingOf s host room .bytes
-      ≡ boxWrites (feedingOf s host room .fed .code) (replyDue (s .settings) (messageIn (taken (s .store) host .store)))
+      ≡ boxWrites (feedingOf s host room .fed .code) (replyDue (s .settings) (messageIn (callTakes (s .store) host .store)))
   pub wrote : feedingOf s host room .fed .wrote ≡ length (feedingOf s host room .bytes)
 
 -- cutting: the packet at the position that the count gives

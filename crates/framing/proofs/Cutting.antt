@@ -15,7 +15,7 @@ use Rattle.wire.specs.Header.{typeIn, lengthIn}
 use Rattle.wire.proofs.Laws.{true-not-false, and-left, and-right}
 use Rattle.framing.specs.declared.Store.{Store}
 use Rattle.framing.specs.Framing.{Taking, announcedBy, headerIn, announced, pushed, finished, zeros, couldBeLeft, stopped, taking}
-use Rattle.framing.specs.Framing.{taken}
+use Rattle.framing.specs.Framing.{callTakes}
 use Rattle.framing.proofs.Headers.{header-kept, open-total}
 use Rattle.framing.proofs.Leaving.{pushed-left, pushed-unused}
 use Rattle.framing.proofs.Runs.{stops}
@@ -67,7 +67,7 @@ count-most =
     (λ n s b bs t f ih. omega arith)
 
 -- of a message that is not finished at least one byte is taken, where there is one
-pub count-some : (s : Store) (b : ℕ) (bs : List ℕ) → finished s ≡ false → 1 ≤ taken s (b ∷ bs) .count
+pub count-some : (s : Store) (b : ℕ) (bs : List ℕ) → finished s ≡ false → 1 ≤ callTakes s (b ∷ bs) .count
 count-some s b bs f = rw (taking-on 0 s b bs f) (count-least 1 (pushed s b) bs)
 
 -- a call that does not finish the message has taken all its bytes

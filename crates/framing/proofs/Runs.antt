@@ -14,7 +14,7 @@ use lib.ListN.{length, take, drop, length-take, drop-of-length-le}
 use lib.Seq.{sets, length-take-le, take-length, drop-length}
 use Rattle.wire.specs.Header.{typeIn, lengthIn}
 use Rattle.framing.specs.declared.Store.{Store}
-use Rattle.framing.specs.Framing.{Taking, announcedBy, headerIn, announced, pushed, pushedAll, finished, taking, taken, stopped}
+use Rattle.framing.specs.Framing.{Taking, announcedBy, headerIn, announced, pushed, pushedAll, finished, taking, callTakes, stopped}
 use Rattle.framing.specs.Inside.{totalAhead}
 use Rattle.framing.proofs.Headers.{headless, short-of, header-settled, ahead-bare, ahead-known}
 use Rattle.framing.proofs.Totals.{total-least}
@@ -56,7 +56,7 @@ takenRun s host total n =
 
 -- fewer bytes than a header: all are taken, and the message is not finished
 taken-headless : (s : Store) (host : List ℕ) → s .taken + length host < 2
-    → taken s host ≡ record { store = after s host; count = length host; finished = false }
+    → callTakes s host ≡ record { store = after s host; count = length host; finished = false }
 unfolding taking
 taken-headless s host h =
     runs (length host) 0 s host (le-refl _) (λ j l. rw pushed-all (headless (after s (take j host)) (simp length-take (omega arith))))
@@ -98,7 +98,7 @@ module _ (s : Store) (host : List ℕ) (total n : ℕ) (two : 2 ≤ s .taken + l
         | no w ↦ let l : length host ≤ n = omega arith in rw (drop-of-length-le host l) refl
       ]
 
-  taken-run : taken s host ≡ takenRun s host total n
+  taken-run : callTakes s host ≡ takenRun s host total n
   taken-run =
       runs n 0 s host (omega arith) (λ j l. rw pushed-all (unfinished j l))
       ∙ rw (pushed-all, zero-add, no-further, at-end, part n (le-refl n)) refl
@@ -106,7 +106,7 @@ module _ (s : Store) (host : List ℕ) (total n : ℕ) (two : 2 ≤ s .taken + l
 -- What a call takes, all at once: of the total that it can know beforehand what is left, or all that the host sends.
 pub taken-ahead : (s : Store) (host : List ℕ) (total n : ℕ) → total ≡ totalAhead (s .held) (s .taken) host
     → n ≡ min (total - s .taken) (length host)
-    → taken s host ≡ takenRun s host total n
+    → callTakes s host ≡ takenRun s host total n
 taken-ahead s host total n t e =
     elim (decLt (s .taken + length host) 2) [
       | yes w ↦ bare w
@@ -114,7 +114,7 @@ taken-ahead s host total n t e =
           taken-run s host total n two (sym (t ∙ ahead-known (s .held) host (s .taken) two)) e
     ]
   where
-    bare : s .taken + length host < 2 → taken s host ≡ takenRun s host total n
+    bare : s .taken + length host < 2 → callTakes s host ≡ takenRun s host total n
     bare w =
         let two : total ≡ 2 = t ∙ ahead-bare (s .held) host (s .taken) w in
         let all : n ≡ length host = omega arith in

@@ -10,7 +10,7 @@ use lib.ListN.{length, take, replicate}
 use lib.Seq.{sets, take-length}
 use Rattle.framing.specs.declared.Store.{Store}
 use Rattle.framing.specs.declared.Took.{Took}
-use Rattle.framing.specs.Framing.{taken}
+use Rattle.framing.specs.Framing.{callTakes}
 use Rattle.framing.specs.Telling.{firstTen, tookIn, heldAfter}
 use Rattle.framing.specs.Inside.{totalAhead}
 use Rattle.framing.proofs.Runs.{takenRun, taken-ahead}
@@ -32,7 +32,7 @@ module _ (held host : List ℕ) (had : ℕ) where
     pub still-open : length host < total - had
         → Tells (record { opening = replicate 10 0; count = length host; taken = had + length host; finished = false }) (sets held had host)
     still-open less =
-        let run : taken before host ≡ takenRun before host total (length host) =
+        let run : callTakes before host ≡ takenRun before host total (length host) =
         taken-ahead before host total (length host) is (omega arith) in
         rw (eq-eqb (length held) 64 long, run, lt-leb total (had + length host) (omega arith), take-length host) (refl, refl)
 
@@ -41,7 +41,7 @@ module _ (held host : List ℕ) (had : ℕ) where
         → ten ≡ firstTen (take now (take had held ++ host))
         → Tells (record { opening = ten; count = count; taken = now; finished = true }) held
     came-last ten count now left end sent e =
-        let run : taken before host ≡ takenRun before host total count = taken-ahead before host total count is (omega arith) in
+        let run : callTakes before host ≡ takenRun before host total count = taken-ahead before host total count is (omega arith) in
         rw (eq-eqb (length held) 64 long, run, le-leb total (had + count) (omega arith), e, end) (
           ap (λ (k : List ℕ). record { opening = k; count = count; taken = had + count; finished = true })
               (joined-opening held host had count (omega arith) sent),

@@ -56,8 +56,8 @@ unfoldable pub taking : ℕ → Store → List ℕ → Taking
 taking n s [] = stopped n s
 taking n s (b ∷ bs) = pick (finished s) (stopped n s) (taking (n + 1) (pushed s b) bs)
 
-abbrev pub taken : Store → List ℕ → Taking
-taken s host = taking 0 s host
+abbrev pub callTakes : Store → List ℕ → Taking
+callTakes s host = taking 0 s host
 
 -- The store that a message's first bytes leave.
 abbrev pub pushedAll : Store → List ℕ → Store

@@ -5,7 +5,7 @@ use mathlib.Core.List.{List, [], _∷_}
 use lib.ListN.{length, drop}
 use Rattle.wire.specs.Choice.{pick}
 use Rattle.framing.specs.declared.Store.{Store}
-use Rattle.framing.specs.Framing.{Taking, between, pushed, finished, taken}
+use Rattle.framing.specs.Framing.{Taking, between, pushed, finished, callTakes}
 
 -- where the stream stands: what is kept of an unfinished message, and what the finished ones have led to
 pub record Stream (X : Type 0) : Type 0 where
@@ -30,7 +30,7 @@ module _ {X : Type 0} (answer : X → Store → X) where
   calling zero r host = r
   calling (suc calls) r [] = r
   calling (suc calls) r (b ∷ bs) =
-      calling calls (called (r .state) (taken (r .store) (b ∷ bs))) (drop (taken (r .store) (b ∷ bs) .count) (b ∷ bs))
+      calling calls (called (r .state) (callTakes (r .store) (b ∷ bs))) (drop (callTakes (r .store) (b ∷ bs) .count) (b ∷ bs))
 
   -- the pieces handed over one after the other
   unfoldable pub handing : Stream X → List (List ℕ) → Stream X

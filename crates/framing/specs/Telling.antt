@@ -8,7 +8,7 @@ use lib.ListN.{length, take, replicate}
 use Rattle.wire.specs.Choice.{pick}
 use Rattle.framing.specs.declared.Store.{Store}
 use Rattle.framing.specs.declared.Took.{Took}
-use Rattle.framing.specs.Framing.{Taking, taken}
+use Rattle.framing.specs.Framing.{Taking, callTakes}
 
 -- The first ten of some bytes, zero past their end.
 unfoldable pub firstTen : List ℕ → List ℕ
@@ -27,10 +27,10 @@ tookOf t =
 -- Bytes held in another number of places than 64 are no store, and nothing is taken.
 abbrev pub tookIn : Store → List ℕ → Took
 tookIn s host =
-    pick (eqb (length (s .held)) 64) (tookOf (taken s host))
+    pick (eqb (length (s .held)) 64) (tookOf (callTakes s host))
     (record { opening = replicate 10 0; count = 0; taken = s .taken; finished = false })
 
 -- What is held after a call: more only of a message that it did not finish.
 abbrev pub heldAfter : Store → List ℕ → List ℕ
 heldAfter s host =
-    pick (eqb (length (s .held)) 64 && not (taken s host .finished)) (taken s host .store .held) (s .held)
+    pick (eqb (length (s .held)) 64 && not (callTakes s host .finished)) (callTakes s host .store .held) (s .held)

@@ -7,7 +7,7 @@ use lib.ListN.{length, getD}
 use Rattle.wire.specs.Choice.{pick}
 use Rattle.wire.specs.Codes as Code
 use Rattle.items.specs.Items.{gain}
-use Rattle.replies.specs.Reading.{Told}
+use Rattle.replies.specs.Reading.{ReplyAnswer}
 use Rattle.wishes.specs.declared.Wish.{Wish}
 use Rattle.wishes.specs.declared.Wish.the-variants.{AskVersion}
 use Rattle.wishes.specs.Wishes.{eachWish}
@@ -61,7 +61,7 @@ saidOf item count first second = asShown Code.done item count first second (pos 
 abbrev pub refusedBy : ℕ → Shown
 refusedBy code = asShown code 0 0 0 0 (pos 0)
 
-unfoldable pub shown : Told → Shown
+unfoldable pub shown : ReplyAnswer → Shown
 shown t =
     record {
       code = t .code;

@@ -2,7 +2,7 @@
 use Prim.Native.Nat.{ℕ}
 use mathlib.Core.List.{List, [], _∷_}
 use Rattle.heads.specs.declared.Head.{Head}
-use Rattle.heads.specs.Head.{Reading, readingOf}
+use Rattle.heads.specs.Head.{HeadReading, headReadingOf}
 
 -- what reading a head answers: the code, and the head, or zeros in the place of one that was not found
 pub record Found : Type 0 where
@@ -20,8 +20,8 @@ abbrev pub firstHead : List Head → Head
 firstHead [] = noHead
 firstHead (h ∷ hs) = h
 
-abbrev pub found : Reading → Found
+abbrev pub found : HeadReading → Found
 found r = record { code = r .code; head = firstHead (r .heads) }
 
 abbrev pub foundIn : List ℕ → Found
-foundIn bytes = found (readingOf bytes)
+foundIn bytes = found (headReadingOf bytes)

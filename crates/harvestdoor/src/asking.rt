@@ -10,7 +10,7 @@ ghost use mathlib.Core.Path.{_≡_};
 ghost use lib.ListN.{length};
 ghost use Rattle.wire.specs.Choice.{pick};
 ghost use lib.Seq.{sets};
-ghost use Rattle.replies.specs.Reading.{told as toldBy, toldOf as readAs};
+ghost use Rattle.replies.specs.Reading.{replySays, replyReaderSays};
 ghost use Rattle.wishes.specs.Writing.{writtenSays, writingOf, bytesWritten};
 ghost use Rattle.harvestdoor.specs.Asking.{wishOf, shown as shownOf, asShown, saidOf, refusedBy};
 
@@ -145,7 +145,7 @@ fn status_byte(running: bool) -> u64
 fn shown_by(reply: Reply) -> Shown
     ensures { λ r.
         ⌜ asShown (r .code) (r .item) (r .count) (r .first) (r .second) (r .gain)
-        ≡ shownOf (toldBy reply) ⌝ }
+        ≡ shownOf (replySays reply) ⌝ }
 {
     match reply {
         Reply::Nak => saying(0, 0, 0, 0),
@@ -198,7 +198,7 @@ pub extern "C" fn skvornela_reply(
 ) -> u8
     ensures { λ r.
         ⌜ asShown r (now (item .exit)) (now (count .exit)) (now (first .exit)) (now (second .exit)) (now (level .exit))
-        ≡ shownOf (readAs (wishOf which byte mode gain word hertz) (now (bytes .entry))) ⌝ }
+        ≡ shownOf (replyReaderSays (wishOf which byte mode gain word hertz) (now (bytes .entry))) ⌝ }
 {
     let s = shown_by(replies::read(wish_of(which, byte, mode, gain, word, hertz), bytes));
     *item = s.item;

@@ -6,7 +6,7 @@ use wire::codes;
 ghost use mathlib.Core.Path.{_≡_};
 ghost use lib.ListN.{length};
 ghost use lib.Seq.{sets};
-ghost use Rattle.heads.specs.Head.{openedSays, writeCode, writtenBytes, writtenCode};
+ghost use Rattle.heads.specs.Head.{openedSays, headWriteCode, writtenBytes, writtenCode};
 ghost use Rattle.harvestdoor.specs.Heads.{headWith, found, foundIn, noHead};
 
 // What reading a head found: its code, and the head, or zeros in the place of one that was not found.
@@ -35,7 +35,7 @@ pub extern "C" fn skvornela_head_write(
     out: &mut [u8],
 ) -> u8
     ensures { λ r.
-        ⌜ (r ≡ writeCode (headWith divisor frequency mode size) (length (now (out .entry))))
+        ⌜ (r ≡ headWriteCode (headWith divisor frequency mode size) (length (now (out .entry))))
         × (now (out .exit)
         ≡ sets (now (out .entry)) 0 (writtenBytes (headWith divisor frequency mode size) (length (now (out .entry))))) ⌝ }
 {

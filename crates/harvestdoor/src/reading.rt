@@ -2,7 +2,7 @@
 ghost use mathlib.Core.Path.{_≡_};
 ghost use lib.ListN.{length};
 ghost use lib.Seq.{sets};
-ghost use Rattle.reader.specs.Reading.{sampleBytesOf, unpackingOf, unpackedOf};
+ghost use Rattle.reader.specs.Reading.{sampleBytesOf, unpackingOf, numbersWritten};
 ghost use Rattle.harvestdoor.specs.Reading.{readOver, sampleByteAt};
 use wire::codes;
 
@@ -53,7 +53,7 @@ pub extern "C" fn skvornela_sample_byte(packet: &[u8], place: usize, byte: &mut 
 pub extern "C" fn skvornela_unpack(packet: &[u8], out: &mut [i32], count: &mut usize) -> u8
     ensures { λ r.
         ⌜ (record { code = r; count = now (count .exit) } ≡ unpackingOf (now (packet .entry)) (length (now (out .entry))))
-        × (now (out .exit) ≡ sets (now (out .entry)) 0 (unpackedOf (now (packet .entry)) (length (now (out .entry))))) ⌝ }
+        × (now (out .exit) ≡ sets (now (out .entry)) 0 (numbersWritten (now (packet .entry)) (length (now (out .entry))))) ⌝ }
 {
     let u = reader::unpack(packet, out);
     *count = u.count;

@@ -10,7 +10,7 @@ use Rattle.heads.specs.declared.Written.{Written}
 use Rattle.heads.specs.declared.Written.the-variants.{Whole, NotAllowed, NoRoom}
 use Rattle.heads.specs.declared.Opened.{Opened}
 use Rattle.heads.specs.declared.Opened.the-variants.{Head as Found, NotAHead, OtherVersion}
-use Rattle.heads.specs.Head.{writeCode, writtenCode, Reading, openedSays, readingOf}
+use Rattle.heads.specs.Head.{headWriteCode, writtenCode, HeadReading, openedSays, headReadingOf}
 
 -- ---- writing: the number decides the case
 
@@ -27,8 +27,8 @@ pub written-one : (v w : Written) → writtenCode v ≡ writtenCode w → v ≡ 
 written-one = one-by writtenCode wrote wrote-back
 
 -- so the promise of writing allows one answer
-pub write-one : (h : Head) (room : ℕ) {v w : Written} → writtenCode v ≡ writeCode h room → writtenCode w ≡ writeCode h room → v ≡ w
-write-one h room p q = two-results-coincide writtenCode written-one (writeCode h room) p q
+pub write-one : (h : Head) (room : ℕ) {v w : Written} → writtenCode v ≡ headWriteCode h room → writtenCode w ≡ headWriteCode h room → v ≡ w
+write-one h room p q = two-results-coincide writtenCode written-one (headWriteCode h room) p q
 
 -- ---- reading: the number and the head decide the case
 
@@ -36,7 +36,7 @@ found : ℕ → List Head → Opened
 found code [] = pick (eqb code 40) NotAHead OtherVersion
 found code (h ∷ hs) = Found h
 
-opened : Reading → Opened
+opened : HeadReading → Opened
 opened r = found (r .code) (r .heads)
 
 opened-back : (o : Opened) → opened (openedSays o) ≡ o
@@ -49,5 +49,5 @@ pub opened-one : (o p : Opened) → openedSays o ≡ openedSays p → o ≡ p
 opened-one = one-by openedSays opened opened-back
 
 -- and so does that of reading
-pub read-one : (s : List ℕ) {o p : Opened} → openedSays o ≡ readingOf s → openedSays p ≡ readingOf s → o ≡ p
-read-one s p q = two-results-coincide openedSays opened-one (readingOf s) p q
+pub read-one : (s : List ℕ) {o p : Opened} → openedSays o ≡ headReadingOf s → openedSays p ≡ headReadingOf s → o ≡ p
+read-one s p q = two-results-coincide openedSays opened-one (headReadingOf s) p q

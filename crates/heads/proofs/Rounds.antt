@@ -18,10 +18,10 @@ use Rattle.wire.proofs.Lists.{byte-at}
 use Rattle.wire.proofs.Numbers.{bytes-number}
 use Rattle.rates.specs.Rate.{isD}
 use Rattle.tuning.specs.Bands.{inBands}
-use Rattle.packets.specs.Forms.{formFor, listed}
+use Rattle.packets.specs.Forms.{formFor, listedForm}
 use Rattle.heads.specs.declared.Head.{Head}
 use Rattle.heads.proofs.Codes.{code-by, reading-by}
-use Rattle.heads.specs.Head.{mark, version, headLength, formIn, allowed, headBytes, headIn, readCode, readingOf}
+use Rattle.heads.specs.Head.{mark, version, headLength, formIn, allowedHead, headBytes, headIn, headReadCode, headReadingOf}
 
 -- ---- what an allowed head has
 
@@ -34,18 +34,18 @@ bands-high hz = by-or (within 100_000 34_000_000 hz) _ first (by-or (within 140_
     second : within 140_000_000 150_000_000 hz ≡ true → hz ≤ 150_000_000
     second = within-high 140_000_000 150_000_000 hz
 
-module _ (h : Head) (a : allowed h ≡ true) where
+module _ (h : Head) (a : allowedHead h ≡ true) where
   abbrev divisorOk : Bool
   divisorOk = isD (h .divisor)
 
   abbrev bandsOk : Bool
   bandsOk = inBands (h .frequency)
 
-  pub form-listed : listed (formIn h) ≡ true
-  form-listed = and-right (divisorOk && bandsOk) (listed (formIn h)) a
+  pub form-listed : listedForm (formIn h) ≡ true
+  form-listed = and-right (divisorOk && bandsOk) (listedForm (formIn h)) a
 
   numbers-ok : divisorOk && bandsOk ≡ true
-  numbers-ok = and-left (divisorOk && bandsOk) (listed (formIn h)) a
+  numbers-ok = and-left (divisorOk && bandsOk) (listedForm (formIn h)) a
 
   pub divisor-small : h .divisor ≤ 625
   divisor-small = within-high 10 625 (h .divisor) (and-left divisorOk bandsOk numbers-ok)
@@ -54,13 +54,13 @@ module _ (h : Head) (a : allowed h ≡ true) where
   frequency-small = bands-high (h .frequency) (and-right divisorOk bandsOk numbers-ok)
 
 -- a mode or a size that is no byte has no form
-mode-small : (mode size : ℕ) → listed (formFor mode size) ≡ true → mode < 256
+mode-small : (mode size : ℕ) → listedForm (formFor mode size) ≡ true → mode < 256
 mode-small mode size l = elim (decLt mode 256) [ yes m ↦ m | no m ↦ never (none (omega arith)) ]
   where
     none : 256 ≤ mode → false ≡ true
     none m = rw (ne-eqb 0x80 mode (λ e. omega arith), ne-eqb 0x00 mode (λ e. omega arith)) at l
 
-size-small : (mode size : ℕ) → listed (formFor mode size) ≡ true → size < 256
+size-small : (mode size : ℕ) → listedForm (formFor mode size) ≡ true → size < 256
 size-small mode size l =
     elim (decLt size 256) [ yes m ↦ m | no m ↦ never (none (omega arith) (eqb 0x80 mode) (eqb 0x00 mode) refl refl) ]
   where
@@ -74,10 +74,10 @@ size-small mode size l =
 
 -- what has a head's length, mark and version, and holds an allowed head, is read as that head
 pub reads : (s : List ℕ) (h : Head) → headLength ≤ length s → field 0 3 s ≡ number mark → field 3 2 s ≡ version → headIn s ≡ h
-    → allowed h ≡ true
-    → readingOf s ≡ record { code = 1; heads = h ∷ [] }
+    → allowedHead h ≡ true
+    → headReadingOf s ≡ record { code = 1; heads = h ∷ [] }
 reads s h long marked one is a =
-    reading-by s (code-by s (le-ltb _ _ long) (eq-eqb _ _ marked) (eq-eqb _ _ one) (ap allowed is ∙ a))
+    reading-by s (code-by s (le-ltb _ _ long) (eq-eqb _ _ marked) (eq-eqb _ _ one) (ap allowedHead is ∙ a))
     ∙ ap (λ (x : Head). record { code = 1; heads = x ∷ [] }) is
 
 -- what holds a head's values, holds the head
@@ -85,7 +85,7 @@ holds : (s : List ℕ) (h : Head) → field 5 2 s ≡ h .divisor → field 7 5 s
     → headIn s ≡ h
 holds s h divisor frequency mode size = rw (divisor, frequency, mode, size)
 
-pub read-written : (h : Head) (rest : List ℕ) → allowed h ≡ true → readingOf (headBytes h ++ rest) ≡ record { code = 1; heads = h ∷ [] }
+pub read-written : (h : Head) (rest : List ℕ) → allowedHead h ≡ true → headReadingOf (headBytes h ++ rest) ≡ record { code = 1; heads = h ∷ [] }
 unfolding headBytes
 read-written h rest a = reads s h (omega arith) refl refl values a
   where
@@ -114,15 +114,15 @@ pub record Passed (s : List ℕ) : Type 0 where
   pub long : headLength ≤ length s
   pub marked : field 0 3 s ≡ number mark
   pub one : field 3 2 s ≡ version
-  pub ok : allowed (headIn s) ≡ true
+  pub ok : allowedHead (headIn s) ≡ true
 
-pub passed : (s : List ℕ) → readCode s ≡ 1 → Passed s
+pub passed : (s : List ℕ) → headReadCode s ≡ 1 → Passed s
 passed s e =
-    by (ltb (length s) headLength) (eqb (field 0 3 s) (number mark)) (eqb (field 3 2 s) version) (allowed (headIn s))
+    by (ltb (length s) headLength) (eqb (field 0 3 s) (number mark)) (eqb (field 3 2 s) version) (allowedHead (headIn s))
     refl refl refl refl
   where
     by : (short marked one ok : Bool) → ltb (length s) headLength ≡ short → eqb (field 0 3 s) (number mark) ≡ marked
-        → eqb (field 3 2 s) version ≡ one → allowed (headIn s) ≡ ok → Passed s
+        → eqb (field 3 2 s) version ≡ one → allowedHead (headIn s) ≡ ok → Passed s
     by true marked one ok p q r t = absurd (omega (arith, code-by s p q r t))
     by false false one ok p q r t = absurd (omega (arith, code-by s p q r t))
     by false true false ok p q r t = absurd (omega (arith, code-by s p q r t))
@@ -159,7 +159,7 @@ fields s =
     after : (at n : ℕ) {c d : List ℕ} → c ≡ d → take n (drop at s) ++ c ≡ take n (drop at s) ++ d
     after at n e = ap (λ (l : List ℕ). take n (drop at s) ++ l) e
 
-pub written-read : (s : List ℕ) → allBytes s → readCode s ≡ 1 → headBytes (headIn s) ≡ take headLength s
+pub written-read : (s : List ℕ) → allBytes s → headReadCode s ≡ 1 → headBytes (headIn s) ≡ take headLength s
 unfolding headBytes
 written-read s small ok =
     let p = passed s ok in

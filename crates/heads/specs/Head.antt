@@ -11,7 +11,7 @@ use Rattle.wire.specs.Number.{number, bytes, field}
 use Rattle.rates.specs.Rate.{isD}
 use Rattle.tuning.specs.Bands.{inBands}
 use Rattle.packets.specs.declared.Form.{Form}
-use Rattle.packets.specs.Forms.{formFor, listed}
+use Rattle.packets.specs.Forms.{formFor, listedForm}
 use Rattle.heads.specs.declared.Head.{Head}
 use Rattle.heads.specs.declared.Written.{Written}
 use Rattle.heads.specs.declared.Written.the-variants.{Whole, NotAllowed, NoRoom}
@@ -33,8 +33,8 @@ abbrev pub formIn : Head → Form
 formIn h = formFor (h .mode) (h .size)
 
 -- each value is one that a box can have: D from 10 to 625, a frequency of the bands, a mode and a size of the table of packets
-abbrev pub allowed : Head → Bool
-allowed h = isD (h .divisor) && inBands (h .frequency) && listed (formIn h)
+abbrev pub allowedHead : Head → Bool
+allowedHead h = isD (h .divisor) && inBands (h .frequency) && listedForm (formIn h)
 
 -- the 14 bytes, field by field
 unfoldable pub headBytes : Head → List ℕ
@@ -46,11 +46,11 @@ abbrev pub headIn : List ℕ → Head
 headIn s = record { divisor = field 5 2 s; frequency = field 7 5 s; mode = field 12 1 s; size = field 13 1 s }
 
 -- "The harvester writes it (refusing 16, then 20)": the head, and the length of the lent slice
-abbrev pub writeChecks : Head → ℕ → List Check
-writeChecks h room = check Code.valueNotAllowed (not (allowed h)) ∷ check Code.noRoom (ltb room headLength) ∷ []
+abbrev pub headWriteChecks : Head → ℕ → List Check
+headWriteChecks h room = check Code.valueNotAllowed (not (allowedHead h)) ∷ check Code.noRoom (ltb room headLength) ∷ []
 
-unfoldable pub writeCode : Head → ℕ → ℕ
-writeCode h room = firstOf (writeChecks h room) Code.done
+unfoldable pub headWriteCode : Head → ℕ → ℕ
+headWriteCode h room = firstOf (headWriteChecks h room) Code.done
 
 -- the number of each answer of writing
 abbrev pub writtenCode : Written → ℕ
@@ -60,30 +60,30 @@ writtenCode NoRoom = Code.noRoom
 
 -- what is written at the start of the lent slice: the head or nothing, by the column "Written" of the table of codes
 abbrev pub writtenBytes : Head → ℕ → List ℕ
-writtenBytes h room = othersWrite (writeCode h room) (headBytes h)
+writtenBytes h room = othersWrite (headWriteCode h room) (headBytes h)
 
 -- "reads it from the first 14 bytes given. Under 14 bytes, wrong mark or a value not allowed is 40 (checked before 41, the
 -- version; with another version only mark and length are looked at)."
-abbrev pub readChecks : List ℕ → List Check
-readChecks s =
+abbrev pub headReadChecks : List ℕ → List Check
+headReadChecks s =
     check Code.notAHead (ltb (length s) headLength)
     ∷ check Code.notAHead (not (eqb (field 0 3 s) (number mark)))
     ∷ check Code.otherVersion (not (eqb (field 3 2 s) version))
-    ∷ check Code.notAHead (not (allowed (headIn s)))
+    ∷ check Code.notAHead (not (allowedHead (headIn s)))
     ∷ []
 
-unfoldable pub readCode : List ℕ → ℕ
-readCode s = firstOf (readChecks s) Code.done
+unfoldable pub headReadCode : List ℕ → ℕ
+headReadCode s = firstOf (headReadChecks s) Code.done
 
 -- What an answer of reading says: its number, and the head where there is one.
-pub record Reading : Type 0 where
+pub record HeadReading : Type 0 where
   pub code : ℕ
   pub heads : List Head
 
-abbrev pub openedSays : Opened → Reading
+abbrev pub openedSays : Opened → HeadReading
 openedSays (Found h) = record { code = Code.done; heads = h ∷ [] }
 openedSays NotAHead = record { code = Code.notAHead; heads = [] }
 openedSays OtherVersion = record { code = Code.otherVersion; heads = [] }
 
-unfoldable pub readingOf : List ℕ → Reading
-readingOf s = record { code = readCode s; heads = pick (eqb (readCode s) Code.done) (headIn s ∷ []) [] }
+unfoldable pub headReadingOf : List ℕ → HeadReading
+headReadingOf s = record { code = headReadCode s; heads = pick (eqb (headReadCode s) Code.done) (headIn s ∷ []) [] }

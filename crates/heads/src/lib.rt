@@ -2,7 +2,7 @@
 ghost use mathlib.Core.Path.{_≡_};
 ghost use lib.ListN.{length};
 ghost use lib.Seq.{sets};
-ghost use Rattle.heads.specs.Head.{allowed, formIn, headBytes, headIn, writeCode, writtenCode, writtenBytes, openedSays, readingOf};
+ghost use Rattle.heads.specs.Head.{allowedHead, formIn, headBytes, headIn, headWriteCode, writtenCode, writtenBytes, openedSays, headReadingOf};
 use packets::Form;
 
 // A head has 14 bytes.
@@ -48,7 +48,7 @@ pub fn form_in(h: Head) -> Form
 
 // Whether each value of a head is allowed.
 pub fn is_allowed(h: Head) -> bool
-    ensures { λ r. ⌜ r ≡ allowed h ⌝ }
+    ensures { λ r. ⌜ r ≡ allowedHead h ⌝ }
 {
     if !rates::is_d(h.divisor) {
         return false;
@@ -74,7 +74,7 @@ fn put_head(h: Head, out: &mut [u8])
 // Writes a head at the start of a slice. It refuses a value that is not allowed, and then a slice under 14 bytes.
 pub fn write_head(h: Head, out: &mut [u8]) -> Written
     ensures { λ r.
-        ⌜ (writtenCode r ≡ writeCode h (length (now (out .entry))))
+        ⌜ (writtenCode r ≡ headWriteCode h (length (now (out .entry))))
         × (now (out .exit) ≡ sets (now (out .entry)) 0 (writtenBytes h (length (now (out .entry))))) ⌝ }
 {
     if !is_allowed(h) {
@@ -101,7 +101,7 @@ pub fn head_in(s: &[u8]) -> Head
 
 // Reads a head from the first 14 bytes of a slice.
 pub fn read_head(s: &[u8]) -> Opened
-    ensures { λ r. ⌜ openedSays r ≡ readingOf (now (s .entry)) ⌝ }
+    ensures { λ r. ⌜ openedSays r ≡ headReadingOf (now (s .entry)) ⌝ }
 {
     if s.len() < LENGTH {
         return Opened::NotAHead;

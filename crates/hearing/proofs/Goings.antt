@@ -11,7 +11,7 @@ use borrow.Author.Tests.{ne-eqb, eqb-false}
 use Rattle.packets.specs.declared.Form.{Form}
 use Rattle.hearing.specs.declared.Tally.{Tally}
 use Rattle.hearing.specs.declared.Reach.{Reach}
-use Rattle.hearing.specs.Hearing.{taking, heardCode, closes, settled, reaching}
+use Rattle.hearing.specs.Hearing.{takingByte, heardCode, closes, settled, reaching}
 use Rattle.hearing.specs.Inside.{goesOn, Sane, Goes, Samples, skipped}
 use Rattle.hearing.proofs.Heard.{sane-taking, sane-settled}
 use Rattle.hearing.proofs.Reaches.{settled-at, reach-byte, reach-skip}
@@ -36,19 +36,19 @@ goes-skip f t piece at k room s sane =
 
 -- one byte
 pub goes-byte : (f : Form) (t : Tally) (piece : List ℕ) (at : ℕ) → at < length piece → Sane (length piece - at) t
-    → Goes f t piece at (settled (at + 1) f (taking t (getD piece at 0)))
-unfolding taking
+    → Goes f t piece at (settled (at + 1) f (takingByte t (getD piece at 0)))
+unfolding takingByte
 goes-byte f t piece at h sane =
     let b : ℕ = getD piece at 0 in
-    let there : settled (at + 1) f (taking t b) .at ≡ at + 1 = settled-at (at + 1) f (taking t b) in
+    let there : settled (at + 1) f (takingByte t b) .at ≡ at + 1 = settled-at (at + 1) f (takingByte t b) in
     let left : length piece - (at + 1) + 1 ≡ length piece - at = omega arith in
-    let after : Sane (length piece - (at + 1)) (taking t b) = sane-taking (length piece - (at + 1)) t b (rw left sane) in
+    let after : Sane (length piece - (at + 1)) (takingByte t b) = sane-taking (length piece - (at + 1)) t b (rw left sane) in
     record {
-      same = ap (λ (k : ℕ). goesOn f (settled (at + 1) f (taking t b)) (drop k piece)) there ∙ reach-byte f t piece at h;
+      same = ap (λ (k : ℕ). goesOn f (settled (at + 1) f (takingByte t b)) (drop k piece)) there ∙ reach-byte f t piece at h;
       inside = omega (arith, there);
       sane =
-          subst (λ (k : ℕ). Sane (length piece - k) (settled (at + 1) f (taking t b) .tally)) (sym there)
-          (sane-settled (length piece - (at + 1)) (at + 1) f (taking t b) after (omega arith));
+          subst (λ (k : ℕ). Sane (length piece - k) (settled (at + 1) f (takingByte t b) .tally)) (sym there)
+          (sane-settled (length piece - (at + 1)) (at + 1) f (takingByte t b) after (omega arith));
     }
 
 -- where a line is due, that is where all leads
@@ -70,8 +70,8 @@ used-up f t piece at h = rw (drop-of-length-le piece h)
 
 -- ---- where a line is due
 
-pub taken-some : (t : Tally) (b : ℕ) → 0 < taking t b .taken
-unfolding taking
+pub taken-some : (t : Tally) (b : ℕ) → 0 < takingByte t b .come
+unfolding takingByte
 taken-some t b = omega arith
 
 -- a packet has its code, and is left before its effect
@@ -89,21 +89,21 @@ settled-due n f t due = by (eqb (heardCode f t) 0) (eqb (heardCode f t) 1 && not
 -- What is due after some bytes: the code of a packet's bytes so far.
 pub record Is-due (f : Form) (r : Reach) : Type 0 where
   pub code : r .code ≡ heardCode f (r .tally)
-  pub some : 0 < r .tally .taken
+  pub some : 0 < r .tally .come
 
 pub reach-due : (bs : List ℕ) (n : ℕ) (f : Form) (t : Tally) → (reaching n f t bs .code ≡ 0 → ⊥) → Is-due f (reaching n f t bs)
 unfolding reaching
 reach-due [] n f t due = absurd (due refl)
 reach-due (b ∷ bs) n f t due =
-    by (eqb (settled (n + 1) f (taking t b) .code) 0) refl (reach-due bs (n + 1) f (settled (n + 1) f (taking t b) .tally))
+    by (eqb (settled (n + 1) f (takingByte t b) .code) 0) refl (reach-due bs (n + 1) f (settled (n + 1) f (takingByte t b) .tally))
   where
     later : Tally
-    later = settled (n + 1) f (taking t b) .tally
+    later = settled (n + 1) f (takingByte t b) .tally
 
-    by : (none : Bool) → eqb (settled (n + 1) f (taking t b) .code) 0 ≡ none
+    by : (none : Bool) → eqb (settled (n + 1) f (takingByte t b) .code) 0 ≡ none
         → ((reaching (n + 1) f later bs .code ≡ 0 → ⊥) → Is-due f (reaching (n + 1) f later bs))
         → Is-due f (reaching n f t (b ∷ bs))
     by true e ih = rw e (ih (λ z. due (rw e z)))
     by false e ih =
-        let here = settled-due (n + 1) f (taking t b) (λ z. eqb-false _ _ e z) in
+        let here = settled-due (n + 1) f (takingByte t b) (λ z. eqb-false _ _ e z) in
         rw (e, here) (record { code = refl; some = taken-some t b })

@@ -12,12 +12,12 @@ use Rattle.wire.proofs.Laws.{true-not-false, and-left, pick-keeps}
 use Rattle.wire.proofs.Checks.{absent, given-below}
 use Rattle.wire.specs.Choice.{pick, check, firstOf}
 use Rattle.packets.specs.declared.Form.{Form}
-use Rattle.packets.specs.Forms.{sameForm, totalOf, listed}
+use Rattle.packets.specs.Forms.{sameForm, totalOf, listedForm}
 use Rattle.packets.specs.Numbers.{stepOf, last}
 use Rattle.packets.proofs.Numbers.{step-above, step-not-above}
 use Rattle.hearing.specs.declared.Tally.{Tally}
 use Rattle.hearing.specs.declared.Reach.{Reach}
-use Rattle.hearing.specs.Hearing.{formNow, positionNow, lacksFirst, heardChecks, heardCode, taking, accepting, closes, settled}
+use Rattle.hearing.specs.Hearing.{formComing, positionNow, lacksFirst, heardChecks, heardCode, takingByte, accepting, closes, settled}
 use Rattle.hearing.specs.Inside.{Sane, wordAt, twoAt}
 
 abbrev pub codeBy : Bool → Bool → Bool → Bool → Bool → Bool → ℕ
@@ -27,8 +27,8 @@ codeBy few ok short same lone past =
     1
 
 pub heard-by : (f : Form) (t : Tally) {few ok short same lone past : Bool}
-    → ltb (t .taken) 2 ≡ few → listed (formNow t) ≡ ok → ltb (t .taken) (totalOf (formNow t)) ≡ short
-    → sameForm (formNow t) f ≡ same → lacksFirst t ≡ lone → ltb last (positionNow t) ≡ past
+    → ltb (t .come) 2 ≡ few → listedForm (formComing t) ≡ ok → ltb (t .come) (totalOf (formComing t)) ≡ short
+    → sameForm (formComing t) f ≡ same → lacksFirst t ≡ lone → ltb last (positionNow t) ≡ past
     → heardCode f t ≡ codeBy few ok short same lone past
 unfolding heardCode
 heard-by f t a b c d e g = cc
@@ -49,8 +49,8 @@ unfolding heardCode
 heard-small f t = given-below 34 (heardChecks f t) 1 refl (omega arith)
 
 -- what `total_of` answers for a listed form
-pub total-is : (f g : Form) (n : ℕ) → n ≡ pick (listed g) (totalOf g) 0 → g ≡ f → listed f ≡ true → n ≡ totalOf f
-total-is f g n is same ok = is ∙ ap (λ (x : Form). pick (listed x) (totalOf x) 0) same ∙ rw ok
+pub total-is : (f g : Form) (n : ℕ) → n ≡ pick (listedForm g) (totalOf g) 0 → g ≡ f → listedForm f ≡ true → n ≡ totalOf f
+total-is f g n is same ok = is ∙ ap (λ (x : Form). pick (listedForm x) (totalOf x) 0) same ∙ rw ok
 
 -- a step is at most two turns
 pub step-small : (s t : ℕ) → s ≤ 65_535 → t ≤ 65_535 → stepOf s t ≤ 131_070
@@ -72,10 +72,10 @@ module _ (piece : List ℕ) (at : ℕ) (small : (k : ℕ) → getD piece k 0 < 2
       rw next (omega (arith, small at, small (at + 1), small (at + 2), small (at + 3)))
 
 -- what a form with some total has
-pub total-some : (g : Form) (n : ℕ) → n ≡ pick (listed g) (totalOf g) 0 → 0 < n → (listed g ≡ true) × (n ≡ totalOf g)
-total-some g n is some = by (listed g) refl
+pub total-some : (g : Form) (n : ℕ) → n ≡ pick (listedForm g) (totalOf g) 0 → 0 < n → (listedForm g ≡ true) × (n ≡ totalOf g)
+total-some g n is some = by (listedForm g) refl
   where
-    by : (l : Bool) → listed g ≡ l → (listed g ≡ true) × (n ≡ totalOf g)
+    by : (l : Bool) → listedForm g ≡ l → (listedForm g ≡ true) × (n ≡ totalOf g)
     by true e = (e, is ∙ rw e)
     by false e =
         let none : n ≡ 0 = is ∙ rw e in
@@ -89,10 +89,10 @@ accepted-fits f t e = ltb-false _ _ (absent (heardChecks f t) 1 refl e .1 .1 .1 
 -- ---- sums that fit
 
 -- an accepted packet leaves a sane tally
-pub sane-accepting : (rest : ℕ) (t : Tally) → Sane rest t → 0 < t .taken → positionNow t ≤ last → Sane rest (accepting t)
+pub sane-accepting : (rest : ℕ) (t : Tally) → Sane rest t → 0 < t .come → positionNow t ≤ last → Sane rest (accepting t)
 unfolding accepting
 sane-accepting rest t s some fits =
-    let within : ℕ → Type 0 = λ n. n ≤ t .begins + t .taken in
+    let within : ℕ → Type 0 = λ n. n ≤ t .begins + t .come in
     record {
       room = omega (arith, s .room);
       heard = pick-keeps within (eqb (t .number) 0) 1 (t .heard + 1) (λ e. omega arith) (λ e. omega (arith, s .heard));
@@ -103,11 +103,11 @@ sane-accepting rest t s some fits =
     }
 
 -- so does each byte
-pub sane-taking : (rest : ℕ) (t : Tally) (b : ℕ) → Sane (rest + 1) t → Sane rest (taking t b)
-unfolding taking
+pub sane-taking : (rest : ℕ) (t : Tally) (b : ℕ) → Sane (rest + 1) t → Sane rest (takingByte t b)
+unfolding takingByte
 sane-taking rest t b s = record { room = omega (arith, s .room); heard = s .heard; captures = s .captures; position = s .position }
 
-pub sane-settled : (rest n : ℕ) (f : Form) (t : Tally) → Sane rest t → 0 < t .taken → Sane rest (settled n f t .tally)
+pub sane-settled : (rest n : ℕ) (f : Form) (t : Tally) → Sane rest t → 0 < t .come → Sane rest (settled n f t .tally)
 unfolding settled
 sane-settled rest n f t s some =
     pick-keeps (λ (r : Reach). Sane rest (r .tally)) (eqb (heardCode f t) 0) _ _ (λ e. s)

@@ -13,12 +13,12 @@ use borrow.Author.Tests.{eq-eqb, ne-eqb, lt-ltb, le-ltb, leb-true}
 use Rattle.wire.proofs.Laws.{pick-keeps, and-not-left, and-not-right}
 use Rattle.wire.specs.Header.{headerOf, typeData}
 use Rattle.packets.specs.declared.Form.{Form}
-use Rattle.packets.specs.Forms.{sameForm, totalOf, listed, formWithHeader}
+use Rattle.packets.specs.Forms.{sameForm, totalOf, listedForm, formWithHeader}
 use Rattle.packets.specs.Numbers.{numberAt, stepOf, last}
 use Rattle.packets.proofs.Forms.{of-listed, same-is}
 use Rattle.hearing.specs.declared.Tally.{Tally}
 use Rattle.hearing.specs.declared.Reach.{Reach}
-use Rattle.hearing.specs.Hearing.{lowHigh, taking, formNow, positionNow, heardCode, accepting, closes, settled, reaching}
+use Rattle.hearing.specs.Hearing.{lowHigh, takingByte, formComing, positionNow, heardCode, accepting, closes, settled, reaching}
 use Rattle.hearing.specs.Inside.{goesOn, Follows, Samples, skipped, twoAt}
 use Rattle.hearing.proofs.Heard.{heard-by, settled-by}
 
@@ -32,56 +32,56 @@ settled-at n f t =
     (λ e. pick-keeps (λ (r : Reach). r .at ≡ n) (eqb (heardCode f t) 1 && not (closes t)) _ _ (λ d. refl) (λ d. refl))
 
 pub reach-cons : (n : ℕ) (f : Form) (t : Tally) (b : ℕ) (bs : List ℕ)
-    → reaching n f t (b ∷ bs) ≡ goesOn f (settled (n + 1) f (taking t b)) bs
+    → reaching n f t (b ∷ bs) ≡ goesOn f (settled (n + 1) f (takingByte t b)) bs
 unfolding reaching goesOn
-reach-cons n f t b bs = rw (settled-at (n + 1) f (taking t b))
+reach-cons n f t b bs = rw (settled-at (n + 1) f (takingByte t b))
 
 pub reach-byte : (f : Form) (t : Tally) (piece : List ℕ) (at : ℕ) → at < length piece
-    → goesOn f (settled (at + 1) f (taking t (getD piece at 0))) (drop (at + 1) piece) ≡ reaching at f t (drop at piece)
+    → goesOn f (settled (at + 1) f (takingByte t (getD piece at 0))) (drop (at + 1) piece) ≡ reaching at f t (drop at piece)
 reach-byte f t piece at h =
     rw (drop-cons piece at 0 h) (rw (← add-one at) (sym (reach-cons at f t (getD piece at 0) (drop (at + 1) piece))))
 
 -- a byte after which more is waited for
-pub reach-wait : (n : ℕ) (f : Form) (t : Tally) (b : ℕ) (bs : List ℕ) → heardCode f (taking t b) ≡ 0
-    → reaching n f t (b ∷ bs) ≡ reaching (n + 1) f (taking t b) bs
+pub reach-wait : (n : ℕ) (f : Form) (t : Tally) (b : ℕ) (bs : List ℕ) → heardCode f (takingByte t b) ≡ 0
+    → reaching n f t (b ∷ bs) ≡ reaching (n + 1) f (takingByte t b) bs
 unfolding reaching
-reach-wait n f t b bs w = rw (settled-by (n + 1) f (taking t b) w refl)
+reach-wait n f t b bs w = rw (settled-by (n + 1) f (takingByte t b) w refl)
 
 -- the header is listed and the packet not whole
-pub heard-waits : (f : Form) (t : Tally) → 2 ≤ t .taken → listed (formNow t) ≡ true → t .taken < totalOf (formNow t) → heardCode f t ≡ 0
+pub heard-waits : (f : Form) (t : Tally) → 2 ≤ t .come → listedForm (formComing t) ≡ true → t .come < totalOf (formComing t) → heardCode f t ≡ 0
 heard-waits f t some ok short = heard-by f t (le-ltb _ _ some) ok (lt-ltb _ _ short) refl refl refl
 
 -- ---- samples
 
-pub taking-sample : (t : Tally) (b : ℕ) → 4 ≤ t .taken → taking t b ≡ skipped t 1
-unfolding taking
+pub taking-sample : (t : Tally) (b : ℕ) → 4 ≤ t .come → takingByte t b ≡ skipped t 1
+unfolding takingByte
 taking-sample t b past = rw (other 0 (omega arith), other (0 + 1) (omega arith), other 2 (omega arith), other (2 + 1) (omega arith))
   where
-    other : (place : ℕ) → place < 4 → eqb (t .taken) place ≡ false
-    other place early = ne-eqb (t .taken) place (λ e. omega arith)
+    other : (place : ℕ) → place < 4 → eqb (t .come) place ≡ false
+    other place early = ne-eqb (t .come) place (λ e. omega arith)
 
 pub reach-skip : (xs ys : List ℕ) (n : ℕ) (f : Form) (t : Tally) → Samples t (length xs)
     → reaching n f t (xs ++ ys) ≡ reaching (n + length xs) f (skipped t (length xs)) ys
-reach-skip [] ys n f t s = rw (add-zero n, add-zero (t .taken))
+reach-skip [] ys n f t s = rw (add-zero n, add-zero (t .come))
 reach-skip (x ∷ xs) ys n f t s =
-    let one : taking t x ≡ skipped t 1 = taking-sample t x (s .past) in
-    let past : 4 ≤ t .taken = s .past in
-    let short : t .taken + suc (length xs) < totalOf (formNow t) = s .short in
-    let waits : heardCode f (taking t x) ≡ 0 = rw one (heard-waits f (skipped t 1) (omega arith) (s .form) (omega arith)) in
+    let one : takingByte t x ≡ skipped t 1 = taking-sample t x (s .past) in
+    let past : 4 ≤ t .come = s .past in
+    let short : t .come + suc (length xs) < totalOf (formComing t) = s .short in
+    let waits : heardCode f (takingByte t x) ≡ 0 = rw one (heard-waits f (skipped t 1) (omega arith) (s .form) (omega arith)) in
     let rest : reaching (n + 1) f (skipped t 1) (xs ++ ys) ≡ reaching (n + 1 + length xs) f (skipped (skipped t 1) (length xs)) ys
     = reach-skip xs ys (n + 1) f (skipped t 1) (record { past = omega arith; form = s .form; short = omega arith }) in
     let count : n + 1 + length xs ≡ n + suc (length xs) = omega arith in
-    let bytes : t .taken + 1 + length xs ≡ t .taken + suc (length xs) = omega arith in
+    let bytes : t .come + 1 + length xs ≡ t .come + suc (length xs) = omega arith in
     reach-wait n f t x (xs ++ ys) waits ∙ ap (λ (u : Tally). reaching (n + 1) f u (xs ++ ys)) one ∙ rest ∙ rw (count, bytes)
 
 -- ---- a whole packet
 
 -- a tally with so many bytes of a packet taken
 abbrev pub tallied : Tally → ℕ → ℕ → ℕ → Tally
-tallied t taken header number =
+tallied t come header number =
     record {
       begins = t .begins;
-      taken = taken;
+      come = come;
       header = header;
       number = number;
       captures = t .captures;
@@ -90,10 +90,10 @@ tallied t taken header number =
     }
 
 -- the first four bytes of a packet whose header is listed
-pub reach-front : (n : ℕ) (f : Form) (t : Tally) (a b c d : ℕ) (rest : List ℕ) → t .taken ≡ 0
-    → listed (formWithHeader (lowHigh a b)) ≡ true → 4 < totalOf (formWithHeader (lowHigh a b))
+pub reach-front : (n : ℕ) (f : Form) (t : Tally) (a b c d : ℕ) (rest : List ℕ) → t .come ≡ 0
+    → listedForm (formWithHeader (lowHigh a b)) ≡ true → 4 < totalOf (formWithHeader (lowHigh a b))
     → reaching n f t (a ∷ b ∷ c ∷ d ∷ rest) ≡ reaching (n + 4) f (tallied t 4 (lowHigh a b) (lowHigh c d)) rest
-unfolding taking
+unfolding takingByte
 reach-front n f t a b c d rest none ok long =
     let none-in : Tally = tallied t 0 (t .header) (t .number) in
     let one-in : Tally = tallied t 1 a (t .number) in
@@ -101,10 +101,10 @@ reach-front n f t a b c d rest none ok long =
     let three-in : Tally = tallied t 3 (lowHigh a b) c in
     let four-in : Tally = tallied t 4 (lowHigh a b) (lowHigh c d) in
     let start : t ≡ none-in = ap (λ (k : ℕ). tallied t k (t .header) (t .number)) none in
-    let first : heardCode f (taking none-in a) ≡ 0 = heard-by f one-in refl refl refl refl refl refl in
-    let second : heardCode f (taking one-in b) ≡ 0 = heard-waits f two-in (omega arith) ok (omega arith) in
-    let third : heardCode f (taking two-in c) ≡ 0 = heard-waits f three-in (omega arith) ok (omega arith) in
-    let fourth : heardCode f (taking three-in d) ≡ 0 = heard-waits f four-in (omega arith) ok (omega arith) in
+    let first : heardCode f (takingByte none-in a) ≡ 0 = heard-by f one-in refl refl refl refl refl refl in
+    let second : heardCode f (takingByte one-in b) ≡ 0 = heard-waits f two-in (omega arith) ok (omega arith) in
+    let third : heardCode f (takingByte two-in c) ≡ 0 = heard-waits f three-in (omega arith) ok (omega arith) in
+    let fourth : heardCode f (takingByte three-in d) ≡ 0 = heard-waits f four-in (omega arith) ok (omega arith) in
     let count : n + 1 + 1 + 1 + 1 ≡ n + 4 = omega arith in
     ap (λ (u : Tally). reaching n f u (a ∷ b ∷ c ∷ d ∷ rest)) start
     ∙ reach-wait n f none-in a (b ∷ c ∷ d ∷ rest) first
@@ -114,15 +114,15 @@ reach-front n f t a b c d rest none ok long =
     ∙ ap (λ (k : ℕ). reaching k f four-in rest) count
 
 -- all bytes of a packet whose header is listed: the last one decides
-pub reach-whole : (n : ℕ) (f : Form) (t : Tally) (a b c d : ℕ) (xs : List ℕ) (z : ℕ) (ys : List ℕ) → t .taken ≡ 0
-    → listed (formWithHeader (lowHigh a b)) ≡ true → length xs + 5 ≡ totalOf (formWithHeader (lowHigh a b))
+pub reach-whole : (n : ℕ) (f : Form) (t : Tally) (a b c d : ℕ) (xs : List ℕ) (z : ℕ) (ys : List ℕ) → t .come ≡ 0
+    → listedForm (formWithHeader (lowHigh a b)) ≡ true → length xs + 5 ≡ totalOf (formWithHeader (lowHigh a b))
     → reaching n f t (a ∷ b ∷ c ∷ d ∷ (xs ++ z ∷ ys))
     ≡ goesOn f (settled (n + (length xs + 5)) f (tallied t (length xs + 5) (lowHigh a b) (lowHigh c d))) ys
 reach-whole n f t a b c d xs z ys none ok long =
     let front : Tally = tallied t 4 (lowHigh a b) (lowHigh c d) in
     let past : Samples front (length xs) = record { past = omega arith; form = ok; short = omega arith } in
     let before : Tally = skipped front (length xs) in
-    let last : taking before z ≡ tallied t (length xs + 5) (lowHigh a b) (lowHigh c d)
+    let last : takingByte before z ≡ tallied t (length xs + 5) (lowHigh a b) (lowHigh c d)
     = taking-sample before z (omega arith) ∙ ap (λ (k : ℕ). tallied t k (lowHigh a b) (lowHigh c d)) (omega arith) in
     let count : n + 4 + length xs + 1 ≡ n + (length xs + 5) = omega arith in
     reach-front n f t a b c d (xs ++ z ∷ ys) none ok (omega arith)
@@ -157,10 +157,10 @@ packet-parts p at k room =
 same-self : (f : Form) → sameForm f f ≡ true
 same-self f = rw (eq-eqb (f .bits) (f .bits) refl, eq-eqb (f .pairs) (f .pairs) refl)
 
-pub form-with-own : (f : Form) → listed f ≡ true → formWithHeader (headerOf typeData (totalOf f)) ≡ f
+pub form-with-own : (f : Form) → listedForm f ≡ true → formWithHeader (headerOf typeData (totalOf f)) ≡ f
 form-with-own f l = same-is _ _ (of-listed (λ g. sameForm (formWithHeader (headerOf typeData (totalOf g))) g) refl f l)
 
-pub total-least : (f : Form) → listed f ≡ true → 388 ≤ totalOf f
+pub total-least : (f : Form) → listedForm f ≡ true → 388 ≤ totalOf f
 total-least f l = leb-true _ _ (of-listed (λ g. leb 388 (totalOf g)) refl f l)
 
 -- the tally after a packet of so many bytes with a number above 0, in the open capture, at a position
@@ -168,7 +168,7 @@ abbrev pub followed : Tally → ℕ → ℕ → Tally
 followed t total q =
     record {
       begins = t .begins + total;
-      taken = 0;
+      come = 0;
       header = 0;
       number = 0;
       captures = t .captures;
@@ -178,7 +178,7 @@ followed t total q =
 
 -- such a packet is accepted, and brings no line
 module _
-    (f : Form) (t : Tally) (ok : listed f ≡ true) (form : formNow t ≡ f) (whole : t .taken ≡ totalOf f)
+    (f : Form) (t : Tally) (ok : listedForm f ≡ true) (form : formComing t ≡ f) (whole : t .come ≡ totalOf f)
     (some : 0 < t .heard) (above : 0 < t .number)
     (q : ℕ) (here : q ≡ t .position + stepOf (numberAt (t .position)) (t .number)) (fits : q ≤ last) where
   numbered : eqb (t .number) 0 ≡ false
@@ -189,20 +189,20 @@ module _
 
   pub quiet-code : heardCode f t ≡ 1
   quiet-code =
-      heard-by f t (le-ltb (t .taken) 2 (omega (arith, whole, total-least f ok))) (ap listed form ∙ ok)
-      (le-ltb (t .taken) (totalOf (formNow t)) (omega (arith, whole, ap totalOf form)))
+      heard-by f t (le-ltb (t .come) 2 (omega (arith, whole, total-least f ok))) (ap listedForm form ∙ ok)
+      (le-ltb (t .come) (totalOf (formComing t)) (omega (arith, whole, ap totalOf form)))
       (ap (λ (g : Form). sameForm g f) form ∙ same-self f)
       (and-not-right (not (eqb (t .number) 0)) (eqb (t .heard) 0) (ne-eqb (t .heard) 0 (λ e. omega arith)))
       (le-ltb last (positionNow t) (omega (arith, goes-to, fits)))
 
-  pub quiet-accepting : accepting t ≡ followed t (t .taken) q
+  pub quiet-accepting : accepting t ≡ followed t (t .come) q
   unfolding accepting
   quiet-accepting = rw (numbered, here)
 
   pub quiet-settled : (n : ℕ) → settled n f t ≡ record { at = n; code = 0; tally = accepting t }
   quiet-settled n = settled-by n f t quiet-code (and-not-left (eqb (t .number) 0) (not (eqb (t .heard) 0)) numbered)
 
-follows-of : (f : Form) (t : Tally) (piece : List ℕ) (at k q : ℕ) → listed f ≡ true → t .taken ≡ 0 → 0 < t .heard → k + 5 ≡ totalOf f
+follows-of : (f : Form) (t : Tally) (piece : List ℕ) (at k q : ℕ) → listedForm f ≡ true → t .come ≡ 0 → 0 < t .heard → k + 5 ≡ totalOf f
     → Follows piece at (headerOf typeData (totalOf f)) (k + 5) (numberAt (t .position)) (t .position) q
     → reaching at f t (drop at piece) ≡ reaching (at + (k + 5)) f (followed t (k + 5) q) (drop (at + (k + 5)) piece)
 unfolding goesOn
@@ -219,12 +219,12 @@ follows-of f t piece at k q ok none some long x =
     let packet : Tally = tallied t (k + 5) (twoAt piece at) (twoAt piece (at + 2)) in
     ap (reaching at f t) (packet-parts piece at k (x .room))
     ∙ reach-whole at f t (getD piece at 0) (getD piece (at + 1) 0) (getD piece (at + 2) 0) (getD piece (at + 3) 0) xs z ys
-    none (ap listed form ∙ ok) size
+    none (ap listedForm form ∙ ok) size
     ∙ rw (counted, number) refl
     ∙ ap (λ (r : Reach). goesOn f r ys) (quiet-settled f packet ok form long some (x .above) q (x .here) (x .fits) (at + (k + 5)))
     ∙ ap (λ (u : Tally). reaching (at + (k + 5)) f u ys) (quiet-accepting f packet ok form long some (x .above) q (x .here) (x .fits))
 
-pub reach-follows : (f : Form) (t : Tally) (piece : List ℕ) (at total q : ℕ) → listed f ≡ true → t .taken ≡ 0 → 0 < t .heard
+pub reach-follows : (f : Form) (t : Tally) (piece : List ℕ) (at total q : ℕ) → listedForm f ≡ true → t .come ≡ 0 → 0 < t .heard
     → total ≡ totalOf f
     → Follows piece at (headerOf typeData (totalOf f)) total (numberAt (t .position)) (t .position) q
     → reaching at f t (drop at piece) ≡ reaching (at + total) f (followed t total q) (drop (at + total) piece)

@@ -8,7 +8,7 @@ use native.Mathlib.Omega.{arith}
 use lib.ListN.{length, drop}
 use Rattle.wire.specs.Header.{headerOf, typeData}
 use Rattle.packets.specs.declared.Form.{Form}
-use Rattle.packets.specs.Forms.{totalOf, listed, formWithHeader}
+use Rattle.packets.specs.Forms.{totalOf, listedForm, formWithHeader}
 use Rattle.packets.specs.Numbers.{numberAt, stepOf, last}
 use Rattle.packets.proofs.Numbers.{step-above, step-not-above}
 use Rattle.hearing.specs.declared.Tally.{Tally}
@@ -40,7 +40,7 @@ abbrev pub tallyAt : Tally → ℕ → ℕ → ℕ → ℕ → Tally
 tallyAt t from at heard position =
     record {
       begins = t .begins + (at - from);
-      taken = 0;
+      come = 0;
       header = 0;
       number = 0;
       captures = t .captures;
@@ -48,8 +48,8 @@ tallyAt t from at heard position =
       position = position;
     }
 
-same-tally : (t : Tally) {a b c d : ℕ} → a ≡ t .begins → b ≡ t .taken → c ≡ t .header → d ≡ t .number
-    → record { begins = a; taken = b; header = c; number = d; captures = t .captures; heard = t .heard; position = t .position } ≡ t
+same-tally : (t : Tally) {a b c d : ℕ} → a ≡ t .begins → b ≡ t .come → c ≡ t .header → d ≡ t .number
+    → record { begins = a; come = b; header = c; number = d; captures = t .captures; heard = t .heard; position = t .position } ≡ t
 same-tally t p q r s = rw (p, q, r, s)
 
 -- What holds between two of them. The form is known by the header.
@@ -67,7 +67,7 @@ pub record Onward (t : Tally) (piece : List ℕ) (from total front at heard posi
 
 module _
     (f : Form) (t : Tally) (piece : List ℕ) (from total front : ℕ)
-    (ok : listed f ≡ true) (long : total ≡ totalOf f) (is-front : front ≡ headerOf typeData (totalOf f)) where
+    (ok : listedForm f ≡ true) (long : total ≡ totalOf f) (is-front : front ≡ headerOf typeData (totalOf f)) where
   pub form-is : formWithHeader front ≡ f
   form-is = ap formWithHeader is-front ∙ form-with-own f ok
 
@@ -86,7 +86,7 @@ module _
         follows = follows;
         same =
             ap (λ (u : Tally). reaching from (formWithHeader front) u (drop from piece))
-            (same-tally t none (sym (b .taken)) (sym (b .header)) (sym (b .number)));
+            (same-tally t none (sym (b .come)) (sym (b .header)) (sym (b .number)));
       }
 
   pub onward-turn : (at heard position number next after last′ : ℕ)

@@ -8,7 +8,7 @@ use lib.Dec.{eqb, leb, ltb}
 use Rattle.wire.specs.Choice.{pick, Check, check, firstOf}
 use Rattle.wire.specs.Codes as Code
 use Rattle.packets.specs.declared.Form.{Form}
-use Rattle.packets.specs.Forms.{sameForm, totalOf, listed, formWithHeader}
+use Rattle.packets.specs.Forms.{sameForm, totalOf, listedForm, formWithHeader}
 use Rattle.packets.specs.Numbers.{last}
 use Rattle.reader.specs.declared.Reader.{Reader}
 use Rattle.reader.specs.Reading.{positionAfter}
@@ -24,9 +24,9 @@ farthest = 0x8000_0000_0000_0000
 
 -- Each count within its range: the input byte, no more packets or captures than bytes, and a position that there is. A tally
 -- outside it is broken (21).
-abbrev pub inRange : Tally → Bool
-inRange t =
-    leb (t .begins + t .taken) farthest
+abbrev pub tallyInRange : Tally → Bool
+tallyInRange t =
+    leb (t .begins + t .come) farthest
     && leb (t .heard) (t .begins)
     && leb (t .captures) (t .begins)
     && leb (t .position) last
@@ -39,28 +39,28 @@ lowHigh low high = low % 256 + 256 * high
 
 -- a 16-bit field that begins at a place of the packet, after one byte more
 abbrev pub fieldWith : ℕ → ℕ → ℕ → ℕ → ℕ
-fieldWith place taken field b = pick (eqb taken place) b (pick (eqb taken (place + 1)) (lowHigh field b) field)
+fieldWith place come field b = pick (eqb come place) b (pick (eqb come (place + 1)) (lowHigh field b) field)
 
 -- One byte of the packet more. "Header, 16-bit packet number, then I and Q in turn": all but the first four are skipped.
-unfoldable pub taking : Tally → ℕ → Tally
-taking t b =
+unfoldable pub takingByte : Tally → ℕ → Tally
+takingByte t b =
     record {
       begins = t .begins;
-      taken = t .taken + 1;
-      header = fieldWith 0 (t .taken) (t .header) b;
-      number = fieldWith 2 (t .taken) (t .number) b;
+      come = t .come + 1;
+      header = fieldWith 0 (t .come) (t .header) b;
+      number = fieldWith 2 (t .come) (t .number) b;
       captures = t .captures;
       heard = t .heard;
       position = t .position;
     }
 
 -- the form that the header has
-abbrev pub formNow : Tally → Form
-formNow t = formWithHeader (t .header)
+abbrev pub formComing : Tally → Form
+formComing t = formWithHeader (t .header)
 
 -- the packet reader in the open capture
 abbrev pub readerNow : Tally → Reader
-readerNow t = record { heard = not (eqb (t .heard) 0); position = t .position; form = formNow t }
+readerNow t = record { heard = not (eqb (t .heard) 0); position = t .position; form = formComing t }
 
 -- the position that the packet has
 abbrev pub positionNow : Tally → ℕ
@@ -74,10 +74,10 @@ lacksFirst t = not (eqb (t .number) 0) && eqb (t .heard) 0
 -- all else waits for the whole packet.
 abbrev pub heardChecks : Form → Tally → List Check
 heardChecks f t =
-    check Code.waiting (ltb (t .taken) 2)
-    ∷ check Code.notAPacket (not (listed (formNow t)))
-    ∷ check Code.waiting (ltb (t .taken) (totalOf (formNow t)))
-    ∷ check Code.formChanged (not (sameForm (formNow t) f))
+    check Code.waiting (ltb (t .come) 2)
+    ∷ check Code.notAPacket (not (listedForm (formComing t)))
+    ∷ check Code.waiting (ltb (t .come) (totalOf (formComing t)))
+    ∷ check Code.formChanged (not (sameForm (formComing t) f))
     ∷ check Code.noFirstPacket (lacksFirst t)
     ∷ check Code.pastLast (ltb last (positionNow t))
     ∷ []
@@ -89,8 +89,8 @@ heardCode f t = firstOf (heardChecks f t) Code.done
 unfoldable pub accepting : Tally → Tally
 accepting t =
     record {
-      begins = t .begins + t .taken;
-      taken = 0;
+      begins = t .begins + t .come;
+      come = 0;
       header = 0;
       number = 0;
       captures = pick (eqb (t .number) 0) (t .captures + 1) (t .captures);
@@ -114,8 +114,8 @@ settled n f t =
 unfoldable pub reaching : ℕ → Form → Tally → List ℕ → Reach
 reaching n f t [] = record { at = n; code = Code.waiting; tally = t }
 reaching n f t (b ∷ bs) =
-    pick (eqb (settled (n + 1) f (taking t b) .code) Code.waiting) (reaching (n + 1) f (settled (n + 1) f (taking t b) .tally) bs)
-    (settled (n + 1) f (taking t b))
+    pick (eqb (settled (n + 1) f (takingByte t b) .code) Code.waiting) (reaching (n + 1) f (settled (n + 1) f (takingByte t b) .tally) bs)
+    (settled (n + 1) f (takingByte t b))
 
 -- ---- a piece
 
@@ -129,4 +129,4 @@ outcome r = record { reach = r; next = nextTally r }
 -- 21 for a broken tally or a form that is not listed
 unfoldable pub hearingOf : Form → Tally → List ℕ → Outcome
 hearingOf f t piece =
-    pick (inRange t && listed f) (outcome (reaching 0 f t piece)) (outcome (record { at = 0; code = Code.broken; tally = t }))
+    pick (tallyInRange t && listedForm f) (outcome (reaching 0 f t piece)) (outcome (record { at = 0; code = Code.broken; tally = t }))

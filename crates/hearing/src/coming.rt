@@ -2,7 +2,7 @@
 ghost use mathlib.Core.Path.{_≡_};
 ghost use Prim.Native.Nat.{_+_, _≤_, _<_};
 ghost use Rattle.packets.specs.Numbers.{last};
-ghost use Rattle.hearing.specs.Hearing.{inRange, fieldWith, taking, positionNow, lacksFirst, heardCode, accepting, closes, settled};
+ghost use Rattle.hearing.specs.Hearing.{tallyInRange, fieldWith, takingByte, positionNow, lacksFirst, heardCode, accepting, closes, settled};
 ghost use Rattle.hearing.specs.Inside.{Sane};
 use crate::FARTHEST;
 use crate::Reach;
@@ -12,12 +12,12 @@ use wire::codes;
 
 // Whether each count of a tally is within its range. A tally that is not is broken.
 pub fn in_range(t: Tally) -> bool
-    ensures { λ r. ⌜ r ≡ inRange t ⌝ }
+    ensures { λ r. ⌜ r ≡ tallyInRange t ⌝ }
 {
     if FARTHEST < t.begins {
         return false;
     }
-    if FARTHEST - t.begins < t.taken {
+    if FARTHEST - t.begins < t.come {
         return false;
     }
     if t.begins < t.heard {
@@ -30,14 +30,14 @@ pub fn in_range(t: Tally) -> bool
 }
 
 // A 16-bit field that begins at a place of the packet, after one byte more.
-fn field_with(place: u64, taken: u64, field: u16, b: u8) -> u16
+fn field_with(place: u64, come: u64, field: u16, b: u8) -> u16
     requires { ⌜ place ≤ 2 ⌝ }
-    ensures { λ r. ⌜ r ≡ fieldWith place taken field b ⌝ }
+    ensures { λ r. ⌜ r ≡ fieldWith place come field b ⌝ }
 {
-    if taken == place {
+    if come == place {
         return b as u16;
     }
-    if taken == place + 1 {
+    if come == place + 1 {
         return field % 256 + 256 * b as u16;
     }
     field
@@ -45,13 +45,13 @@ fn field_with(place: u64, taken: u64, field: u16, b: u8) -> u16
 
 // One byte of the packet more.
 pub(crate) fn take_byte(t: Tally, b: u8) -> Tally
-    requires { ⌜ t .taken + 1 < 0x1_0000_0000_0000_0000 ⌝ }
-    ensures { λ r. ⌜ r ≡ taking t b ⌝ }
+    requires { ⌜ t .come + 1 < 0x1_0000_0000_0000_0000 ⌝ }
+    ensures { λ r. ⌜ r ≡ takingByte t b ⌝ }
 {
     let mut next = t;
-    next.taken = t.taken + 1;
-    next.header = field_with(0, t.taken, t.header, b);
-    next.number = field_with(2, t.taken, t.number, b);
+    next.come = t.come + 1;
+    next.header = field_with(0, t.come, t.header, b);
+    next.number = field_with(2, t.come, t.number, b);
     next
 }
 
@@ -81,14 +81,14 @@ fn code_of(f: Form, t: Tally) -> u8
     requires { ⌜ t .position ≤ last ⌝ }
     ensures { λ r. ⌜ r ≡ heardCode f t ⌝ }
 {
-    if t.taken < 2 {
+    if t.come < 2 {
         return codes::WAITING;
     }
     let now = packets::form_of_header(t.header);
     if !packets::is_listed(now) {
         return codes::NOT_A_PACKET;
     }
-    if t.taken < packets::total_of(now) {
+    if t.come < packets::total_of(now) {
         return codes::WAITING;
     }
     if !packets::same_form(now, f) {
@@ -105,15 +105,15 @@ fn code_of(f: Form, t: Tally) -> u8
 
 // The tally after an accepted packet.
 pub(crate) fn accept(t: Tally) -> Tally
-    requires { ⌜ Sane 0 t × (0 < t .taken) ⌝ }
+    requires { ⌜ Sane 0 t × (0 < t .come) ⌝ }
     ensures { λ r. ⌜ r ≡ accepting t ⌝ }
 {
     let position = position_now(t);
-    let begins = t.begins + t.taken;
+    let begins = t.begins + t.come;
     if t.number == 0 {
         return Tally {
             begins,
-            taken: 0,
+            come: 0,
             header: 0,
             number: 0,
             captures: t.captures + 1,
@@ -123,7 +123,7 @@ pub(crate) fn accept(t: Tally) -> Tally
     }
     Tally {
         begins,
-        taken: 0,
+        come: 0,
         header: 0,
         number: 0,
         captures: t.captures,
@@ -145,7 +145,7 @@ fn closes(t: Tally) -> bool
 // Settles what the bytes of a packet come to, with n bytes taken in all: more are waited for, or the packet is accepted, or
 // a line is due.
 pub(crate) fn settle(n: usize, f: Form, t: Tally) -> Reach
-    requires { ⌜ Sane 0 t × (0 < t .taken) ⌝ }
+    requires { ⌜ Sane 0 t × (0 < t .come) ⌝ }
     ensures { λ r. ⌜ r ≡ settled n f t ⌝ }
 {
     let code = code_of(f, t);

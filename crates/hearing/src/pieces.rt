@@ -4,7 +4,7 @@ ghost use Prim.Native.Nat.{_+_, _-_, _≤_, _<_};
 ghost use mathlib.Core.Bool.{true};
 ghost use lib.ListN.{length};
 ghost use Rattle.wire.specs.Codes as Code;
-ghost use Rattle.packets.specs.Forms.{listed};
+ghost use Rattle.packets.specs.Forms.{listedForm};
 ghost use Rattle.packets.specs.Numbers.{last};
 ghost use Rattle.hearing.specs.Hearing.{nextTally, outcome, hearingOf};
 ghost use Rattle.hearing.specs.Inside.{Sane, Goes, Between, Follows, Samples, Hears, skipped, wordAt};
@@ -25,7 +25,7 @@ use wire::types;
 fn is_between(t: Tally) -> bool
     ensures { λ r. ⌜ (r ≡ true → Between t) ⌝ }
 {
-    if t.taken != 0 {
+    if t.come != 0 {
         return false;
     }
     if t.header != 0 {
@@ -37,18 +37,12 @@ fn is_between(t: Tally) -> bool
     t.heard != 0
 }
 
-fn wide(b: u8) -> u32
-    ensures { λ r. ⌜ (r ≡ b) × (r < 256) ⌝ }
-{
-    b as u32
-}
-
-// The four bytes at a place as one number, in one flat sum: the compiler makes one load of it.
-fn word(s: &[u8], at: usize) -> u32
+// The four bytes at a place that the slice has, as one number. (`wire::number_at` looks first whether the slice has them.)
+fn word_at(s: &[u8], at: usize) -> u32
     requires { ⌜ at + 4 ≤ length (now s) ⌝ }
     ensures { λ r. ⌜ r ≡ wordAt (now (s .entry)) at ⌝ }
 {
-    wide(s[at]) + 256 * wide(s[at + 1]) + 65536 * wide(s[at + 2]) + 16777216 * wide(s[at + 3])
+    wire::word(s[at], s[at + 1], s[at + 2], s[at + 3])
 }
 
 // The position of the packet that begins at a place of the piece, where it is whole, has this header and a number above
@@ -60,7 +54,7 @@ fn follow(piece: &[u8], at: usize, header: u32, total: usize, before: u16, posit
     if piece.len() - at < total {
         return 0;
     }
-    let front = word(piece, at);
+    let front = word_at(piece, at);
     if front % 65536 != header {
         return 0;
     }
@@ -77,7 +71,7 @@ fn follow(piece: &[u8], at: usize, header: u32, total: usize, before: u16, posit
 
 // Takes whole packets of the capture's form, as long as they follow in the open capture and no line is due.
 fn whole_packets(f: Form, t: Tally, piece: &[u8], from: usize) -> Reach
-    requires { ⌜ (listed f ≡ true) × (from ≤ length (now piece)) × Sane (length (now piece) - from) t ⌝ }
+    requires { ⌜ (listedForm f ≡ true) × (from ≤ length (now piece)) × Sane (length (now piece) - from) t ⌝ }
     ensures { λ r. ⌜ Goes f t (now (piece .entry)) from r × (from ≤ r .at) ⌝ }
 {
     if !is_between(t) {
@@ -96,7 +90,7 @@ fn whole_packets(f: Form, t: Tally, piece: &[u8], from: usize) -> Reach
     let mut next = follow(piece, at, header, total, before, position);
     while 0 < next {
         position = next;
-        before = (word(piece, at) / 65536) as u16;
+        before = (word_at(piece, at) / 65536) as u16;
         heard += 1;
         at += total;
         next = follow(piece, at, header, total, before, position);
@@ -106,7 +100,7 @@ fn whole_packets(f: Form, t: Tally, piece: &[u8], from: usize) -> Reach
         code: codes::WAITING,
         tally: Tally {
             begins: t.begins + (at - from) as u64,
-            taken: 0,
+            come: 0,
             header: 0,
             number: 0,
             captures: t.captures,
@@ -122,14 +116,14 @@ fn whole_packets(f: Form, t: Tally, piece: &[u8], from: usize) -> Reach
 fn skippable(t: Tally, rest: usize) -> usize
     ensures { λ r. ⌜ (r ≤ rest) × (0 < r → Samples t r) ⌝ }
 {
-    if t.taken < 4 {
+    if t.come < 4 {
         return 0;
     }
     let total = packets::total_of(packets::form_of_header(t.header));
-    if total <= t.taken {
+    if total <= t.come {
         return 0;
     }
-    let left = (total - 1 - t.taken) as usize;
+    let left = (total - 1 - t.come) as usize;
     if rest < left {
         return rest;
     }
@@ -137,17 +131,17 @@ fn skippable(t: Tally, rest: usize) -> usize
 }
 
 fn skip(t: Tally, k: usize) -> Tally
-    requires { ⌜ t .taken + k < 0x1_0000_0000_0000_0000 ⌝ }
+    requires { ⌜ t .come + k < 0x1_0000_0000_0000_0000 ⌝ }
     ensures { λ r. ⌜ r ≡ skipped t k ⌝ }
 {
     let mut next = t;
-    next.taken = t.taken + k as u64;
+    next.come = t.come + k as u64;
     next
 }
 
 // Takes some of a piece from a place on: whole packets, or samples, or one byte.
 fn hear_some(f: Form, t: Tally, piece: &[u8], at: usize) -> Reach
-    requires { ⌜ (listed f ≡ true) × (at < length (now piece)) × Sane (length (now piece) - at) t ⌝ }
+    requires { ⌜ (listedForm f ≡ true) × (at < length (now piece)) × Sane (length (now piece) - at) t ⌝ }
     ensures { λ r. ⌜ Goes f t (now (piece .entry)) at r × (at < r .at) ⌝ }
 {
     let r = whole_packets(f, t, piece, at);
@@ -167,7 +161,7 @@ fn hear_some(f: Form, t: Tally, piece: &[u8], at: usize) -> Reach
 
 // Takes a piece, until a line is due or the piece is used up.
 fn hear_all(f: Form, t: Tally, piece: &[u8]) -> Reach
-    requires { ⌜ (listed f ≡ true) × Sane (length (now piece)) t ⌝ }
+    requires { ⌜ (listedForm f ≡ true) × Sane (length (now piece)) t ⌝ }
     ensures { λ r. ⌜ Hears f t (now (piece .entry)) r ⌝ }
 {
     let mut at = 0;
@@ -190,7 +184,7 @@ fn hear_all(f: Form, t: Tally, piece: &[u8]) -> Reach
 
 // The tally with which hearing goes on from what was reached.
 fn next_tally(r: Reach) -> Tally
-    requires { ⌜ (r .code ≡ Code.done → Sane 0 (r .tally) × (0 < r .tally .taken)) ⌝ }
+    requires { ⌜ (r .code ≡ Code.done → Sane 0 (r .tally) × (0 < r .tally .come)) ⌝ }
     ensures { λ t. ⌜ t ≡ nextTally r ⌝ }
 {
     if r.code == codes::DONE {

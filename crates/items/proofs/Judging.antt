@@ -12,7 +12,7 @@ use Rattle.wire.proofs.Laws.{true-not-false, and-left, and-right, pick-keeps}
 use Rattle.wire.specs.Choice.{pick, Check, firstOf, Absent}
 use Rattle.wire.proofs.Checks.{absent, first-stops, first-goes-on, given-has}
 use Rattle.items.specs.declared.Settings.{Settings}
-use Rattle.items.specs.Items.{Item, rowOf, frequency, listed}
+use Rattle.items.specs.Items.{Item, rowOf, frequency, listedItem}
 use Rattle.items.specs.Header.{headerChecks}
 use Rattle.items.specs.Table.{offered, isTotal, tableChecks}
 use Rattle.items.specs.Answer.{Message, itemIn, row, parameters, valueAllowed, refusedRunning, itemChecks, itemCode, checks}
@@ -20,9 +20,9 @@ use Rattle.items.specs.Answer.{codeOf, settingsAfter, judgedOf, replyDue
 use Rattle.items.proofs.Rows.{_then_, found, row-code}
 
 -- "the only range request" is that of the frequency
-only-range : (size code : ℕ) → isTotal (rowOf code .range) size ≡ true → rowOf code ≡ frequency
+only-range : (size code : ℕ) → isTotal (rowOf code .onRange) size ≡ true → rowOf code ≡ frequency
 only-range size =
-    found (λ i. isTotal (i .range) size ≡ true → i ≡ frequency) no
+    found (λ i. isTotal (i .onRange) size ≡ true → i ≡ frequency) no
     (no then no then no then no then no then no then (λ e. refl) then no then no then no then no then tt)
   where
     no : {i : Item} → false ≡ true → i ≡ frequency
@@ -35,7 +35,7 @@ passed s m h = absent (checks s m) 1 refl h
 
 -- one by one
 module _ (s : Settings) (m : Message) (h : codeOf s m ≡ 1) where
-  pub is-listed : listed (itemIn m) ≡ true
+  pub is-listed : listedItem (itemIn m) ≡ true
   is-listed = not-false _ (passed s m h .1 .1 .1 .0)
 
   pub has-length : isTotal (offered (row m) (m .type)) (m .size) ≡ true
@@ -57,7 +57,7 @@ module _ (s : Settings) (m : Message) (h : codeOf s m ≡ 1) where
 
 module _ (s : Settings) (m : Message) where
   abbrev Header : List Check
-  Header = headerChecks (m .type) (m .size) (getD (m .held) 2 0)
+  Header = headerChecks (m .type) (m .size) (getD (m .bytes) 2 0)
 
   abbrev Table : List Check
   Table = tableChecks (itemIn m) (m .type) (m .size)

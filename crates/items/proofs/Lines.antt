@@ -12,8 +12,8 @@ use Rattle.wire.proofs.Laws.{pick-same}
 use Rattle.wire.proofs.Firm.{one-by}
 use Rattle.items.specs.declared.Expected.{Expected}
 use Rattle.items.specs.declared.Expected.the-variants.{Total, Unlisted, NotOffered}
-use Rattle.items.specs.Items.{Offer, total, dash, listed, rowOf}
-use Rattle.items.specs.Table.{told, offerTold, tableTold, tableChecks, offered, offerFor, isDash, isTotal}
+use Rattle.items.specs.Items.{Offer, total, dash, listedItem, rowOf}
+use Rattle.items.specs.Table.{expectedSays, offerTold, tableTold, tableChecks, offered, offerFor, isDash, isTotal}
 
 -- a line that has no set and no range
 pub asked-else : (kind request : ℕ) → (kind ≡ 1 → ⊥) → offerTold dash ≡ offerTold (offerFor dash (total request) dash kind)
@@ -34,7 +34,7 @@ abbrev pub codeBy : Told → ℕ → ℕ
 codeBy t size = pick (eqb (t .code) 1) (pick (eqb size (getD (t .values) 0 0)) 1 13) (t .code)
 
 pub code-by : (item kind size : ℕ) → codeBy (tableTold item kind) size ≡ firstOf (tableChecks item kind size) 1
-code-by item kind size = go (listed item) (offered (rowOf item) kind)
+code-by item kind size = go (listedItem item) (offered (rowOf item) kind)
   where
     by : (b : Bool) → pick {X = ℕ} b 1 13 ≡ pick (not b) 13 1
     by true = refl
@@ -51,12 +51,12 @@ code-by item kind size = go (listed item) (offered (rowOf item) kind)
 back : Told → Expected
 back t = pick (eqb (t .code) 1) (Total (getD (t .values) 0 0)) (pick (eqb (t .code) 12) Unlisted NotOffered)
 
-back-told : (e : Expected) → back (told e) ≡ e
+back-told : (e : Expected) → back (expectedSays e) ≡ e
 unfolding back
 back-told (Total n) = refl
 back-told Unlisted = refl
 back-told NotOffered = refl
 
 -- two cases of the enum that tell the same are the same
-pub told-one : (e f : Expected) → told e ≡ told f → e ≡ f
-told-one = one-by told back back-told
+pub told-one : (e f : Expected) → expectedSays e ≡ expectedSays f → e ≡ f
+told-one = one-by expectedSays back back-told

@@ -7,7 +7,7 @@ use lib.Dec.{eqb}
 use borrow.Author.Tests.{eqb-true}
 use Rattle.wire.specs.Choice.{pick}
 use Rattle.wire.proofs.Laws.{true-not-false}
-use Rattle.items.specs.Items.{Item, items, noItem, listedIn, listed, rowIn, rowOf}
+use Rattle.items.specs.Items.{Item, items, noItem, listedIn, listedItem, rowIn, rowOf}
 
 -- of each line, with its code
 abbrev pub Each : (ℕ → Item → Type 0) → List Item → Type 0
@@ -51,6 +51,6 @@ code-in (i ∷ is) code h = go (eqb code (i .code)) refl h (code-in is code)
     go true q h more = sym (eqb-true code (i .code) q)
     go false q h more = more h
 
-pub row-code : (code : ℕ) → listed code ≡ true → rowOf code .code ≡ code
-unfolding listed rowOf
+pub row-code : (code : ℕ) → listedItem code ≡ true → rowOf code .code ≡ code
+unfolding listedItem rowOf
 row-code code h = code-in items code h

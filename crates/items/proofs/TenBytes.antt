@@ -53,7 +53,7 @@ six-decide (a ∷ b ∷ c ∷ d ∷ e ∷ f ∷ p) long code =
 
 -- the message of a type and a length of which these bytes are held
 abbrev pub heldMessage : ℕ → ℕ → List ℕ → Message
-heldMessage type size held = record { type = type; size = size; held = held }
+heldMessage type size held = record { type = type; size = size; bytes = held }
 
 -- two messages of which a box makes the same
 pub record Same (s : Settings) (m n : Message) : Type 0 where

@@ -21,17 +21,17 @@ use Rattle.items.specs.Table.{tableChecks}
 pub record Message : Type 0 where
   pub type : ℕ
   pub size : ℕ
-  pub held : List ℕ
+  pub bytes : List ℕ
 
 -- "Control messages have a 16-bit item code after the header, then parameters."
 abbrev pub itemIn : Message → ℕ
-itemIn m = field 2 2 (m .held)
+itemIn m = field 2 2 (m .bytes)
 
 abbrev pub row : Message → Item
 row m = rowOf (itemIn m)
 
 abbrev pub parameters : Message → List ℕ
-parameters m = drop 4 (m .held)
+parameters m = drop 4 (m .bytes)
 
 -- "Channel for 0020 and 0038: 00, and on set also FF."
 abbrev pub channelAllowed : Echoed → ℕ → ℕ → Bool
@@ -63,7 +63,7 @@ itemCode i kind s p = firstOf (itemChecks i kind s p) Code.done
 -- "Codes 10 to 17 stand in order of checking (11 first)".
 abbrev pub checks : Settings → Message → List Check
 checks s m =
-    headerChecks (m .type) (m .size) (getD (m .held) 2 0)
+    headerChecks (m .type) (m .size) (getD (m .bytes) 2 0)
     ++ tableChecks (itemIn m) (m .type) (m .size)
     ++ itemChecks (row m) (m .type) s (parameters m)
 

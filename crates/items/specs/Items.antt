@@ -51,9 +51,9 @@ pub record Rule : Type 0 where
 -- One line of the table.
 pub record Item : Type 0 where
   pub code : ℕ
-  pub set : Offer
-  pub request : Offer
-  pub range : Offer
+  pub onSet : Offer
+  pub onRequest : Offer
+  pub onRange : Offer
   pub echoed : Echoed
   pub rule : Rule
 
@@ -225,8 +225,8 @@ sizeRule =
 -- ---- the table: item, set, request, range, channel byte or id, rule
 
 abbrev line : ℕ → Offer → Offer → Offer → Echoed → Rule → Item
-line code set request range echoed rule =
-    record { code = code; set = set; request = request; range = range; echoed = echoed; rule = rule }
+line code onSet onRequest onRange echoed rule =
+    record { code = code; onSet = onSet; onRequest = onRequest; onRange = onRange; echoed = echoed; rule = rule }
 
 abbrev pub name : Item
 name = line 0x0001 dash (total 4) dash noByte nameRule
@@ -281,8 +281,8 @@ items =
 abbrev pub listedIn : List Item → ℕ → Bool
 listedIn is code = anyOf (λ i. eqb code (i .code)) is
 
-unfoldable pub listed : ℕ → Bool
-listed code = listedIn items code
+unfoldable pub listedItem : ℕ → Bool
+listedItem code = listedIn items code
 
 -- no item: every kind is a dash
 abbrev pub noItem : Item

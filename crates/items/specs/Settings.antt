@@ -4,10 +4,10 @@ use mathlib.Core.Bool.{Bool, true, false, _&&_, _||_}
 use mathlib.Core.List.{List, [], _∷_, map}
 use lib.Dec.{leb, eqb}
 use lib.ListN.{length, replicate}
-use lib.IntN.{ℤ, pos, negsuc}
+use lib.IntN.{ℤ, pos}
 use Rattle.wire.specs.Choice.{pick, oneOf, within}
 use Rattle.wire.specs.Codes as Code
-use Rattle.wire.specs.Signed.{coded}
+use Rattle.wire.specs.Signed.{coded, minus}
 use Rattle.rates.specs.Rate.{isD}
 use Rattle.tuning.specs.Bands.{inBands}
 use Rattle.tuning.specs.Word.{isClock}
@@ -17,7 +17,7 @@ use Rattle.items.specs.declared.FreshSettings.{FreshSettings}
 
 -- RF gain: "signed byte 0, -10, -20 or -30"
 abbrev pub gains : List ℤ
-gains = pos 0 ∷ negsuc 9 ∷ negsuc 19 ∷ negsuc 29 ∷ []
+gains = pos 0 ∷ minus 10 ∷ minus 20 ∷ minus 30 ∷ []
 
 -- as a byte
 abbrev pub isGain : ℕ → Bool

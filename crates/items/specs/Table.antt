@@ -9,15 +9,15 @@ use Rattle.wire.specs.Told.{Told, tells}
 use Rattle.wire.specs.Header.{typeSet, typeRequest, typeRange}
 use Rattle.items.specs.declared.Expected.{Expected}
 use Rattle.items.specs.declared.Expected.the-variants.{Total, Unlisted, NotOffered}
-use Rattle.items.specs.Items.{Offer, total, dash, Item, listed, rowOf}
+use Rattle.items.specs.Items.{Offer, total, dash, Item, listedItem, rowOf}
 
 -- of a line's set, request and range the one for a kind; no other kind is offered
 abbrev pub offerFor : Offer → Offer → Offer → ℕ → Offer
-offerFor set request range kind =
-    pick (eqb kind typeSet) set (pick (eqb kind typeRequest) request (pick (eqb kind typeRange) range dash))
+offerFor onSet onRequest onRange kind =
+    pick (eqb kind typeSet) onSet (pick (eqb kind typeRequest) onRequest (pick (eqb kind typeRange) onRange dash))
 
 abbrev pub offered : Item → ℕ → Offer
-offered i kind = offerFor (i .set) (i .request) (i .range) kind
+offered i kind = offerFor (i .onSet) (i .onRequest) (i .onRange) kind
 
 -- What an entry of the table tells, in the numbers of "What comes back": 1 and the total length, or 14, "item known, this kind not
 -- offered".
@@ -27,13 +27,13 @@ offerTold dash = tells Code.notOffered []
 
 -- "item not in the list": 12
 abbrev pub tableTold : ℕ → ℕ → Told
-tableTold item kind = pick (listed item) (offerTold (offered (rowOf item) kind)) (tells Code.notListed [])
+tableTold item kind = pick (listedItem item) (offerTold (offered (rowOf item) kind)) (tells Code.notListed [])
 
 -- The same of the enum that the code answers with: the number and the value of each of its cases.
-abbrev pub told : Expected → Told
-told (Total n) = tells Code.done (n ∷ [])
-told Unlisted = tells Code.notListed []
-told NotOffered = tells Code.notOffered []
+abbrev pub expectedSays : Expected → Told
+expectedSays (Total n) = tells Code.done (n ∷ [])
+expectedSays Unlisted = tells Code.notListed []
+expectedSays NotOffered = tells Code.notOffered []
 
 abbrev pub isDash : Offer → Bool
 isDash (total n) = false
@@ -46,7 +46,7 @@ isTotal dash size = false
 -- "item not in the list", "item known, this kind not offered", "wrong length for item and kind", in the order of checking
 abbrev pub tableChecks : ℕ → ℕ → ℕ → List Check
 tableChecks item kind size =
-    check Code.notListed (not (listed item))
+    check Code.notListed (not (listedItem item))
     ∷ check Code.notOffered (isDash (offered (rowOf item) kind))
     ∷ check Code.wrongLength (not (isTotal (offered (rowOf item) kind) size))
     ∷ []

@@ -3,7 +3,7 @@ ghost use mathlib.Core.Path.{_≡_};
 ghost use Rattle.wire.specs.Choice.{firstOf};
 ghost use Rattle.wire.specs.Codes as Code;
 ghost use Rattle.items.specs.Items.{total, dash};
-ghost use Rattle.items.specs.Table.{told, offerTold, tableTold, tableChecks, offerFor};
+ghost use Rattle.items.specs.Table.{expectedSays, offerTold, tableTold, tableChecks, offerFor};
 use crate::Expected;
 use wire::codes;
 use wire::types;
@@ -33,7 +33,7 @@ pub const PACKET_SIZE: u16 = 0x00C4;
 
 // The length that an item has for a kind, or the refusal: 12 for an item not in the list, 14 for a dash.
 pub fn expected(item: u16, kind: u8) -> Expected
-    ensures { λ r. ⌜ told r ≡ tableTold item kind ⌝ }
+    ensures { λ r. ⌜ expectedSays r ≡ tableTold item kind ⌝ }
 {
     match item {
         NAME => asked(kind, 4),
@@ -58,7 +58,7 @@ pub fn expected(item: u16, kind: u8) -> Expected
 
 // The line of an item that can only be requested.
 fn asked(kind: u8, request: u16) -> Expected
-    ensures { λ r. ⌜ told r ≡ offerTold (offerFor dash (total request) dash kind) ⌝ }
+    ensures { λ r. ⌜ expectedSays r ≡ offerTold (offerFor dash (total request) dash kind) ⌝ }
 {
     match kind {
         types::REQUEST => Expected::Total(request),
@@ -68,7 +68,7 @@ fn asked(kind: u8, request: u16) -> Expected
 
 // The line of an item that can be set and requested.
 fn set_or_asked(kind: u8, set: u16, request: u16) -> Expected
-    ensures { λ r. ⌜ told r ≡ offerTold (offerFor (total set) (total request) dash kind) ⌝ }
+    ensures { λ r. ⌜ expectedSays r ≡ offerTold (offerFor (total set) (total request) dash kind) ⌝ }
 {
     match kind {
         types::SET => Expected::Total(set),

@@ -15,8 +15,7 @@ fn four_forms(s: Station) -> Station {
 }
 
 fn main() {
-    let began = station::fresh(b"MT123456");
-    let tuned = asking::evening(began.station);
+    let tuned = asking::evening(station::session_box());
     let heard = four_forms(tuned);
     // "The packet at position 0 has number 0; at position p of 1 or more, ((p - 1) mod 65,535) + 1": past the number's turn.
     capturing::capture(heard, packets::MODE_24, packets::SMALL, 65540);

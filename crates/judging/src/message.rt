@@ -18,7 +18,7 @@ use wire::types;
 // The code of a finished message of a type and a length, and the settings after it. `opening` is its first ten bytes, zero
 // where it has fewer. "Codes 10 to 17 stand in order of checking (11 first)."
 pub fn judge(s: Settings, kind: u8, size: u16, opening: &[u8; 10]) -> Judged
-    ensures { λ r. ⌜ r ≡ judgedOf s (record { type = kind; size = size; held = now (opening .entry) }) ⌝ }
+    ensures { λ r. ⌜ r ≡ judgedOf s (record { type = kind; size = size; bytes = now (opening .entry) }) ⌝ }
 {
     let message = &opening[..];
     let early = header::header_code(kind, size, message[2]);

@@ -11,7 +11,7 @@ use Rattle.packets.specs.Numbers.{last}
 use Rattle.lines.specs.declared.Due.{Due}
 use Rattle.lines.specs.declared.Ending.{Ending}
 use Rattle.lines.specs.declared.Ending.the-variants.{Nothing, Refusal, Captures}
-use Rattle.lines.specs.declared.Told.{Told}
+use Rattle.lines.specs.declared.LinesAnswer.{LinesAnswer}
 use Rattle.lines.specs.Lines.{Line, textOf, openingLine, captureLine, refusalLine, endLine}
 
 abbrev pub openingIf : Bool → List Line
@@ -38,7 +38,7 @@ sized d = leb (d .position) last && leb (d .pairs) 256 && leb (d .divisor) 625
 
 -- what writing answers, and the bytes that it writes at the start of the lent slice
 pub record Telling : Type 0 where
-  pub told : Told
+  pub told : LinesAnswer
   pub bytes : List ℕ
 
 -- nothing is written, with a code

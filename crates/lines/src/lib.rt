@@ -26,7 +26,7 @@ pub struct Due {
 }
 
 // What writing lines did: its code and how many bytes it wrote.
-pub struct Told {
+pub struct LinesAnswer {
     pub code: u8,
     pub wrote: usize,
 }

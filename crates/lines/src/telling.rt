@@ -9,7 +9,7 @@ ghost use Rattle.lines.specs.Inside.{Stored};
 ghost use Rattle.lines.specs.Due.{openingIf, captureIf, endingLines, dueLines, sized, tellingOf};
 use crate::Due;
 use crate::Ending;
-use crate::Told;
+use crate::LinesAnswer;
 use crate::text::put_line;
 use wire::codes;
 
@@ -100,13 +100,13 @@ fn is_sized(d: Due) -> bool
 
 // Writes the lines that are due at the start of a slice: 219 bytes are room enough. It refuses with 16 a position, pairs
 // or a D that no capture has, and then with 20 a slice that has no room for all lines; nothing is written then.
-pub fn tell(d: Due, out: &mut [u8]) -> Told
+pub fn tell(d: Due, out: &mut [u8]) -> LinesAnswer
     ensures { λ r.
         ⌜ (r ≡ tellingOf d (length (now (out .entry))) .told)
         × (now (out .exit) ≡ sets (now (out .entry)) 0 (tellingOf d (length (now (out .entry))) .bytes)) ⌝ }
 {
     if !is_sized(d) {
-        return Told {
+        return LinesAnswer {
             code: codes::VALUE_NOT_ALLOWED,
             wrote: 0,
         };
@@ -114,13 +114,13 @@ pub fn tell(d: Due, out: &mut [u8]) -> Told
     let mut text = [0u8; 256];
     let n = put_due(d, &mut text);
     if out.len() < n {
-        return Told {
+        return LinesAnswer {
             code: codes::NO_ROOM,
             wrote: 0,
         };
     }
     wire::copy(&text[..n], out, 0);
-    Told {
+    LinesAnswer {
         code: codes::DONE,
         wrote: n,
     }

@@ -16,7 +16,7 @@ use Rattle.wire.proofs.Laws.{and-left, and-right}
 use Rattle.wire.specs.Lists.{same}
 use Rattle.wire.proofs.Lists.{same-eq}
 use Rattle.packets.specs.declared.Form.{Form}
-use Rattle.packets.specs.Forms.{Row, forms, formOf, sameForm, totalOf, noForm, listed, formFor, formWithHeader, wholeOf, isPacket}
+use Rattle.packets.specs.Forms.{Row, forms, formOf, sameForm, totalOf, noForm, listedForm, formFor, formWithHeader, wholeOf, isPacket}
 
 -- the specs' lookups over any part of the table
 abbrev listedIn : List Row → Form → Bool
@@ -90,7 +90,7 @@ every-listed t (r ∷ rs) e f l =
     here true q later = ap t (sym (same-is (formOf r) f q)) ∙ and-left (t (formOf r)) (everyRow (λ x. t (formOf x)) rs) e
     here false q later = later (rw q at l)
 
-pub of-listed : (t : Form → Bool) → everyRow (λ r. t (formOf r)) forms ≡ true → (f : Form) → listed f ≡ true → t f ≡ true
+pub of-listed : (t : Form → Bool) → everyRow (λ r. t (formOf r)) forms ≡ true → (f : Form) → listedForm f ≡ true → t f ≡ true
 of-listed t e f l = every-listed t forms e f l
 
 -- What every listed form has. A proof over forms needs no more than this of the table.
@@ -109,7 +109,7 @@ or-either : (a b : Bool) → (a || b) ≡ true → (a ≡ true) ⊎ (b ≡ true)
 or-either true b h = inl refl
 or-either false b h = inr h
 
-pub is-listed-form : (f : Form) → listed f ≡ true → Listed f
+pub is-listed-form : (f : Form) → listedForm f ≡ true → Listed f
 is-listed-form f l =
     record {
       width =
@@ -124,7 +124,7 @@ is-listed-form f l =
     }
 
 -- a mode and a size that a box may have give a listed form
-pub form-for-listed : (mode size : ℕ) → (mode ≡ 0x80) ⊎ (mode ≡ 0x00) → (size ≡ 0) ⊎ (size ≡ 1) → listed (formFor mode size) ≡ true
+pub form-for-listed : (mode size : ℕ) → (mode ≡ 0x80) ⊎ (mode ≡ 0x00) → (size ≡ 0) ⊎ (size ≡ 1) → listedForm (formFor mode size) ≡ true
 form-for-listed mode size (inl m) (inl s) = rw (m, s)
 form-for-listed mode size (inl m) (inr s) = rw (m, s)
 form-for-listed mode size (inr m) (inl s) = rw (m, s)
@@ -175,7 +175,7 @@ whole-not p h n is says other =
     sym (whole-split p ∙ rw unlike)
 
 -- Bytes with the header and the length of a listed form are a whole packet of that form.
-pub whole-cut : (f : Form) → listed f ≡ true → (p : List ℕ) → field 0 2 p ≡ headerOf typeData (totalOf f) → length p ≡ totalOf f
+pub whole-cut : (f : Form) → listedForm f ≡ true → (p : List ℕ) → field 0 2 p ≡ headerOf typeData (totalOf f) → length p ≡ totalOf f
     → wholeOf p ≡ f
 whole-cut f l p h n =
     let holds : lengthIn (headerOf typeData (totalOf f)) ≡ totalOf f = omega (arith, is-listed-form f l .short) in
@@ -185,18 +185,18 @@ whole-cut f l p h n =
 
 -- What a slice that is a whole packet has: a listed form, that form's length and that form's header.
 pub record Whole (p : List ℕ) (f : Form) : Type 0 where
-  pub form : listed f ≡ true
+  pub form : listedForm f ≡ true
   pub long : length p ≡ totalOf f
   pub header : field 0 2 p ≡ headerOf typeData (totalOf f)
 
 abbrev NoneOrWhole : List Row → List ℕ → Type 0
 NoneOrWhole rs p = (wholeIn rs p ≡ noForm) ⊎ Whole p (wholeIn rs p)
 
-whole-in : (rs : List Row) → everyRow rowAgrees rs ≡ true → everyRow (λ r. listed (formOf r)) rs ≡ true → (p : List ℕ) → NoneOrWhole rs p
+whole-in : (rs : List Row) → everyRow rowAgrees rs ≡ true → everyRow (λ r. listedForm (formOf r)) rs ≡ true → (p : List ℕ) → NoneOrWhole rs p
 whole-in [] e l p = inl refl
 whole-in (r ∷ rs) e l p =
     let agree = and-right (rowAgrees r) (everyRow rowAgrees rs) e in
-    let list = and-right (listed (formOf r)) (everyRow (λ x. listed (formOf x)) rs) l in
+    let list = and-right (listedForm (formOf r)) (everyRow (λ x. listedForm (formOf x)) rs) l in
     here (sameHeader && sameLength) refl (whole-in rs agree list p)
   where
     agrees : Agrees r
@@ -212,7 +212,7 @@ whole-in (r ∷ rs) e l p =
     here true q later = rw q
         (inr
         (record {
-          form = and-left (listed (formOf r)) (everyRow (λ x. listed (formOf x)) rs) l;
+          form = and-left (listedForm (formOf r)) (everyRow (λ x. listedForm (formOf x)) rs) l;
           long = eqb-true _ _ (and-right sameHeader sameLength q) ∙ agrees .total;
           header = eqb-true _ _ (and-left sameHeader sameLength q) ∙ agrees .number ∙ ap (headerOf typeData) (agrees .total);
         }))

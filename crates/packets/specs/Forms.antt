@@ -41,8 +41,8 @@ abbrev pub noForm : Form
 noForm = record { bits = 0; pairs = 0 }
 
 -- the form is listed
-abbrev pub listed : Form → Bool
-listed f = anyOf (λ r. sameForm (formOf r) f) forms
+abbrev pub listedForm : Form → Bool
+listedForm f = anyOf (λ r. sameForm (formOf r) f) forms
 
 -- the form for a mode byte and a size byte
 abbrev pub formFor : ℕ → ℕ → Form
@@ -58,4 +58,4 @@ wholeOf packet =
     firstRow (λ r. eqb (field 0 2 packet) (field 0 2 (r .header)) && eqb (length packet) (r .total)) formOf noForm forms
 
 abbrev pub isPacket : List ℕ → Bool
-isPacket packet = listed (wholeOf packet)
+isPacket packet = listedForm (wholeOf packet)

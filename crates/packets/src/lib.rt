@@ -4,7 +4,7 @@ ghost use Prim.Native.Nat.{_<_};
 ghost use lib.ListN.{getD};
 ghost use Rattle.wire.specs.Choice.{pick};
 ghost use Rattle.wire.specs.Number.{field};
-ghost use Rattle.packets.specs.Forms.{formFor, listed, sameForm, totalOf, noForm, formWithHeader, wholeOf};
+ghost use Rattle.packets.specs.Forms.{formFor, listedForm, sameForm, totalOf, noForm, formWithHeader, wholeOf};
 ghost use Rattle.packets.specs.Numbers.{numberAt, numberIn, stepOf};
 
 // How many packets a capture can hold, and the position of the last of them.
@@ -78,7 +78,7 @@ pub fn same_form(a: Form, b: Form) -> bool
 
 // Whether the form is one of the four.
 pub fn is_listed(f: Form) -> bool
-    ensures { λ r. ⌜ r ≡ listed f ⌝ }
+    ensures { λ r. ⌜ r ≡ listedForm f ⌝ }
 {
     let bits = f.bits;
     let pairs = f.pairs;
@@ -99,7 +99,7 @@ pub fn is_listed(f: Form) -> bool
 
 // How many bytes a packet of a listed form has; 0 for any other form.
 pub fn total_of(f: Form) -> u64
-    ensures { λ r. ⌜ r ≡ pick (listed f) (totalOf f) 0 ⌝ }
+    ensures { λ r. ⌜ r ≡ pick (listedForm f) (totalOf f) 0 ⌝ }
 {
     if is_listed(f) {
         return 4 + f.pairs * 2 * (f.bits / 8);

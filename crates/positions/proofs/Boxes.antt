@@ -9,7 +9,7 @@ use lib.Dec.{eqb}
 use Rattle.wire.specs.Header.{typeSet}
 use Rattle.wire.proofs.Laws.{never, and-both, and-rest}
 use Rattle.packets.specs.declared.Form.{Form}
-use Rattle.framing.specs.Framing.{taken}
+use Rattle.framing.specs.Framing.{callTakes}
 use Rattle.items.specs.declared.Settings.{Settings}
 use Rattle.items.specs.Items.{Item, rowOf, state, runByte, modeByte}
 use Rattle.items.specs.Answer.{Message, codeOf, settingsAfter, row, parameters, itemIn}
@@ -114,7 +114,7 @@ fed-leaves : (P : Settings → Type 0) (s : Station) (host : List ℕ) (room : �
     → P (feedingOf s host room .fed .station .settings)
 fed-leaves P s host room same after =
     each-way (λ f. P (f .fed .station .settings)) s host room (λ v. same) (λ v. same) (λ v f. same)
-    (λ v f enough. after (messageIn (taken (s .store) host .store)))
+    (λ v f enough. after (messageIn (callTakes (s .store) host .store)))
 
 -- a box that is running before a call of feeding and after it cuts next what it would have cut
 pub feeding-leaves : (s : Station) (host : List ℕ) (room : ℕ)

@@ -11,7 +11,7 @@ use lib.IntN.{ℤ, pos}
 use lib.ListN.{length, replicate}
 use Rattle.packets.specs.Numbers.{most}
 use Rattle.items.specs.Settings.{inRange, freshOf, withCount, withRunning}
-use Rattle.items.specs.Items.{listed, rowOf}
+use Rattle.items.specs.Items.{listedItem, rowOf}
 use Rattle.items.specs.Answer.{codeOf, replyOf, settingsAfter}
 use Rattle.framing.specs.Framing.{couldBeLeft, between, taking}
 use Rattle.station.specs.declared.Station.{Station}
@@ -55,7 +55,7 @@ runMessage = 0x08 ∷ 0x00 ∷ 0x18 ∷ 0x00 ∷ 0x80 ∷ 0x02 ∷ 0x80 ∷ 0x00
 
 -- makes the box of no packets from a fresh one
 pub starts-running : feedingOf (freshStation (replicate 8 0x30)) runMessage 64 .fed .station ≡ running 0
-unfolding feedingOf valid inRange couldBeLeft taking listed rowOf codeOf replyOf settingsAfter
+unfolding feedingOf valid inRange couldBeLeft taking listedItem rowOf codeOf replyOf settingsAfter
 starts-running = refl
 
 pub captures-exist : (n : ℕ) → n ≤ most → (packets : List (List ℕ)) × Capture (running 0) packets × (length packets ≡ n)

@@ -7,7 +7,7 @@ use native.Mathlib.Omega.{arith}
 use borrow.Author.Tests.{eq-eqb, ne-eqb, le-leb, le-ltb}
 use lib.Dec.{eqb}
 use Rattle.packets.specs.declared.Form.{Form}
-use Rattle.packets.specs.Forms.{listed, wholeOf, sameForm}
+use Rattle.packets.specs.Forms.{listedForm, wholeOf, sameForm}
 use Rattle.packets.specs.Numbers.{numberAt, numberIn, stepOf, most, last}
 use Rattle.packets.proofs.Numbers.{number-zero}
 use Rattle.reader.specs.declared.Reader.{Reader}
@@ -17,7 +17,7 @@ use Rattle.positions.proofs.Steps.{position-is-exact, repeated-is-a-tur
 
 -- the packet at position n of a capture of form f
 pub record At (f : Form) (n : ℕ) (packet : List ℕ) : Type 0 where
-  pub fine : listed f ≡ true
+  pub fine : listedForm f ≡ true
   pub form : wholeOf packet ≡ f
   pub number : numberIn packet ≡ numberAt n
   pub below : n < most

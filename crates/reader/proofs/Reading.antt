@@ -11,11 +11,11 @@ use lib.ListN.{length, take, drop, length-drop}
 use lib.Seq.{take-all}
 use Rattle.wire.proofs.Laws.{pick-true, pick-false, and-left, and-not-left}
 use Rattle.packets.specs.declared.Form.{Form}
-use Rattle.packets.specs.Forms.{noForm, sameForm, listed, wholeOf, isPacket, totalOf}
+use Rattle.packets.specs.Forms.{noForm, sameForm, listedForm, wholeOf, isPacket, totalOf}
 use Rattle.packets.specs.Numbers.{numberAt, stepOf, numberIn, last}
 use Rattle.packets.proofs.Forms.{is-listed-form, Whole, whole-is, packet-is}
 use Rattle.reader.specs.declared.Reader.{Reader}
-use Rattle.reader.specs.Reading.{sound, positionAfter, readChecks, readCode, readingOf, heardAt, unheard, sampleBytesOf}
+use Rattle.reader.specs.Reading.{sound, positionAfter, readingChecks, readingCode, readingOf, heardAt, unheard, sampleBytesOf}
 use Rattle.wire.proofs.Checks.{clear}
 
 -- a slice is a packet where the form found has pairs
@@ -50,14 +50,14 @@ samples-there p some = rw (a-packet p some) (take-all (length p - 4) (drop 4 p) 
 
 -- soundness, of a reader that has heard a packet and of one that has not
 module _ (r : Reader) (h : r .heard ≡ true) where
-  heard-sound : sound r ≡ (leb (r .position) last && listed (r .form))
+  heard-sound : sound r ≡ (leb (r .position) last && listedForm (r .form))
   heard-sound = pick-true (r .heard) _ _ h
 
   pub sound-past : last < r .position → false ≡ sound r
   sound-past l = sym (heard-sound ∙ and-not-left _ _ (lt-leb (r .position) last l))
 
-  pub sound-within : r .position ≤ last → listed (r .form) ≡ sound r
-  sound-within l = sym (heard-sound ∙ ap (λ (t : Bool). t && listed (r .form)) (le-leb (r .position) last l))
+  pub sound-within : r .position ≤ last → listedForm (r .form) ≡ sound r
+  sound-within l = sym (heard-sound ∙ ap (λ (t : Bool). t && listedForm (r .form)) (le-leb (r .position) last l))
 
 module _ (r : Reader) (h : r .heard ≡ false) where
   unheard-sound : sound r ≡ (eqb (r .position) 0 && sameForm (r .form) noForm)
@@ -72,11 +72,11 @@ module _ (r : Reader) (h : r .heard ≡ false) where
 -- "A reader that has heard a packet holds its position (at most 3,999,999,999) and a listed form"
 pub heard-within : (r : Reader) → sound r ≡ true → r .heard ≡ true → r .position ≤ last
 heard-within r fine begun =
-    let held : leb (r .position) last && listed (r .form) ≡ true = sym (heard-sound r begun) ∙ fine in
-    leb-true (r .position) last (and-left (leb (r .position) last) (listed (r .form)) held)
+    let held : leb (r .position) last && listedForm (r .form) ≡ true = sym (heard-sound r begun) ∙ fine in
+    leb-true (r .position) last (and-left (leb (r .position) last) (listedForm (r .form)) held)
 
 module _ (r : Reader) (p : List ℕ) where
-  refusal : (c : ℕ) → (c ≡ 1 → ⊥) → readCode r p ≡ c → unheard c r ≡ readingOf r p
+  refusal : (c : ℕ) → (c ≡ 1 → ⊥) → readingCode r p ≡ c → unheard c r ≡ readingOf r p
   unfolding readingOf
   refusal c other e = rw (e, ne-eqb c 1 other)
 
@@ -85,18 +85,18 @@ module _ (r : Reader) (p : List ℕ) where
       → not (eqb (numberIn p) 0) && not (sameForm (wholeOf p) (r .form)) ≡ false
       → ltb last (positionAfter r (numberIn p)) ≡ false
       → readingOf r p ≡ heardAt (positionAfter r (numberIn p)) (wholeOf p)
-  unfolding readCode readingOf
+  unfolding readingCode readingOf
   packet-taken a b c d e =
-      let one : readCode r p ≡ 1 = clear (readChecks r p) 1 (ap not a, (ap not b, (c, (d, (e, tt))))) in
-      rw (eq-eqb (readCode r p) 1 one)
+      let one : readingCode r p ≡ 1 = clear (readingChecks r p) 1 (ap not a, (ap not b, (c, (d, (e, tt))))) in
+      rw (eq-eqb (readingCode r p) 1 one)
 
   pub broken : sound r ≡ false → unheard 21 r ≡ readingOf r p
-  unfolding readCode
+  unfolding readingCode
   broken e = refusal 21 (omega arith) (rw e)
 
   module _ (fine : sound r ≡ true) where
     pub no-slice : wholeOf p .pairs ≡ 0 → unheard 30 r ≡ readingOf r p
-    unfolding readCode
+    unfolding readingCode
     no-slice z = refusal 30 (omega arith) (rw (fine, no-packet p z))
 
     module _ (some : wholeOf p .pairs ≡ 0 → ⊥) where
@@ -108,19 +108,19 @@ module _ (r : Reader) (p : List ℕ) where
 
       module _ (later : numberIn p ≡ 0 → ⊥) where
         pub unbegun : r .heard ≡ false → unheard 31 r ≡ readingOf r p
-        unfolding readCode
+        unfolding readingCode
         unbegun e = refusal 31 (omega arith) (rw (fine, a-packet p some, ne-eqb _ _ later, e))
 
         module _ (begun : r .heard ≡ true) where
           pub changed : sameForm (wholeOf p) (r .form) ≡ false → unheard 32 r ≡ readingOf r p
-          unfolding readCode
+          unfolding readingCode
           changed e = refusal 32 (omega arith) (rw (fine, a-packet p some, ne-eqb _ _ later, begun, e))
 
           module _
               (same : sameForm (wholeOf p) (r .form) ≡ true) (n : ℕ)
               (leads : n ≡ r .position + stepOf (numberAt (r .position)) (numberIn p)) where
             pub past : last < n → unheard 33 r ≡ readingOf r p
-            unfolding readCode
+            unfolding readingCode
             past l = refusal 33 (omega arith) (rw (fine, a-packet p some, ne-eqb _ _ later, begun, same, ← leads, lt-ltb last n l))
 
             pub next : n ≤ last → heardAt n (wholeOf p) ≡ readingOf r p

@@ -12,18 +12,18 @@ use Rattle.packets.specs.Forms.{wholeOf, isPacket}
 use Rattle.packets.specs.Numbers.{numberIn, last}
 use Rattle.reader.specs.declared.Reader.{Reader}
 use Rattle.reader.specs.declared.Heard.{Heard}
-use Rattle.reader.specs.Reading.{silent, sound, positionAfter, readChecks, readCode, heardAt, readingOf, afterSlices}
+use Rattle.reader.specs.Reading.{silent, sound, positionAfter, readingChecks, readingCode, heardAt, readingOf, afterSlices}
 
 pub silent-sound : sound silent ≡ true
 silent-sound = refl
 
 -- none of the five refusals: the position is not past the last, and the packet's form is listed
-taken-sound : (r : Reader) (slice : List ℕ) → readCode r slice ≡ 1
+taken-sound : (r : Reader) (slice : List ℕ) → readingCode r slice ≡ 1
     → sound (heardAt (positionAfter r (numberIn slice)) (wholeOf slice) .reader) ≡ true
-unfolding readCode
+unfolding readingCode
 taken-sound r slice one =
     let position = positionAfter r (numberIn slice) in
-    let none = absent (readChecks r slice) 1 refl one in
+    let none = absent (readingChecks r slice) 1 refl one in
     let within : leb position last ≡ true = le-leb position last (ltb-false last position (none .1 .1 .1 .1 .0)) in
     and-both (leb position last) (isPacket slice) within (not-false (isPacket slice) (none .1 .0))
 
@@ -31,8 +31,8 @@ taken-sound r slice one =
 pub reading-keeps-sound : (r : Reader) (slice : List ℕ) → sound r ≡ true → sound (readingOf r slice .reader) ≡ true
 unfolding readingOf
 reading-keeps-sound r slice fine =
-    pick-keeps (λ (h : Heard). sound (h .reader) ≡ true) (eqb (readCode r slice) 1) _ _
-    (λ done. taken-sound r slice (eqb-true (readCode r slice) 1 done))
+    pick-keeps (λ (h : Heard). sound (h .reader) ≡ true) (eqb (readingCode r slice) 1) _ _
+    (λ done. taken-sound r slice (eqb-true (readingCode r slice) 1 done))
     (λ refused. fine)
 
 -- whatever the slices are

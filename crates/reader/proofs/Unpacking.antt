@@ -8,10 +8,10 @@ use borrow.Author.Tests.{leb-true, leb-false, le-leb, lt-ltb, le-ltb}
 use lib.Dec.{leb}
 use lib.ListN.{length}
 use Rattle.wire.proofs.Laws.{and-both}
-use Rattle.packets.specs.Forms.{listed, wholeOf, totalOf}
+use Rattle.packets.specs.Forms.{listedForm, wholeOf, totalOf}
 use Rattle.packets.proofs.Forms.{packet-is}
 use Rattle.samples.specs.Packing.{mayUnpack, unpackedOf as writtenOf}
-use Rattle.reader.specs.Reading.{unpackCode, unpackingOf, unpackedOf, sampleCountIn}
+use Rattle.reader.specs.Reading.{unpackCode, unpackingOf, numbersWritten, sampleCountIn}
 use Rattle.reader.proofs.Reading.{no-packet, a-packet}
 
 module _ (p : List ℕ) (room : ℕ) where
@@ -20,8 +20,8 @@ module _ (p : List ℕ) (room : ℕ) where
     unfolding unpackingOf unpackCode
     unpack-none = rw (no-packet p none)
 
-    pub writes-none : [] ≡ unpackedOf p room
-    unfolding unpackedOf unpackCode
+    pub writes-none : [] ≡ numbersWritten p room
+    unfolding numbersWritten unpackCode
     writes-none = rw (no-packet p none)
 
   module _ (some : wholeOf p .pairs ≡ 0 → ⊥) where
@@ -31,7 +31,7 @@ module _ (p : List ℕ) (room : ℕ) where
         let w = packet-is p (a-packet p some) in
         let long : totalOf (wholeOf p) ≤ length p = le-of-eq (sym (w .long)) in
         ap (λ (t : Bool). t && leb (sampleCountIn p) room)
-        (and-both (listed (wholeOf p)) (leb (totalOf (wholeOf p)) (length p)) (w .form) (le-leb (totalOf (wholeOf p)) (length p) long))
+        (and-both (listedForm (wholeOf p)) (leb (totalOf (wholeOf p)) (length p)) (w .form) (le-leb (totalOf (wholeOf p)) (length p) long))
 
     module _ (short : mayUnpack (wholeOf p) (length p) room ≡ false) where
       too-short : room < sampleCountIn p
@@ -41,8 +41,8 @@ module _ (p : List ℕ) (room : ℕ) where
       unfolding unpackingOf unpackCode
       unpack-short = rw (a-packet p some, lt-ltb room (sampleCountIn p) too-short)
 
-      pub writes-short : writtenOf (wholeOf p) p room ≡ unpackedOf p room
-      unfolding unpackedOf unpackCode
+      pub writes-short : writtenOf (wholeOf p) p room ≡ numbersWritten p room
+      unfolding numbersWritten unpackCode
       writes-short = rw (short, a-packet p some, lt-ltb room (sampleCountIn p) too-short)
 
     module _ (fits : mayUnpack (wholeOf p) (length p) room ≡ true) where
@@ -53,6 +53,6 @@ module _ (p : List ℕ) (room : ℕ) where
       unfolding unpackingOf unpackCode
       unpack-all = rw (a-packet p some, le-ltb room (sampleCountIn p) enough)
 
-      pub writes-all : writtenOf (wholeOf p) p room ≡ unpackedOf p room
-      unfolding unpackedOf unpackCode
+      pub writes-all : writtenOf (wholeOf p) p room ≡ numbersWritten p room
+      unfolding numbersWritten unpackCode
       writes-all = rw (fits, a-packet p some, le-ltb room (sampleCountIn p) enough)

@@ -9,7 +9,7 @@ use Rattle.wire.specs.Choice.{pick, Check, check, firstOf}
 use Rattle.wire.specs.Codes.{othersWrite}
 use Rattle.wire.specs.Codes as Code
 use Rattle.packets.specs.declared.Form.{Form}
-use Rattle.packets.specs.Forms.{noForm, sameForm, listed, wholeOf, isPacket}
+use Rattle.packets.specs.Forms.{noForm, sameForm, listedForm, wholeOf, isPacket}
 use Rattle.packets.specs.Numbers.{numberAt, stepOf, numberIn, last}
 use Rattle.packets.specs.Samples.{samplesFrom}
 use Rattle.reader.specs.declared.Reader.{Reader}
@@ -22,15 +22,15 @@ silent = record { heard = false; position = 0; form = noForm }
 
 -- "A reader that has heard a packet holds its position (at most 3,999,999,999) and a listed form; other states are broken."
 abbrev pub sound : Reader → Bool
-sound r = pick (r .heard) (leb (r .position) last && listed (r .form)) (eqb (r .position) 0 && sameForm (r .form) noForm)
+sound r = pick (r .heard) (leb (r .position) last && listedForm (r .form)) (eqb (r .position) 0 && sameForm (r .form) noForm)
 
 -- "Number 0 begins a new capture, at any moment. From number s to number t above 0 the step is .."
 abbrev pub positionAfter : Reader → ℕ → ℕ
 positionAfter r number = pick (eqb number 0) 0 (r .position + stepOf (numberAt (r .position)) number)
 
 -- "Packet reading 21, 30, 31, 32, 33."
-abbrev pub readChecks : Reader → List ℕ → List Check
-readChecks r packet =
+abbrev pub readingChecks : Reader → List ℕ → List Check
+readingChecks r packet =
     check Code.broken (not (sound r))
     ∷ check Code.notAPacket (not (isPacket packet))
     ∷ check Code.noFirstPacket (not (eqb (numberIn packet) 0) && not (r .heard))
@@ -38,8 +38,8 @@ readChecks r packet =
     ∷ check Code.pastLast (ltb last (positionAfter r (numberIn packet)))
     ∷ []
 
-unfoldable pub readCode : Reader → List ℕ → ℕ
-readCode r packet = firstOf (readChecks r packet) Code.done
+unfoldable pub readingCode : Reader → List ℕ → ℕ
+readingCode r packet = firstOf (readingChecks r packet) Code.done
 
 -- "The answer is the packet's position and its first sample's position (packet position times I/Q pairs)."
 abbrev pub heardAt : ℕ → Form → Heard
@@ -56,8 +56,8 @@ unheard code r = record { code = code; position = 0; sample = 0; reader = r }
 
 unfoldable pub readingOf : Reader → List ℕ → Heard
 readingOf r packet =
-    pick (eqb (readCode r packet) Code.done) (heardAt (positionAfter r (numberIn packet)) (wholeOf packet))
-    (unheard (readCode r packet) r)
+    pick (eqb (readingCode r packet) Code.done) (heardAt (positionAfter r (numberIn packet)) (wholeOf packet))
+    (unheard (readingCode r packet) r)
 
 -- The reader that slice after slice makes of one. A slice is anything that it is handed: a packet of any capture, or rubbish.
 abbrev pub afterSlices : Reader → List (List ℕ) → Reader
@@ -86,6 +86,6 @@ unpackingOf packet room =
 
 -- the numbers that unpacking writes at the start of the lent slice: all of the packet's or none, by the column "Written" of the
 -- table of codes
-unfoldable pub unpackedOf : List ℕ → ℕ → List ℤ
-unpackedOf packet room =
+unfoldable pub numbersWritten : List ℕ → ℕ → List ℤ
+numbersWritten packet room =
     othersWrite (unpackCode packet room) (samplesFrom (wholeOf packet .bits) (drop 4 packet) 0 (sampleCountIn packet))

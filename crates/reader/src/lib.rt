@@ -6,7 +6,7 @@ ghost use Prim.Native.Nat.{_+_, _<_};
 ghost use lib.ListN.{length};
 ghost use lib.Seq.{sets};
 ghost use Rattle.packets.specs.Numbers.{numberAt, stepOf, most};
-ghost use Rattle.reader.specs.Reading.{silent, sound, unheard, heardAt, readingOf, sampleBytesOf, unpackingOf, unpackedOf};
+ghost use Rattle.reader.specs.Reading.{silent, sound, unheard, heardAt, readingOf, sampleBytesOf, unpackingOf, numbersWritten};
 
 // What a reader has heard of the capture so far: the position and form of the last packet; before the first packet
 // nothing, and then all is zero.
@@ -152,7 +152,7 @@ pub fn sample_bytes(packet: &[u8]) -> &[u8]
 pub fn unpack(packet: &[u8], out: &mut [i32]) -> Unpacked
     ensures { λ r.
         ⌜ (r ≡ unpackingOf (now (packet .entry)) (length (now (out .entry))))
-        × (now (out .exit) ≡ sets (now (out .entry)) 0 (unpackedOf (now (packet .entry)) (length (now (out .entry))))) ⌝ }
+        × (now (out .exit) ≡ sets (now (out .entry)) 0 (numbersWritten (now (packet .entry)) (length (now (out .entry))))) ⌝ }
 {
     let form = packets::whole(packet);
     if form.pairs == 0 {

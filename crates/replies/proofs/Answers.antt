@@ -9,30 +9,30 @@ use lib.ListN.{length, getD}
 use Rattle.wire.specs.Choice.{pick}
 use Rattle.wire.proofs.Firm.{one-by}
 use Rattle.wishes.specs.declared.Wish.{Wish}
-use Rattle.wishes.specs.Wishes.{allowed}
+use Rattle.wishes.specs.Wishes.{allowedWish}
 use Rattle.replies.specs.declared.Reply.{Reply}
 use Rattle.replies.specs.declared.Reply.the-variants.{Nak, Name, Serial, Interface, Version, Status, State, Frequency}
 use Rattle.replies.specs.declared.Reply.the-variants.{FrequencyRange, Gain, Clock, Rate, PacketSize, NotAllowed, NotAReply}
 use Rattle.replies.specs.Awaited.{awaited, numberIn}
-use Rattle.replies.specs.Reading.{isNak, isReply, readCode, Told, told, toldOf}
+use Rattle.replies.specs.Reading.{isNak, isReply, replyCode, ReplyAnswer, replySays, replyReaderSays}
 
 module _ (w : Wish) (bs : List ℕ) where
-  pub read-refused : allowed w ≡ false → told NotAllowed ≡ toldOf w bs
-  unfolding toldOf readCode
+  pub read-refused : allowedWish w ≡ false → replySays NotAllowed ≡ replyReaderSays w bs
+  unfolding replyReaderSays replyCode
   read-refused e = rw e
 
-  pub read-nak : allowed w ≡ true → isNak bs ≡ true → told Nak ≡ toldOf w bs
-  unfolding toldOf readCode
+  pub read-nak : allowedWish w ≡ true → isNak bs ≡ true → replySays Nak ≡ replyReaderSays w bs
+  unfolding replyReaderSays replyCode
   read-nak e n = rw (e, n)
 
-  module _ (e : allowed w ≡ true) (n : isNak bs ≡ false) where
-    pub read-none : isReply w bs ≡ false → told NotAReply ≡ toldOf w bs
-    unfolding toldOf readCode
+  module _ (e : allowedWish w ≡ true) (n : isNak bs ≡ false) where
+    pub read-none : isReply w bs ≡ false → replySays NotAReply ≡ replyReaderSays w bs
+    unfolding replyReaderSays replyCode
     read-none r = rw (e, n, r)
 
     -- a reply, with the value in it
-    pub read-reply : (v : ℕ) → isReply w bs ≡ true → numberIn w bs ≡ v → told (awaited w .says v) ≡ toldOf w bs
-    unfolding toldOf readCode
+    pub read-reply : (v : ℕ) → isReply w bs ≡ true → numberIn w bs ≡ v → replySays (awaited w .says v) ≡ replyReaderSays w bs
+    unfolding replyReaderSays replyCode
     read-reply v r is = rw (e, n, r, is)
 
 -- ---- two answers that tell the same are the same
@@ -59,14 +59,14 @@ about item vs =
     (pick (eqb item 0x00B0) (Clock (value vs 0))
     (pick (eqb item 0x00B8) (Rate (value vs 0)) (PacketSize (value vs 0))))))))))))
 
-back : Told → Reply
+back : ReplyAnswer → Reply
 back t = pick (eqb (t .code) 16) NotAllowed (pick (eqb (t .code) 28) NotAReply (about (t .item) (t .values)))
 
 status-back : (t : Bool) → eqb (pick t 0x0C 0x0B) 0x0C ≡ t
 status-back true = refl
 status-back false = refl
 
-back-told : (r : Reply) → back (told r) ≡ r
+back-told : (r : Reply) → back (replySays r) ≡ r
 unfolding back about value natural
 back-told Nak = refl
 back-told Name = refl
@@ -84,5 +84,5 @@ back-told (PacketSize n) = refl
 back-told NotAllowed = refl
 back-told NotAReply = refl
 
-pub told-one : (a b : Reply) → told a ≡ told b → a ≡ b
-told-one = one-by told back back-told
+pub told-one : (a b : Reply) → replySays a ≡ replySays b → a ≡ b
+told-one = one-by replySays back back-told

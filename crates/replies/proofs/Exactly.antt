@@ -34,7 +34,7 @@ use Rattle.wishes.specs.declared.Wish.{Wish}
 use Rattle.wishes.specs.declared.Wish.the-variants.{AskName, AskSerial, AskInterface, AskVersion, AskStatus, SetState}
 use Rattle.wishes.specs.declared.Wish.the-variants.{AskState, SetFrequency, AskFrequency, AskFrequencyRange, SetGain, AskGain}
 use Rattle.wishes.specs.declared.Wish.the-variants.{SetClock, AskClock, SetRate, AskRate, SetPacketSize, AskPacketSize}
-use Rattle.wishes.specs.Wishes.{asking, layoutOf, allowed, granted, notNow, messageOf, asMessage}
+use Rattle.wishes.specs.Wishes.{asking, layoutOf, allowedWish, granted, notNow, messageOf, asMessage}
 use Rattle.wishes.proofs.Rows.{by-wish}
 use Rattle.wishes.proofs.Allowed.{state-has}
 use Rattle.wire.proofs.Laws.{by-or, one-has}
@@ -42,7 +42,7 @@ use Rattle.wishes.proofs.Understood.{code-of-wish, row-of-wish, settings-of-wis
 use Rattle.replies.specs.declared.Reply.the-variants.{Nak, Status, State}
 use Rattle.replies.specs.Awaited.{awaited, holdsSerial, idleShown, runShown, isState, stateShown}
 use Rattle.replies.specs.Awaited.{saysState, replyType, replyLayout, replyBytes, numberIn}
-use Rattle.replies.specs.Reading.{isReply, isNak, readCode, told, toldOf}
+use Rattle.replies.specs.Reading.{isReply, isNak, replyCode, replySays, replyReaderSays}
 use Rattle.replies.specs.Saying.{saysOf, saidBy}
 use Rattle.replies.specs.Exactly.{ReadAsSaid, Given, Exactly}
 use Rattle.wire.proofs.Lists.{same-eq, eq-same}
@@ -158,7 +158,7 @@ rate-shown : (d : ℕ) → isD d ≡ true → bytes 4 (achievedRate d) ≡ bytes
 rate-shown d is = ap (bytes 4) (pick-true (isD d) (rateOf d) 0 is)
 
 -- the bytes are those of the number
-shown-number : (w : Wish) (s : Settings) → allowed w ≡ true → Ranges s → shown w s ≡ bytes (awaited w .width) (numberOf w s)
+shown-number : (w : Wish) (s : Settings) → allowedWish w ≡ true → Ranges s → shown w s ≡ bytes (awaited w .width) (numberOf w s)
 unfolding messageOf
 shown-number AskName s e r = refl
 shown-number AskSerial s e r = serial-shown (s .serial) (r .serial)
@@ -226,7 +226,7 @@ run-could m s h = rw (running-in m s h .0, running-in m s h .1) (eq-eqb (stateSh
 abbrev CouldShow : Wish → Settings → Type 0
 CouldShow w s = notNow w s ≡ false → awaited w .could (numberOf w (granted w s)) ≡ true
 
-could-shown : (w : Wish) (s : Settings) → allowed w ≡ true → Ranges s → CouldShow w s
+could-shown : (w : Wish) (s : Settings) → allowedWish w ≡ true → Ranges s → CouldShow w s
 could-shown AskName s e r now = refl
 could-shown AskSerial s e r now = serial-could (s .serial) (r .serial)
 could-shown AskInterface s e r now = refl
@@ -273,7 +273,7 @@ says-shown AskPacketSize s r = refl
 
 -- ---- what a valid box says is read
 
-module _ (w : Wish) (s : Settings) (e : allowed w ≡ true) (valid : inRange s ≡ true) where
+module _ (w : Wish) (s : Settings) (e : allowedWish w ≡ true) (valid : inRange s ≡ true) where
   -- where the box cannot grant the wish now
   refused-nak : notNow w s ≡ true → replyOf s (asMessage w) ≡ nak
   unfolding replyOf
@@ -306,15 +306,15 @@ module _ (w : Wish) (s : Settings) (e : allowed w ≡ true) (valid : inRange s �
           (reply-is-reply w (numberOf w (granted w s)) e (could-shown w s e (ranges s valid) now)))
 
   -- and read as what it says
-  read-as-said : toldOf w (replyOf s (asMessage w)) ≡ told (saidBy w s)
+  read-as-said : replyReaderSays w (replyOf s (asMessage w)) ≡ replySays (saidBy w s)
   read-as-said = go (notNow w s) refl
     where
-      go : (t : Bool) → notNow w s ≡ t → toldOf w (replyOf s (asMessage w)) ≡ told (pick t Nak (saysOf w (granted w s)))
+      go : (t : Bool) → notNow w s ≡ t → replyReaderSays w (replyOf s (asMessage w)) ≡ replySays (pick t Nak (saysOf w (granted w s)))
       go true later = rw (refused-nak later) (sym (read-nak w nak e refl))
       go false now =
           rw (reply-shown now)
           (sym (reply-read w (numberOf w (granted w s)) e (could-shown w s e (ranges s valid) now))
-          ∙ ap told (says-shown w (granted w s) (ranges (granted w s) (granted-valid now))))
+          ∙ ap replySays (says-shown w (granted w s) (ranges (granted w s) (granted-valid now))))
 
 pub box-reply-is-read : ReadAsSaid
 box-reply-is-read = read-as-said
@@ -359,12 +359,12 @@ run-mode : (m n : ℕ) → mode-in (stateShown run m) → eqb n (stateShown run 
 run-mode m n h is = rw (eqb-true n (stateShown run m) is) h
 
 -- the mode that a state's reply holds
-state-mode : (f : StateFields) (n : ℕ) → allowed (SetState f) ≡ true → awaited (SetState f) .could n ≡ true → mode-in n
+state-mode : (f : StateFields) (n : ℕ) → allowedWish (SetState f) ≡ true → awaited (SetState f) .could n ≡ true → mode-in n
 state-mode f n e h =
     state-has (λ f. awaited (SetState f) .could n ≡ true → mode-in n) (λ m. one-has mode-in n idleShown (refl, (refl, tt)))
     (run-mode 0x80 n refl) (run-mode 0x00 n refl) f e h
 
-box-valid : (w : Wish) (n : ℕ) → allowed w ≡ true → awaited w .could n ≡ true → inRange (boxWith w n) ≡ true
+box-valid : (w : Wish) (n : ℕ) → allowedWish w ≡ true → awaited w .could n ≡ true → inRange (boxWith w n) ≡ true
 unfolding inRange
 box-valid AskName n e h = refl
 box-valid AskSerial n e h = rw (and-left (allSerial (bytes 8 n)) (ltb n (256 ^ 8)) h)
@@ -392,7 +392,7 @@ box-now w = search (by-wish (λ w. (n : ℕ) → notNow w (boxWith w n) ≡ fals
 abbrev Shows : ℕ → Wish → Type 0
 Shows n w = awaited w .could n ≡ true → numberOf w (granted w (boxWith w n)) ≡ n
 
-box-shows : (w : Wish) (n : ℕ) → allowed w ≡ true → Shows n w
+box-shows : (w : Wish) (n : ℕ) → allowedWish w ≡ true → Shows n w
 box-shows AskName n e h = sym (eqb-true n (number nameBytes) h)
 box-shows AskSerial n e h = number-bytes 8 n (ltb-true n (256 ^ 8) (and-right (allSerial (bytes 8 n)) (ltb n (256 ^ 8)) h))
 box-shows AskInterface n e h = sym (eqb-true n 105 h)
@@ -415,7 +415,7 @@ box-shows AskRate n e h = listed-d n h .1
 box-shows (SetPacketSize m) n e h = sym (eqb-true n m h)
 box-shows AskPacketSize n e h = refl
 
-pub read-has-box : (w : Wish) (bs : List ℕ) → allowed w ≡ true → isReply w bs ≡ true → Given w bs
+pub read-has-box : (w : Wish) (bs : List ℕ) → allowedWish w ≡ true → isReply w bs ≡ true → Given w bs
 read-has-box w bs e h =
     let n = numberIn w bs in
     let could = is-reply-bytes w bs h .0 in
@@ -430,13 +430,13 @@ read-has-box w bs e h =
 pub exactly : Exactly
 exactly w bs e = (into, from)
   where
-    into : readCode w bs ≡ 1 → (bs ≡ nak) ⊎ Given w bs
+    into : replyCode w bs ≡ 1 → (bs ≡ nak) ⊎ Given w bs
     into h =
         by-or (isNak bs) (isReply w bs) (λ (is : isNak bs ≡ true). inl (same-eq bs nak is))
         (λ (is : isReply w bs ≡ true). inr (read-has-box w bs e is)) (code-accepted w bs e h)
 
-    from : (bs ≡ nak) ⊎ Given w bs → readCode w bs ≡ 1
+    from : (bs ≡ nak) ⊎ Given w bs → replyCode w bs ≡ 1
     from (inl is) = accepted-code w bs e (or-left (isNak bs) (isReply w bs) (eq-same bs nak is))
     from (inr g) =
-        subst (λ (l : List ℕ). readCode w l ≡ 1) (g .gives)
+        subst (λ (l : List ℕ). replyCode w l ≡ 1) (g .gives)
         (accepted-code w (replyOf (g .settings) (asMessage w)) e (box-reply-accepted w (g .settings) e (g .valid)))

@@ -30,11 +30,11 @@ use Rattle.wishes.specs.declared.Wish.{Wish}
 use Rattle.wishes.specs.declared.Wish.the-variants.{AskName, AskSerial, AskInterface, AskVersion, AskStatus, SetState}
 use Rattle.wishes.specs.declared.Wish.the-variants.{AskState, SetFrequency, AskFrequency, AskFrequencyRange, SetGain, AskGain}
 use Rattle.wishes.specs.declared.Wish.the-variants.{SetClock, AskClock, SetRate, AskRate, SetPacketSize, AskPacketSize}
-use Rattle.wishes.specs.Wishes.{allowed}
+use Rattle.wishes.specs.Wishes.{allowedWish}
 use Rattle.wishes.proofs.Allowed.{state-has, bands-high, gain-below, value-fits}
 use Rattle.wire.proofs.Laws.{one-has}
 use Rattle.replies.specs.Awaited.{awaited, versionNumber, idleShown, runShown, stateShown, replyLayout, replyBytes, numberIn}
-use Rattle.replies.specs.Reading.{isNak, isReply, readCode, told, toldOf}
+use Rattle.replies.specs.Reading.{isNak, isReply, replyCode, replySays, replyReaderSays}
 use Rattle.wire.specs.Lists.{same}
 use Rattle.replies.proofs.Answers.{read-reply}
 use Rattle.wire.proofs.Lists.{same-eq, same-refl, ne-same}
@@ -50,7 +50,7 @@ rate-achieved hz d a e near got =
     got ∙ rw (found, nearest-d hz e)
 
 -- a value that a valid box could give fits its field
-pub could-fits : (w : Wish) (n : ℕ) → allowed w ≡ true → awaited w .could n ≡ true → n < 256 ^ awaited w .width
+pub could-fits : (w : Wish) (n : ℕ) → allowedWish w ≡ true → awaited w .could n ≡ true → n < 256 ^ awaited w .width
 could-fits AskName n e h = rw (eqb-true n (number nameBytes) h) (lit< tt)
 could-fits AskSerial n e h = lt-of-lt-of-le (ltb-true n (256 ^ 8) (and-right (allSerial (bytes 8 n)) (ltb n (256 ^ 8)) h)) (lit≤ tt)
 could-fits AskInterface n e h = rw (eqb-true n 105 h) (lit< tt)
@@ -84,7 +84,7 @@ pub reply-value : (w : Wish) (n : ℕ) → n < 256 ^ awaited w .width → number
 unfolding replyBytes
 reply-value w n small = value-read (replyLayout w n) small
 
-pub reply-is-reply : (w : Wish) (n : ℕ) → allowed w ≡ true → awaited w .could n ≡ true → isReply w (replyBytes w n) ≡ true
+pub reply-is-reply : (w : Wish) (n : ℕ) → allowedWish w ≡ true → awaited w .could n ≡ true → isReply w (replyBytes w n) ≡ true
 unfolding isReply
 reply-is-reply w n e h = rw (reply-value w n (could-fits w n e h), h) (same-refl (replyBytes w n))
 
@@ -96,7 +96,7 @@ reply-no-nak w n = ne-same (replyBytes w n) nak (λ is. absurd (two (ap length i
     two : length (laid (replyLayout w n)) ≡ 2 → ⊥
     two is = omega (arith, length-laid (replyLayout w n), least (replyLayout w n))
 
-pub reply-read : (w : Wish) (n : ℕ) → allowed w ≡ true → awaited w .could n ≡ true → told (awaited w .says n) ≡ toldOf w (replyBytes w n)
+pub reply-read : (w : Wish) (n : ℕ) → allowedWish w ≡ true → awaited w .could n ≡ true → replySays (awaited w .says n) ≡ replyReaderSays w (replyBytes w n)
 reply-read w n e h =
     read-reply w (replyBytes w n) e (reply-no-nak w n) n (reply-is-reply w n e h) (reply-value w n (could-fits w n e h))
 
@@ -136,18 +136,18 @@ range-read bs l false is to from = go (isReply AskFrequencyRange bs) refl
 
 -- ---- the code of a wish that is allowed
 
-pub code-is : (w : Wish) (bs : List ℕ) → allowed w ≡ true → readCode w bs ≡ pick (isNak bs || isReply w bs) 1 28
-unfolding readCode
+pub code-is : (w : Wish) (bs : List ℕ) → allowedWish w ≡ true → replyCode w bs ≡ pick (isNak bs || isReply w bs) 1 28
+unfolding replyCode
 code-is w bs e = rw e (by (isNak bs || isReply w bs))
   where
     by : (t : Bool) → _≡_ {A = ℕ} (pick (not t) 28 1) (pick t 1 28)
     by true = refl
     by false = refl
 
-pub accepted-code : (w : Wish) (bs : List ℕ) → allowed w ≡ true → isNak bs || isReply w bs ≡ true → readCode w bs ≡ 1
+pub accepted-code : (w : Wish) (bs : List ℕ) → allowedWish w ≡ true → isNak bs || isReply w bs ≡ true → replyCode w bs ≡ 1
 accepted-code w bs e h = code-is w bs e ∙ rw h
 
-pub code-accepted : (w : Wish) (bs : List ℕ) → allowed w ≡ true → readCode w bs ≡ 1 → isNak bs || isReply w bs ≡ true
+pub code-accepted : (w : Wish) (bs : List ℕ) → allowedWish w ≡ true → replyCode w bs ≡ 1 → isNak bs || isReply w bs ≡ true
 code-accepted w bs e h = go (isNak bs || isReply w bs) refl
   where
     go : (t : Bool) → isNak bs || isReply w bs ≡ t → t ≡ true

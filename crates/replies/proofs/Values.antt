@@ -21,7 +21,7 @@ use Rattle.wishes.specs.declared.Wish.{Wish}
 use Rattle.wishes.specs.declared.Wish.the-variants.{AskName, AskSerial, AskInterface, AskVersion, AskStatus, SetState}
 use Rattle.wishes.specs.declared.Wish.the-variants.{AskState, SetFrequency, AskFrequency, AskFrequencyRange, SetGain, AskGain}
 use Rattle.wishes.specs.declared.Wish.the-variants.{SetClock, AskClock, SetRate, AskRate, SetPacketSize, AskPacketSize}
-use Rattle.wishes.specs.Wishes.{asking, allowed}
+use Rattle.wishes.specs.Wishes.{asking, allowedWish}
 use Rattle.replies.specs.Awaited.{awaited, replyType, replyLayout, replyBytes, valueAt, numberIn}
 use Rattle.replies.specs.Reading.{isReply}
 use Rattle.wire.specs.Lists.{same}
@@ -29,12 +29,12 @@ use Rattle.wire.proofs.Lists.{same-eq, eq-same}
 use Rattle.replies.proofs.Recognised.{could-fits, is-reply-bytes}
 
 -- a value that has eight bytes at most
-word : (w : Wish) → awaited w .width ≤ 8 → (n : ℕ) → allowed w ≡ true → awaited w .could n ≡ true → n < 256 ^ 8
+word : (w : Wish) → awaited w .width ≤ 8 → (n : ℕ) → allowedWish w ≡ true → awaited w .could n ≡ true → n < 256 ^ 8
 word w few n e h = lt-of-lt-of-le (could-fits w n e h) (pow-le-pow-right {n = 256} (lit≤ tt) few)
 
 -- such a reply has nine bytes of value at most, is no range reply, and a value in it that a box could give has eight
 pub plain : (w : Wish) → (w ≡ AskFrequencyRange → ⊥)
-    → (awaited w .width ≤ 9) × (replyType (asking w .kind) ≡ 0) × ((n : ℕ) → allowed w ≡ true → awaited w .could n ≡ true → n < 256 ^ 8)
+    → (awaited w .width ≤ 9) × (replyType (asking w .kind) ≡ 0) × ((n : ℕ) → allowedWish w ≡ true → awaited w .could n ≡ true → n < 256 ^ 8)
 plain AskName other = (lit≤ tt, refl, word AskName (lit≤ tt))
 plain AskSerial other = (lit≤ tt, refl, λ n e h. ltb-true n (256 ^ 8) (and-right (allSerial (bytes 8 n)) (ltb n (256 ^ 8)) h))
 plain AskInterface other = (lit≤ tt, refl, word AskInterface (lit≤ tt))
@@ -137,7 +137,7 @@ module _ (w : Wish) (bs : List ℕ) (other : w ≡ AskFrequencyRange → ⊥) wh
       rw (← (sym is ∙ word-in so small)) (rw long at (number-below (bytes width eight) (bytes-below width eight)))
 
   -- where they are not, they are no reply
-  pub not-given : allowed w ≡ true → same bs (replyBytes w eight) ≡ false → isReply w bs ≡ false
+  pub not-given : allowedWish w ≡ true → same bs (replyBytes w eight) ≡ false → isReply w bs ≡ false
   not-given e differs = go (isReply w bs) refl
     where
       go : (t : Bool) → isReply w bs ≡ t → t ≡ false

@@ -5,7 +5,7 @@ ghost use mathlib.Core.List.{[], _∷_};
 ghost use Prim.Native.Nat.{_^_, _<_};
 ghost use Rattle.wire.specs.Choice.{oneOf};
 ghost use Rattle.wire.specs.Signed.{signed};
-ghost use Rattle.wishes.specs.Wishes.{allowed};
+ghost use Rattle.wishes.specs.Wishes.{allowedWish};
 ghost use Rattle.replies.specs.Awaited.{awaited, holdsSerial, isStatus, stateShown, isState, stateCould, saysState};
 ghost use Rattle.replies.specs.declared.Reply.the-variants.{State};
 use crate::Reply;
@@ -86,7 +86,7 @@ fn state_could(fields: StateFields, n: u64) -> bool
 // A valid box could give the value n to the wish: a set is answered with the value that was sent, but for a rate, which is
 // achieved, and for idle, which keeps the mode.
 pub(crate) fn could_say(w: Wish, n: u64) -> bool
-    requires { ⌜ (allowed w ≡ true) × (w ≡ Wish.AskFrequencyRange → ⊥) × (n < 256 ^ awaited w .width) ⌝ }
+    requires { ⌜ (allowedWish w ≡ true) × (w ≡ Wish.AskFrequencyRange → ⊥) × (n < 256 ^ awaited w .width) ⌝ }
     ensures { λ r. ⌜ r ≡ awaited w .could n ⌝ }
 {
     match w {

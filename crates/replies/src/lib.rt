@@ -4,10 +4,10 @@ mod awaited; // awaited.rt: which values a wish waits for, and what each says
 ghost use mathlib.Core.Path.{_≡_};
 ghost use mathlib.Core.Bool.{true, false};
 ghost use Rattle.wire.specs.Number.{field};
-ghost use Rattle.wishes.specs.Wishes.{allowed};
+ghost use Rattle.wishes.specs.Wishes.{allowedWish};
 ghost use Rattle.replies.specs.Awaited.{awaited, replyLayout, replyBytes, valueAt};
 ghost use Rattle.replies.specs.declared.Reply.the-variants.{State};
-ghost use Rattle.replies.specs.Reading.{isNak, told, toldOf};
+ghost use Rattle.replies.specs.Reading.{isNak, replySays, replyReaderSays};
 ghost use Rattle.wire.specs.Lists.{same};
 use layouts::Layout;
 use wire::types;
@@ -78,8 +78,8 @@ fn number_in(w: Wish, bytes: &[u8]) -> u64
 
 // A reply to a wish other than the one for the range.
 fn read_value(w: Wish, bytes: &[u8]) -> Reply
-    requires { ⌜ (allowed w ≡ true) × (w ≡ Wish.AskFrequencyRange → ⊥) × (isNak (now bytes) ≡ false) ⌝ }
-    ensures { λ r. ⌜ told r ≡ toldOf w (now (bytes .entry)) ⌝ }
+    requires { ⌜ (allowedWish w ≡ true) × (w ≡ Wish.AskFrequencyRange → ⊥) × (isNak (now bytes) ≡ false) ⌝ }
+    ensures { λ r. ⌜ replySays r ≡ replyReaderSays w (now (bytes .entry)) ⌝ }
 {
     let n = number_in(w, bytes);
     if !gives(w, n, bytes) {
@@ -94,7 +94,7 @@ fn read_value(w: Wish, bytes: &[u8]) -> Reply
 // The one reply to the wish for the range, whose "channel byte 00" is echoed, with both bands.
 fn read_range(bytes: &[u8]) -> Reply
     requires { ⌜ isNak (now bytes) ≡ false ⌝ }
-    ensures { λ r. ⌜ told r ≡ toldOf Wish.AskFrequencyRange (now (bytes .entry)) ⌝ }
+    ensures { λ r. ⌜ replySays r ≡ replyReaderSays Wish.AskFrequencyRange (now (bytes .entry)) ⌝ }
 {
     let mut range = [0u8; 36];
     let size = items::put_range_reply(&mut range, 0x00);
@@ -113,7 +113,7 @@ fn is_nak(bytes: &[u8]) -> bool
 
 // What the bytes say to the wish.
 pub fn read(w: Wish, bytes: &[u8]) -> Reply
-    ensures { λ r. ⌜ told r ≡ toldOf w (now (bytes .entry)) ⌝ }
+    ensures { λ r. ⌜ replySays r ≡ replyReaderSays w (now (bytes .entry)) ⌝ }
 {
     if !wishes::is_allowed(w) {
         return Reply::NotAllowed;

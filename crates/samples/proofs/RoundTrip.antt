@@ -19,7 +19,7 @@ use Rattle.wire.proofs.Laws.{and-left, and-right}
 use Rattle.wire.proofs.Numbers.{length-bytes, number-bytes}
 use Rattle.wire.proofs.Signed.{coded-below, signed-coded}
 use Rattle.packets.specs.declared.Form.{Form}
-use Rattle.packets.specs.Forms.{listed}
+use Rattle.packets.specs.Forms.{listedForm}
 use Rattle.packets.specs.Samples.{isSample, allSamples, narrowed, sampleBytes, samplesBytes, sampleAt, samplesFrom}
 use Rattle.packets.proofs.Forms.{is-listed-form}
 
@@ -65,7 +65,7 @@ module _ (bits : ℕ) (some : 1 ≤ bits) (most : bits ≤ 24) where
     round-trip zs all = from [] 0 zs (sym (mul-zero (bits / 8))) all
 
 -- so at each listed form
-pub round-trip-form : (f : Form) → listed f ≡ true → (zs : List ℤ) → allSamples zs ≡ true
+pub round-trip-form : (f : Form) → listedForm f ≡ true → (zs : List ℤ) → allSamples zs ≡ true
     → samplesFrom (f .bits) (samplesBytes (f .bits) zs) 0 (length zs) ≡ map (narrowed (f .bits)) zs
 round-trip-form f l = let g = is-listed-form f l in round-trip (f .bits) (omega arith) (g .narrow) (g .bytewise)
 

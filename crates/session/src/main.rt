@@ -130,9 +130,8 @@ fn served(s: Station, read: usize, got: isize)
 
 // Says once, and after all else, what could not be done.
 fn main() {
-    let began = station::fresh(b"MT123456");
     let mut buf = [0u8; 65536];
-    let ended = serve(began.station, &mut buf);
+    let ended = serve(station::session_box(), &mut buf);
     if !ended.written {
         os::fail(b"session: a reply could not be written");
         return;

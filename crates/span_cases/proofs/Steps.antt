@@ -27,7 +27,9 @@ pub record Step (input : List ℕ) (at : ℕ) (r : Eaten) : Type 0 where
   pub some : 1 ≤ r .consumed
   pub next : HandedUpTo input (r .span) (at + r .consumed)
 
-module _ (input : List ℕ) (span : Span) (at step : ℕ) (h : HandedUpTo input span at) (more : at < length input) (some : 0 < step) (near : length input ≤ farthest) where
+module _
+    (input : List ℕ) (span : Span) (at step : ℕ) (h : HandedUpTo input span at)
+    (more : at < length input) (some : 0 < step) (near : length input ≤ farthest) where
   abbrev piece : List ℕ
   piece = take step (drop at input)
 
@@ -45,5 +47,7 @@ module _ (input : List ℕ) (span : Span) (at step : ℕ) (h : HandedUpTo input 
   stepped = record { some = call .moves; next = record { inside = omega (arith, call .inside, long .1); goes = call .goes } }
 
   -- as the call's own answer says, of the part that it was handed
-  pub steps : (part : List ℕ) (r : Eaten) → part ≡ take step (take (length input - at) (drop at input)) → r ≡ eatingOf span part 256 .eaten → Step input at r
+  pub steps : (part : List ℕ) (r : Eaten)
+      → part ≡ take step (take (length input - at) (drop at input)) → r ≡ eatingOf span part 256 .eaten
+      → Step input at r
   steps part r is told = rw (told, is, take-all (length input - at) (drop at input) (simp length-drop (le-refl _))) stepped

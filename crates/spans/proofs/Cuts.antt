@@ -16,8 +16,8 @@ use Rattle.wire.proofs.Checks.{given-below}
 use Rattle.wire.proofs.Stores.{sets-append}
 use Rattle.packets.specs.declared.Form.{Form}
 use Rattle.heads.specs.declared.Head.{Head}
-use Rattle.heads.specs.Head.{headLength, formIn, readChecks}
-use Rattle.heads.specs.Head.{readCode as headCode}
+use Rattle.heads.specs.Head.{headLength, formIn, headReadChecks}
+use Rattle.heads.specs.Head.{headReadCode}
 use Rattle.hearing.specs.declared.Tally.{Tally}
 use Rattle.hearing.specs.declared.Reach.{Reach}
 use Rattle.spans.specs.declared.Span.{Span}
@@ -45,7 +45,7 @@ use Rattle.hearing.proofs.Ranges.{reach-sane}
 -- from a head on that has been taken so far, with what is left of the bytes
 abbrev pub headComing : Span → List ℕ → List Line
 headComing after left =
-    let code = headCode (after .head) in
+    let code = headReadCode (after .head) in
     pick (ltb (after .came) headLength) (openingLine ∷ refusalLine 40 0 ∷ [])
     (headLines code ++ ifOne code (comingBy (headOf after) (after .tally) left))
 
@@ -230,9 +230,9 @@ module _ (s : Span) (used b : ℕ) (bs rest : List ℕ) (goes : s .stopped ≡ f
 
 -- ---- the head's part
 
-head-code-small : (s : List ℕ) → headCode s < 42
-unfolding headCode
-head-code-small s = given-below 42 (readChecks s) 1 refl (omega arith)
+head-code-small : (s : List ℕ) → headReadCode s < 42
+unfolding headReadCode
+head-code-small s = given-below 42 (headReadChecks s) 1 refl (omega arith)
 
 -- a span that goes on, with so many bytes of its head
 abbrev pub filled : Span → ℕ → List ℕ → Span
@@ -324,7 +324,7 @@ module _ (s : Span) (used b : ℕ) (bs rest : List ℕ) (goes : s .stopped ≡ f
     whole = omega (arith, lacks)
 
     abbrev code : ℕ
-    code = headCode (after .head)
+    code = headReadCode (after .head)
 
     abbrev left : List ℕ
     left = drop lacked chunk ++ rest
@@ -353,7 +353,7 @@ module _ (s : Span) (used b : ℕ) (bs rest : List ℕ) (goes : s .stopped ≡ f
     read-going e =
         let one : eqb code 1 ≡ true = not-false (eqb code 1) e in
         let begins : s .tally .begins ≡ headLength = ap (λ (t : Tally). t .begins) (g .head few .1) in
-        let none : s .tally .taken ≡ 0 = ap (λ (t : Tally). t .taken) (g .head few .1) in
+        let none : s .tally .come ≡ 0 = ap (λ (t : Tally). t .come) (g .head few .1) in
         record {
           long = after-long;
           head = λ h. absurd (omega (arith, whole));
@@ -388,7 +388,7 @@ module _ (s : Span) (used b : ℕ) (bs rest : List ℕ) (goes : s .stopped ≡ f
 
       said : headLength ≤ s .came + length chunk → OneCall s used chunk rest (openingBy s room lacked after)
       said late =
-          let n : ℕ = headCode (after .head) in
+          let n : ℕ = headReadCode (after .head) in
           let by = opening-says s after room lacked n (omega (arith, whole late)) refl in
           let fits = head-room n (omega (arith, head-code-small (after .head))) in
           subst (OneCall s used chunk rest) (sym (by ∙ says s lacked (headLines n) (headRead n after) fits)) (call-late late)

@@ -13,31 +13,31 @@ use Rattle.packets.specs.Numbers.{last}
 use Rattle.packets.proofs.Forms.{is-listed-form}
 use Rattle.heads.specs.declared.Opened.{Opened}
 use Rattle.heads.specs.declared.Head.{Head}
-use Rattle.heads.specs.Head.{headLength, formIn, allowed, Reading, openedSays, readingOf}
+use Rattle.heads.specs.Head.{headLength, formIn, allowedHead, HeadReading, openedSays, headReadingOf}
 use Rattle.heads.proofs.Rounds.{form-listed, divisor-small, passed}
-use Rattle.heads.specs.Head.{readCode as headCode}
+use Rattle.heads.specs.Head.{headReadCode}
 use Rattle.hearing.specs.declared.Tally.{Tally}
 use Rattle.spans.specs.declared.Span.{Span}
 use Rattle.lines.specs.declared.Due.{Due}
 use Rattle.lines.specs.declared.Ending.{Ending}
-use Rattle.lines.specs.declared.Told.{Told}
+use Rattle.lines.specs.declared.LinesAnswer.{LinesAnswer}
 use Rattle.spans.specs.declared.Eaten.{Eaten}
 use Rattle.hearing.specs.declared.Reach.{Reach}
 use Rattle.lines.specs.Lines.{Line, textOf}
 use Rattle.lines.specs.Due.{dueLines, sized, Telling, silentWith, telling, tellingOf}
 use Rattle.lines.proofs.Dues.{is-sized, telling-sized}
-use Rattle.hearing.specs.Hearing.{inRange, reaching}
+use Rattle.hearing.specs.Hearing.{tallyInRange, reaching}
 use Rattle.spans.specs.Eating.{headOk, validSpan, headOf, withTally, lacking, headTaken, headLines}
 use Rattle.spans.specs.Eating.{headRead, heardLines, heardSpan, Eating, refused, silently, saying, opening}
 use Rattle.spans.specs.Eating.{openingBy, listening, listeningBy, eatingOf, lastLines, finishingOf}
 use Rattle.spans.specs.Inside.{dueNow}
 
 -- the number of what was read is the code
-pub code-said : (o : Opened) (s : List ℕ) → openedSays o ≡ readingOf s → openedSays o .code ≡ headCode s
-unfolding readingOf
-code-said o s e = ap (λ (r : Reading). r .code) e
+pub code-said : (o : Opened) (s : List ℕ) → openedSays o ≡ headReadingOf s → openedSays o .code ≡ headReadCode s
+unfolding headReadingOf
+code-said o s e = ap (λ (r : HeadReading). r .code) e
 
-pub valid-by : (s : Span) {a b c : Bool} → s .stopped ≡ a → inRange (s .tally) ≡ b → headOk s ≡ c → validSpan s ≡ a || (b && c)
+pub valid-by : (s : Span) {a b c : Bool} → s .stopped ≡ a → tallyInRange (s .tally) ≡ b → headOk s ≡ c → validSpan s ≡ a || (b && c)
 unfolding validSpan
 valid-by s p q r = cc
 
@@ -46,14 +46,14 @@ valid-by s p q r = cc
 pub lacked : (s : Span) (piece : List ℕ) (k : ℕ) → k ≡ min (headLength - s .came) (length piece) → k ≡ length (take k piece)
 lacked s piece k is = sym (length-take-le k piece (omega arith))
 
-pub head-taken : (s : Span) (piece held : List ℕ) (k : ℕ) → k ≡ min (headLength - s .came) (length piece)
-    → held ≡ sets (s .head) (s .came) (take k piece)
-    → record { stopped = false; came = s .came + k; head = held; tally = s .tally } ≡ headTaken s piece
-head-taken s piece held k is stored = rw (stored, is)
+pub head-taken : (s : Span) (piece head : List ℕ) (k : ℕ) → k ≡ min (headLength - s .came) (length piece)
+    → head ≡ sets (s .head) (s .came) (take k piece)
+    → record { stopped = false; came = s .came + k; head = head; tally = s .tally } ≡ headTaken s piece
+head-taken s piece head k is stored = rw (stored, is)
 
 -- ---- the lines that are due
 
-pub due-sized : (h : Head) (t : Tally) (ending : Ending) → allowed h ≡ true → t .position ≤ last → sized (dueNow h t ending) ≡ true
+pub due-sized : (h : Head) (t : Tally) (ending : Ending) → allowedHead h ≡ true → t .position ≤ last → sized (dueNow h t ending) ≡ true
 due-sized h t ending ok fits =
     is-sized (dueNow h t ending) fits (is-listed-form (formIn h) (form-listed h ok) .few) (divisor-small h ok)
 
@@ -64,21 +64,21 @@ due-is p q s = (ap dueLines p ∙ q, ap sized p ∙ s)
 -- ---- what a call answers
 
 -- What `tell` answered for lines, in a slice with so much room: 20, or the lines' text.
-module _ (lines : List Line) (room : ℕ) (told : Told) (is : told ≡ telling (textOf lines) room .told) where
+module _ (lines : List Line) (room : ℕ) (told : LinesAnswer) (is : told ≡ telling (textOf lines) room .told) where
   short : told .code ≡ 20 → ltb room (length (textOf lines)) ≡ true
   short no-room = by (ltb room (length (textOf lines))) refl
     where
       by : (b : Bool) → ltb room (length (textOf lines)) ≡ b → ltb room (length (textOf lines)) ≡ true
       by true e = e
       by false e =
-          let code : told .code ≡ 1 = ap (λ (t : Told). t .code) is ∙ rw e in
+          let code : told .code ≡ 1 = ap (λ (t : LinesAnswer). t .code) is ∙ rw e in
           absurd (omega arith)
 
   long : (told .code ≡ 20 → ⊥) → ltb room (length (textOf lines)) ≡ false
   long fits = by (ltb room (length (textOf lines))) refl
     where
       by : (b : Bool) → ltb room (length (textOf lines)) ≡ b → ltb room (length (textOf lines)) ≡ false
-      by true e = absurd (fits (ap (λ (t : Told). t .code) is ∙ rw e))
+      by true e = absurd (fits (ap (λ (t : LinesAnswer). t .code) is ∙ rw e))
       by false e = e
 
   -- with 20 nothing is written
@@ -96,7 +96,7 @@ module _ (lines : List Line) (room : ℕ) (told : Told) (is : told ≡ telling (
       → saying s room n lines after
       ≡ record { eaten = record { code = 1; consumed = n; wrote = told .wrote; span = after }; bytes = textOf lines }
   said s after n fits =
-      let wrote : told .wrote ≡ length (textOf lines) = ap (λ (t : Told). t .wrote) is ∙ rw (long fits) in
+      let wrote : told .wrote ≡ length (textOf lines) = ap (λ (t : LinesAnswer). t .wrote) is ∙ rw (long fits) in
       rw (long fits, wrote)
 
 -- an answer for what something is, is an answer for it
@@ -108,7 +108,7 @@ pub opening-by : (s : Span) (piece : List ℕ) (room : ℕ) (after : Span) → a
     → opening s piece room ≡ openingBy s room (after .came - s .came) after
 unfolding opening
 opening-by s piece room after is =
-    let taken : after .came ≡ s .came + lacking s piece = ap (λ (x : Span). x .came) is in
+    let come : after .came ≡ s .came + lacking s piece = ap (λ (x : Span). x .came) is in
     let count : after .came - s .came ≡ lacking s piece = omega arith in
     ap (λ (x : Span). openingBy s room (lacking s piece) x) (sym is) ∙ ap (λ (n : ℕ). openingBy s room n after) (sym count)
 
@@ -117,7 +117,7 @@ pub opening-waits : (s after : Span) (room n : ℕ) → after .came < headLength
 opening-waits s after room n h = rw (lt-ltb (after .came) headLength h)
 
 -- a whole head
-pub opening-says : (s after : Span) (room n code : ℕ) → headLength ≤ after .came → code ≡ headCode (after .head)
+pub opening-says : (s after : Span) (room n code : ℕ) → headLength ≤ after .came → code ≡ headReadCode (after .head)
     → openingBy s room n after ≡ saying s room n (headLines code) (headRead code after)
 opening-says s after room n code h is = rw (le-ltb (after .came) headLength h, is)
 
@@ -135,7 +135,7 @@ pub listening-says : (s : Span) (room : ℕ) (r : Reach) → (r .code ≡ 0 → 
 listening-says s room r e = rw (ne-eqb (r .code) 0 e)
 
 -- What was told of lines that are due: those of d, into a slice `out` that is `after` then, in a call that comes to x.
-pub record Tells (s next : Span) (n : ℕ) (lines : List Line) (out after : List ℕ) (told : Told) (x : Eating) : Type 0 where
+pub record Tells (s next : Span) (n : ℕ) (lines : List Line) (out after : List ℕ) (told : LinesAnswer) (x : Eating) : Type 0 where
   pub due : Due
   pub are : dueLines due ≡ lines
   pub fit : sized due ≡ true
@@ -143,7 +143,7 @@ pub record Tells (s next : Span) (n : ℕ) (lines : List Line) (out after : List
   pub is : x ≡ saying s (length out) n lines next
 
 -- The two answers of such a call.
-module _ {s next : Span} {n : ℕ} {lines : List Line} {out after : List ℕ} {told : Told} {x : Eating}
+module _ {s next : Span} {n : ℕ} {lines : List Line} {out after : List ℕ} {told : LinesAnswer} {x : Eating}
     (t : Tells s next n lines out after told x) where
   same-lines : tellingOf (t .due) (length out) ≡ telling (textOf lines) (length out)
   same-lines = telling-sized (t .due) (length out) (t .fit) ∙ ap (λ (ls : List Line). telling (textOf ls) (length out)) (t .are)
@@ -169,19 +169,19 @@ module _ {s next : Span} {n : ℕ} {lines : List Line} {out after : List ℕ} {t
 -- ---- valid spans
 
 module _ (s : Span) (ok : validSpan s ≡ true) (goes : s .stopped ≡ false) where
-  unbroken : inRange (s .tally) && headOk s ≡ true
+  unbroken : tallyInRange (s .tally) && headOk s ≡ true
   unbroken = sym (valid-by s goes refl refl) ∙ ok
 
-  pub valid-range : inRange (s .tally) ≡ true
-  valid-range = and-left (inRange (s .tally)) (headOk s) unbroken
+  pub valid-range : tallyInRange (s .tally) ≡ true
+  valid-range = and-left (tallyInRange (s .tally)) (headOk s) unbroken
 
   -- the head of a valid span that has all of it is one that may be written
-  pub valid-head : headLength ≤ s .came → allowed (headOf s) ≡ true
+  pub valid-head : headLength ≤ s .came → allowedHead (headOf s) ≡ true
   valid-head whole =
-      let here : headOk s ≡ true = and-right (inRange (s .tally)) (headOk s) unbroken in
-      let read : eqb (s .came) headLength && eqb (headCode (s .head)) 1 ≡ true
+      let here : headOk s ≡ true = and-right (tallyInRange (s .tally)) (headOk s) unbroken in
+      let read : eqb (s .came) headLength && eqb (headReadCode (s .head)) 1 ≡ true
       = or-rest (ltb (s .came) headLength) _ here (le-ltb (s .came) headLength whole) in
-      passed (s .head) (eqb-true _ _ (and-right (eqb (s .came) headLength) (eqb (headCode (s .head)) 1) read)) .ok
+      passed (s .head) (eqb-true _ _ (and-right (eqb (s .came) headLength) (eqb (headReadCode (s .head)) 1) read)) .ok
 
 -- ---- which part of a call
 
@@ -216,7 +216,7 @@ module _ (s : Span) (room′ : ℕ) where
   finishing-says v p = rw (v, p)
 
 -- as `answers`, for the end
-pub finishes : {e : Told} (out : List ℕ) {after : List ℕ} {x : Telling} (y : Telling) → x ≡ y
+pub finishes : {e : LinesAnswer} (out : List ℕ) {after : List ℕ} {x : Telling} (y : Telling) → x ≡ y
     → (e ≡ y .told) × (after ≡ sets out 0 (y .bytes))
     → (e ≡ x .told) × (after ≡ sets out 0 (x .bytes))
 finishes {e} out {after} y same did = subst (λ (z : Telling). (e ≡ z .told) × (after ≡ sets out 0 (z .bytes))) (sym same) did

@@ -4,10 +4,10 @@ use mathlib.Core.Path.{_≡_, refl}
 use mathlib.Core.List.{List, [], _∷_, _++_}
 use lib.ListN.{replicate}
 use Rattle.wire.specs.Number.{bytes}
-use Rattle.reader.specs.Reading.{readCode}
+use Rattle.reader.specs.Reading.{readingCode}
 use Rattle.heads.specs.declared.Head.{Head}
 use Rattle.heads.specs.Head.{headBytes}
-use Rattle.heads.specs.Head.{readCode as headCode}
+use Rattle.heads.specs.Head.{headReadCode}
 use Rattle.lines.specs.Lines.{digitsIn, decimal}
 use Rattle.spans.specs.Report.{packetsIn, linesFrom, linesOf, report, packetCode}
 
@@ -29,5 +29,5 @@ pub worked-text : report example
     ∷ 0x43 ∷ 0x20 ∷ 0x31 ∷ 0x20 ∷ 0x32 ∷ 0x34 ∷ 0x20 ∷ 0x36 ∷ 0x34 ∷ 0x20 ∷ 0x33 ∷ 0x20 ∷ 0x35
     ∷ 0x20 ∷ 0x33 ∷ 0x32 ∷ 0x30 ∷ 0x20 ∷ 0x31 ∷ 0x36 ∷ 0x30 ∷ 0x30 ∷ 0x0A
     ∷ 0x45 ∷ 0x20 ∷ 0x31 ∷ 0x0A ∷ []
-unfolding headBytes headCode linesOf linesFrom packetsIn packetCode readCode report decimal digitsIn
+unfolding headBytes headReadCode linesOf linesFrom packetsIn packetCode readingCode report decimal digitsIn
 worked-text = refl

@@ -12,12 +12,12 @@ use Rattle.wire.proofs.Laws.{pick-keeps, or-right, or-left, and-both}
 use Rattle.packets.specs.declared.Form.{Form}
 use Rattle.packets.specs.Numbers.{last}
 use Rattle.heads.specs.Head.{headLength}
-use Rattle.heads.specs.Head.{readCode as headCode}
+use Rattle.heads.specs.Head.{headReadCode}
 use Rattle.heads.proofs.Rounds.{passed}
 use Rattle.hearing.specs.declared.Tally.{Tally}
 use Rattle.hearing.specs.declared.Reach.{Reach}
 use Rattle.spans.specs.declared.Span.{Span}
-use Rattle.hearing.specs.Hearing.{farthest, inRange, taking, accepting, heardCode, closes, settled, reaching}
+use Rattle.hearing.specs.Hearing.{farthest, tallyInRange, takingByte, accepting, heardCode, closes, settled, reaching}
 use Rattle.hearing.specs.Inside.{Sane}
 use Rattle.spans.specs.Eating.{freshTally, freshSpan, headOk, validSpan, headOf}
 use Rattle.hearing.proofs.Reaches.{settled-at}
@@ -37,7 +37,7 @@ pub record Counted (t : Tally) : Type 0 where
 pub record Going (s : Span) (used : ℕ) : Type 0 where
   pub long : length (s .head) ≡ 14
   pub head : s .came < headLength → (s .came ≡ used) × (s .tally ≡ freshTally)
-  pub packets : headLength ≤ s .came → (s .came ≡ headLength) × (headCode (s .head) ≡ 1) × (s .tally .begins + s .tally .taken ≡ used)
+  pub packets : headLength ≤ s .came → (s .came ≡ headLength) × (headReadCode (s .head) ≡ 1) × (s .tally .begins + s .tally .come ≡ used)
   pub counted : Counted (s .tally)
 
 pub fresh-counted : Counted freshTally
@@ -47,22 +47,22 @@ pub fresh-going : Going freshSpan 0
 fresh-going = record { long = refl; head = λ h. (refl, refl); packets = λ h. absurd (omega arith); counted = fresh-counted }
 
 module _ (s : Span) (used : ℕ) (g : Going s used) (near : used ≤ farthest) where
-  near-end : s .tally .begins + s .tally .taken ≤ farthest
+  near-end : s .tally .begins + s .tally .come ≤ farthest
   near-end = elim (decLt (s .came) headLength) [ yes h ↦ opened (g .head h .1) | no h ↦ omega (arith, g .packets (omega arith) .2) ]
     where
-      opened : s .tally ≡ freshTally → s .tally .begins + s .tally .taken ≤ farthest
-      opened e = omega (arith, ap (λ (t : Tally). t .begins) e, ap (λ (t : Tally). t .taken) e)
+      opened : s .tally ≡ freshTally → s .tally .begins + s .tally .come ≤ farthest
+      opened e = omega (arith, ap (λ (t : Tally). t .begins) e, ap (λ (t : Tally). t .come) e)
 
-  going-range : inRange (s .tally) ≡ true
+  going-range : tallyInRange (s .tally) ≡ true
   going-range =
       let c = g .counted in
-      range-by (s .tally) (le-leb (s .tally .begins + s .tally .taken) farthest near-end)
+      range-by (s .tally) (le-leb (s .tally .begins + s .tally .come) farthest near-end)
       (le-leb _ _ (c .heard)) (le-leb _ _ (c .captures)) (le-leb _ _ (c .position))
 
   going-head : headOk s ≡ true
   going-head = elim (decLt (s .came) headLength) [ yes h ↦ or-left _ _ (lt-ltb _ _ h) | no h ↦ whole (g .packets (omega arith)) ]
     where
-      whole : (s .came ≡ headLength) × (headCode (s .head) ≡ 1) × (s .tally .begins + s .tally .taken ≡ used) → headOk s ≡ true
+      whole : (s .came ≡ headLength) × (headReadCode (s .head) ≡ 1) × (s .tally .begins + s .tally .come ≡ used) → headOk s ≡ true
       whole p = or-right (ltb (s .came) headLength) _ (and-both _ _ (eq-eqb _ _ (p .0)) (eq-eqb _ _ (p .1)))
 
   pub going-valid : s .stopped ≡ false → validSpan s ≡ true
@@ -86,10 +86,10 @@ stopped-valid s e = valid-by s e refl refl
 
 -- the input bytes that a tally stands behind
 abbrev pub passedBy : Tally → ℕ
-passedBy t = t .begins + t .taken
+passedBy t = t .begins + t .come
 
-passed-taking : (t : Tally) (b : ℕ) → passedBy (taking t b) ≡ passedBy t + 1
-unfolding taking
+passed-taking : (t : Tally) (b : ℕ) → passedBy (takingByte t b) ≡ passedBy t + 1
+unfolding takingByte
 passed-taking t b = omega arith
 
 pub passed-accepting : (t : Tally) → passedBy (accepting t) ≡ passedBy t
@@ -110,10 +110,10 @@ pub passed-reach : (bs : List ℕ) (n : ℕ) (f : Form) (t : Tally)
 unfolding reaching
 passed-reach [] n f t = refl
 passed-reach (b ∷ bs) n f t =
-    let next = passed-reach bs (n + 1) f (settled (n + 1) f (taking t b) .tally) in
-    let one = passed-settled (n + 1) f (taking t b) in
-    pick-keeps (λ (r : Reach). passedBy (r .tally) + n ≡ passedBy t + r .at) (eqb (settled (n + 1) f (taking t b) .code) 0) _ _
-    (λ e. omega (arith, next, one, passed-taking t b)) (λ e. omega (arith, one, passed-taking t b, settled-at (n + 1) f (taking t b)))
+    let next = passed-reach bs (n + 1) f (settled (n + 1) f (takingByte t b) .tally) in
+    let one = passed-settled (n + 1) f (takingByte t b) in
+    pick-keeps (λ (r : Reach). passedBy (r .tally) + n ≡ passedBy t + r .at) (eqb (settled (n + 1) f (takingByte t b) .code) 0) _ _
+    (λ e. omega (arith, next, one, passed-taking t b)) (λ e. omega (arith, one, passed-taking t b, settled-at (n + 1) f (takingByte t b)))
 
 -- counts stay counts
 pub counted-sane : (t : Tally) (rest : ℕ) → Counted t → passedBy t + rest < 2 ^ 64 → Sane rest t

@@ -16,8 +16,8 @@ use Rattle.wire.specs.Number.{number, field}
 use Rattle.wire.proofs.Lists.{bytes-drop}
 use Rattle.wire.proofs.Stores.{sets-whole}
 use Rattle.heads.specs.declared.Head.{Head}
-use Rattle.heads.specs.Head.{mark, version, headLength, allowed, headIn}
-use Rattle.heads.specs.Head.{readCode as headCode}
+use Rattle.heads.specs.Head.{mark, version, headLength, allowedHead, headIn}
+use Rattle.heads.specs.Head.{headReadCode}
 use Rattle.heads.proofs.Codes.{code-by}
 use Rattle.heads.proofs.Rounds.{passed, form-listed}
 use Rattle.spans.specs.declared.Span.{Span}
@@ -49,25 +49,25 @@ head-taken-in : (s : List ℕ) → headIn (take headLength s) ≡ headIn s
 head-taken-in s =
     rw (field-head 5 2 s (omega arith), field-head 7 5 s (omega arith), field-head 12 1 s (omega arith), field-head 13 1 s (omega arith))
 
-head-code-taken : (s : List ℕ) → headLength ≤ length s → headCode (take headLength s) ≡ headCode s
+head-code-taken : (s : List ℕ) → headLength ≤ length s → headReadCode (take headLength s) ≡ headReadCode s
 head-code-taken s long =
     code-by (take headLength s) (le-ltb (length (take headLength s)) headLength (omega (arith, length-take-le headLength s long)))
     (ap (λ (n : ℕ). eqb n (number mark)) (field-head 0 3 s (omega arith)))
     (ap (λ (n : ℕ). eqb n version) (field-head 3 2 s (omega arith)))
-    (ap allowed (head-taken-in s))
+    (ap allowedHead (head-taken-in s))
     ∙ sym (code-by s (le-ltb (length s) headLength long) refl refl refl)
 
 -- ---- the whole input
 
 nothing-known : Knows freshTally nothing
-nothing-known = record { taken = refl; offset = refl; captures = refl; heard = refl; position = refl; allowed = omega arith }
+nothing-known = record { come = refl; offset = refl; captures = refl; heard = refl; position = refl; allowed = omega arith }
 
 module _ (input : List ℕ) where
   -- the head is cut off
   cut-head : length input < headLength → comingHead freshSpan input ≡ linesOf input
   unfolding linesOf
   cut-head short =
-      let code : headCode input ≡ 40 = code-by input (lt-ltb (length input) headLength short) refl refl refl in
+      let code : headReadCode input ≡ 40 = code-by input (lt-ltb (length input) headLength short) refl refl refl in
       rw (lt-ltb (headTaken freshSpan input .came) headLength (omega arith), code)
 
   -- the head is whole
@@ -85,30 +85,30 @@ module _ (input : List ℕ) where
     lacks : lacking freshSpan input ≡ headLength
     lacks = omega arith
 
-    held : headTaken freshSpan input ≡ filled freshSpan headLength first
-    held =
+    head : headTaken freshSpan input ≡ filled freshSpan headLength first
+    head =
         let whole = sets-whole (replicate 14 0) first (length-take-le headLength input long) in
         ap (λ (k : ℕ). filled freshSpan (0 + k) (sets (replicate 14 0) 0 (take k input))) lacks ∙ ap (filled freshSpan headLength) whole
 
-    after-head : comingHead freshSpan input ≡ byHead (headCode input) (headIn input) rest
+    after-head : comingHead freshSpan input ≡ byHead (headReadCode input) (headIn input) rest
     after-head =
-        ap (λ (x : Span). headComing x (drop (lacking freshSpan input) input)) held
-        ∙ ap (λ (k : ℕ). byHead (headCode first) (headIn first) (drop k input)) lacks
+        ap (λ (x : Span). headComing x (drop (lacking freshSpan input) input)) head
+        ∙ ap (λ (k : ℕ). byHead (headReadCode first) (headIn first) (drop k input)) lacks
         ∙ ap (λ (c : ℕ). byHead c (headIn first) rest) (head-code-taken input long)
-        ∙ ap (λ (h : Head). byHead (headCode input) h rest) (head-taken-in input)
+        ∙ ap (λ (h : Head). byHead (headReadCode input) h rest) (head-taken-in input)
 
     whole-head : allBytes input → comingHead freshSpan input ≡ linesOf input
     unfolding linesOf
-    whole-head small = after-head ∙ by (eqb (headCode input) 1) refl
+    whole-head small = after-head ∙ by (eqb (headReadCode input) 1) refl
       where
         packets : List Line
         packets = linesFrom (headIn input) nothing (packetsIn (length input) rest)
 
-        by : (one : Bool) → eqb (headCode input) 1 ≡ one
-            → byHead (headCode input) (headIn input) rest
-            ≡ openingLine ∷ pick (eqb (headCode input) 1) packets (refusalLine (headCode input) 0 ∷ [])
+        by : (one : Bool) → eqb (headReadCode input) 1 ≡ one
+            → byHead (headReadCode input) (headIn input) rest
+            ≡ openingLine ∷ pick (eqb (headReadCode input) 1) packets (refusalLine (headReadCode input) 0 ∷ [])
         by true e =
-            let form = form-listed (headIn input) (passed input (eqb-true (headCode input) 1 e) .ok) in
+            let form = form-listed (headIn input) (passed input (eqb-true (headReadCode input) 1 e) .ok) in
             let few : length rest ≤ length input = simp length-drop (omega arith) in
             let small-rest = bytes-drop headLength input small in
             let same = coming-lines (length input) (headIn input) form freshTally nothing rest few nothing-known small-rest in

@@ -15,11 +15,11 @@ use Rattle.wire.specs.Number.{field}
 use Rattle.wire.proofs.Laws.{and-left, and-both, true-not-false}
 use Rattle.wire.proofs.Lists.{byte-at, bytes-drop}
 use Rattle.packets.specs.declared.Form.{Form}
-use Rattle.packets.specs.Forms.{sameForm, totalOf, listed, formWithHeader, wholeOf, isPacket}
+use Rattle.packets.specs.Forms.{sameForm, totalOf, listedForm, formWithHeader, wholeOf, isPacket}
 use Rattle.packets.specs.Numbers.{numberAt, stepOf, numberIn, last}
 use Rattle.packets.proofs.Numbers.{field-two}
 use Rattle.reader.specs.declared.Reader.{Reader}
-use Rattle.reader.specs.Reading.{sound, positionAfter, readCode}
+use Rattle.reader.specs.Reading.{sound, positionAfter, readingCode}
 use Rattle.heads.specs.declared.Head.{Head}
 use Rattle.heads.specs.Head.{formIn}
 use Rattle.hearing.specs.declared.Tally.{Tally}
@@ -27,7 +27,7 @@ use Rattle.hearing.specs.declared.Reach.{Reach}
 use Rattle.lines.specs.Lines.{Line, refusalLine}
 use Rattle.spans.specs.Report.{Known, lineOf, ended, readerAfter, packetIn, packetCode, begins}
 use Rattle.spans.specs.Report.{knownAfter, packetsIn, atPacket, atEnd, atRefusal, linesFrom}
-use Rattle.hearing.specs.Hearing.{lowHigh, taking, formNow, positionNow, lacksFirst, heardCode, accepting, closes, settled, reaching}
+use Rattle.hearing.specs.Hearing.{lowHigh, takingByte, formComing, positionNow, lacksFirst, heardCode, accepting, closes, settled, reaching}
 use Rattle.hearing.specs.Inside.{goesOn}
 use Rattle.spans.specs.Eating.{endedNow, heardLines}
 use Rattle.hearing.proofs.Heard.{codeBy, heard-by, settled-by, accepted-fits}
@@ -44,7 +44,7 @@ lastOf (p ∷ ps) = p
 
 -- The tally between two packets is what the report knows there.
 pub record Knows (t : Tally) (k : Known) : Type 0 where
-  pub taken : t .taken ≡ 0
+  pub come : t .come ≡ 0
   pub offset : t .begins ≡ k .offset
   pub captures : t .captures ≡ k .captures
   pub heard : t .heard ≡ length (k .accepted)
@@ -62,46 +62,46 @@ ended-same h t k m = line-by h (k .captures) (k .accepted) t (m .captures) (m .h
 
 -- ---- a packet that is cut off, or has no listed header
 
-header-kept : (t : Tally) (b : ℕ) → 2 ≤ t .taken → taking t b .header ≡ t .header
-unfolding taking
-header-kept t b some = rw (ne-eqb (t .taken) 0 (λ e. omega arith), ne-eqb (t .taken) (0 + 1) (λ e. omega arith))
+header-kept : (t : Tally) (b : ℕ) → 2 ≤ t .come → takingByte t b .header ≡ t .header
+unfolding takingByte
+header-kept t b some = rw (ne-eqb (t .come) 0 (λ e. omega arith), ne-eqb (t .come) (0 + 1) (λ e. omega arith))
 
-one-more : (t : Tally) (b : ℕ) → taking t b .taken ≡ t .taken + 1
-unfolding taking
+one-more : (t : Tally) (b : ℕ) → takingByte t b .come ≡ t .come + 1
+unfolding takingByte
 one-more t b = refl
 
 -- the lines of a packet that is refused
 abbrev pub refusedAt : Head → Tally → ℕ → List Line
 refusedAt h t code = endedNow h t ++ refusalLine code (t .begins) ∷ []
 
-refused-taking : (h : Head) (t : Tally) (b code : ℕ) → refusedAt h (taking t b) code ≡ refusedAt h t code
-unfolding taking
+refused-taking : (h : Head) (t : Tally) (b code : ℕ) → refusedAt h (takingByte t b) code ≡ refusedAt h t code
+unfolding takingByte
 refused-taking h t b code = refl
 
 -- the input ends within a packet
-coming-within : (h : Head) (t : Tally) → 0 < t .taken → comingBy h t [] ≡ refusedAt h t 30
+coming-within : (h : Head) (t : Tally) → 0 < t .come → comingBy h t [] ≡ refusedAt h t 30
 unfolding comingBy
-coming-within h t some = rw (ne-eqb (t .taken) 0 (λ e. omega arith))
+coming-within h t some = rw (ne-eqb (t .come) 0 (λ e. omega arith))
 
 -- two bytes and more of a listed header, and the input ends before the packet does
-coming-cut : (bs : List ℕ) (h : Head) (t : Tally) → 2 ≤ t .taken → listed (formNow t) ≡ true
-    → t .taken + length bs < totalOf (formNow t) → comingBy h t bs ≡ refusedAt h t 30
+coming-cut : (bs : List ℕ) (h : Head) (t : Tally) → 2 ≤ t .come → listedForm (formComing t) ≡ true
+    → t .come + length bs < totalOf (formComing t) → comingBy h t bs ≡ refusedAt h t 30
 coming-cut [] h t some ok short = coming-within h t (omega arith)
 coming-cut (b ∷ bs) h t some ok short =
-    let u : Tally = taking t b in
-    let more : u .taken ≡ t .taken + 1 = one-more t b in
-    let form : formNow u ≡ formNow t = ap formWithHeader (header-kept t b some) in
-    let named : listed (formNow u) ≡ true = ap listed form ∙ ok in
+    let u : Tally = takingByte t b in
+    let more : u .come ≡ t .come + 1 = one-more t b in
+    let form : formComing u ≡ formComing t = ap formWithHeader (header-kept t b some) in
+    let named : listedForm (formComing u) ≡ true = ap listedForm form ∙ ok in
     coming-wait h t b bs (heard-waits (formIn h) u (omega (arith, more)) named (omega (arith, more, ap totalOf form)))
     ∙ coming-cut bs h u (omega (arith, more)) named (omega (arith, more, ap totalOf form))
     ∙ refused-taking h t b 30
 
 -- a byte with which a packet is refused
-coming-refused : (h : Head) (t : Tally) (b : ℕ) (bs : List ℕ) (code : ℕ) → heardCode (formIn h) (taking t b) ≡ code → 1 < code
+coming-refused : (h : Head) (t : Tally) (b : ℕ) (bs : List ℕ) (code : ℕ) → heardCode (formIn h) (takingByte t b) ≡ code → 1 < code
     → comingBy h t (b ∷ bs) ≡ refusedAt h t code
 coming-refused h t b bs code is some =
     let f : Form = formIn h in
-    let u : Tally = taking t b in
+    let u : Tally = takingByte t b in
     let no : eqb code 0 ≡ false = ne-eqb code 0 (λ e. omega arith) in
     let other : eqb code 1 ≡ false = ne-eqb code 1 (λ e. omega arith) in
     let came : settled 1 f u ≡ record { at = 1; code = code; tally = u } = settled-by 1 f u is refl ∙ rw (no, other) in
@@ -112,35 +112,35 @@ coming-refused h t b bs code is some =
 
 -- no whole packet begins with the bytes
 abbrev pub NoPacket : List ℕ → Type 0
-NoPacket rest = listed (formAt rest) ≡ true → totalOf (formAt rest) ≤ length rest → ⊥
+NoPacket rest = listedForm (formAt rest) ≡ true → totalOf (formAt rest) ≤ length rest → ⊥
 
 -- the first two bytes of a packet
-module _ (t : Tally) (none : t .taken ≡ 0) where
+module _ (t : Tally) (none : t .come ≡ 0) where
   abbrev starts : Tally
   starts = tallied t 0 (t .header) (t .number)
 
   pub start-is : t ≡ starts
   start-is = ap (λ (k : ℕ). tallied t k (t .header) (t .number)) none
 
-  first-byte : (a : ℕ) → taking t a ≡ tallied t 1 a (t .number)
-  unfolding taking
-  first-byte a = ap (λ (u : Tally). taking u a) start-is
+  first-byte : (a : ℕ) → takingByte t a ≡ tallied t 1 a (t .number)
+  unfolding takingByte
+  first-byte a = ap (λ (u : Tally). takingByte u a) start-is
 
-  second-byte : (a b : ℕ) → taking (tallied t 1 a (t .number)) b ≡ tallied t 2 (lowHigh a b) (t .number)
-  unfolding taking
+  second-byte : (a b : ℕ) → takingByte (tallied t 1 a (t .number)) b ≡ tallied t 2 (lowHigh a b) (t .number)
+  unfolding takingByte
   second-byte a b = refl
 
   pub first-coming : (h : Head) (a : ℕ) (bs : List ℕ) → comingBy h t (a ∷ bs) ≡ comingBy h (tallied t 1 a (t .number)) bs
   first-coming h a bs =
       let f : Form = formIn h in
       let short = heard-by f (tallied t 1 a (t .number)) refl refl refl refl refl refl in
-      let waits : heardCode f (taking t a) ≡ 0 = ap (heardCode f) (first-byte a) ∙ short in
+      let waits : heardCode f (takingByte t a) ≡ 0 = ap (heardCode f) (first-byte a) ∙ short in
       coming-wait h t a bs waits ∙ ap (λ (x : Tally). comingBy h x bs) (first-byte a)
 
   -- no whole packet is there
   pub coming-no-packet : (h : Head) (a : ℕ) (bs : List ℕ) → allBytes (a ∷ bs) → NoPacket (a ∷ bs) → comingBy h t (a ∷ bs) ≡ refusedAt h t 30
   coming-no-packet h a [] small no-packet = first-coming h a [] ∙ coming-within h (tallied t 1 a (t .number)) (omega arith)
-  coming-no-packet h a (b ∷ bs) small no-packet = first-coming h a (b ∷ bs) ∙ by (listed (formAt rest)) refl
+  coming-no-packet h a (b ∷ bs) small no-packet = first-coming h a (b ∷ bs) ∙ by (listedForm (formAt rest)) refl
     where
       rest : List ℕ
       rest = a ∷ b ∷ bs
@@ -154,18 +154,18 @@ module _ (t : Tally) (none : t .taken ≡ 0) where
       v : Tally
       v = tallied t 2 (lowHigh a b) (t .number)
 
-      after : taking u b ≡ v
+      after : takingByte u b ≡ v
       after = second-byte a b
 
       header : lowHigh a b ≡ field 0 2 rest
       header = omega (arith, small .0)
 
-      form : formNow v ≡ formAt rest
+      form : formComing v ≡ formAt rest
       form = ap formWithHeader header
 
-      by : (l : Bool) → listed (formAt rest) ≡ l → comingBy h u (b ∷ bs) ≡ refusedAt h t 30
+      by : (l : Bool) → listedForm (formAt rest) ≡ l → comingBy h u (b ∷ bs) ≡ refusedAt h t 30
       by true e =
-          let named : listed (formNow v) ≡ true = ap listed form ∙ e in
+          let named : listedForm (formComing v) ≡ true = ap listedForm form ∙ e in
           let least = total-least (formAt rest) e in
           let total : ℕ = totalOf (formAt rest) in
           let short : length rest < total = elim (decLt (length rest) total) [ yes s ↦ s | no s ↦ absurd (no-packet e (omega arith)) ] in
@@ -174,15 +174,15 @@ module _ (t : Tally) (none : t .taken ≡ 0) where
           ∙ ap (λ (x : Tally). comingBy h x bs) after
           ∙ coming-cut bs h v (omega arith) named (omega (arith, short, ap totalOf form))
       by false e =
-          let unnamed : listed (formNow v) ≡ false = ap listed form ∙ e in
+          let unnamed : listedForm (formComing v) ≡ false = ap listedForm form ∙ e in
           coming-refused h u b bs 30 (ap (heardCode f) after ∙ heard-by f v refl unnamed refl refl refl refl) (omega arith)
 
 -- ---- a whole packet
 
 -- all bytes of a packet of n bytes
-reach-of : (f : Form) (t : Tally) (rest : List ℕ) (n header number : ℕ) → t .taken ≡ 0 → 5 ≤ n → n ≤ length rest
+reach-of : (f : Form) (t : Tally) (rest : List ℕ) (n header number : ℕ) → t .come ≡ 0 → 5 ≤ n → n ≤ length rest
     → lowHigh (getD rest 0 0) (getD rest 1 0) ≡ header → lowHigh (getD rest 2 0) (getD rest 3 0) ≡ number
-    → listed (formWithHeader header) ≡ true → n ≡ totalOf (formWithHeader header)
+    → listedForm (formWithHeader header) ≡ true → n ≡ totalOf (formWithHeader header)
     → reaching 0 f t rest ≡ goesOn f (settled n f (tallied t n header number)) (drop n rest)
 reach-of f t rest n header number none least room two four ok total =
     let k : ℕ = n - 5 in
@@ -201,7 +201,7 @@ reach-of f t rest n header number none least room two four ok total =
     = packet-parts rest 0 k (omega arith) ∙ ap (λ (i : ℕ). b0 ∷ b1 ∷ b2 ∷ b3 ∷ (xs ++ z ∷ drop i rest)) end in
     let long : length xs + 5 ≡ totalOf (formWithHeader (lowHigh b0 b1)) = size ∙ total ∙ ap totalOf (sym form) in
     ap (reaching 0 f t) all
-    ∙ reach-whole 0 f t b0 b1 b2 b3 xs z (drop n rest) none (ap listed form ∙ ok) long
+    ∙ reach-whole 0 f t b0 b1 b2 b3 xs z (drop n rest) none (ap listedForm form ∙ ok) long
     ∙ ap (λ (i : ℕ). goesOn f (settled i f (tallied t (length xs + 5) (lowHigh b0 b1) (lowHigh b2 b3))) (drop n rest)) count
     ∙ ap (λ (i : ℕ). goesOn f (settled n f (tallied t i (lowHigh b0 b1) (lowHigh b2 b3))) (drop n rest)) size
     ∙ ap (λ (i : ℕ). goesOn f (settled n f (tallied t n i (lowHigh b2 b3))) (drop n rest)) two
@@ -275,12 +275,12 @@ record Reads (h : Head) (t : Tally) (r : Reader) : Type 0 where
   position : r .position ≡ t .position
   form : eqb (t .heard) 0 ≡ false → r .form ≡ formIn h
 
-reads-by : (h : Head) (accepted : List ℕ) (t : Tally) → listed (formIn h) ≡ true → t .heard ≡ length accepted
+reads-by : (h : Head) (accepted : List ℕ) (t : Tally) → listedForm (formIn h) ≡ true → t .heard ≡ length accepted
     → t .position ≡ lastOf accepted → t .position ≤ last → Reads h t (readerAfter h accepted)
 reads-by h [] t ok n p near = record { sounds = refl; quiet = rw n; position = sym p; form = λ e. absurd (true-not-false (rw n at e)) }
 reads-by h (q ∷ qs) t ok n p near =
     record {
-      sounds = and-both (leb q last) (listed (formIn h)) (le-leb q last (omega arith)) ok;
+      sounds = and-both (leb q last) (listedForm (formIn h)) (le-leb q last (omega arith)) ok;
       quiet = rw n (sym (ne-eqb (suc (length qs)) 0 (λ e. omega arith)));
       position = sym p;
       form = λ e. refl;
@@ -316,11 +316,11 @@ packet-code-by : (h : Head) (k : Known) (packet : List ℕ) {whole same snd lone
     → (not first && not (sameForm (wholeOf packet) (r .form))) ≡ other
     → ltb last (positionAfter r (numberIn packet)) ≡ past
     → packetCode h k packet ≡ checkedBy whole same snd lone other past)
-unfolding packetCode readCode
+unfolding packetCode readingCode
 packet-code-by h k packet a b c d e f = cc
 
-module _ (h : Head) (t : Tally) (k : Known) (m : Knows t k) (own : listed (formIn h) ≡ true)
-    (rest : List ℕ) (ok : listed (formAt rest) ≡ true) (room : totalOf (formAt rest) ≤ length rest) where
+module _ (h : Head) (t : Tally) (k : Known) (m : Knows t k) (own : listedForm (formIn h) ≡ true)
+    (rest : List ℕ) (ok : listedForm (formAt rest) ≡ true) (room : totalOf (formAt rest) ≤ length rest) where
   abbrev packet : List ℕ
   packet = packetIn rest
 
@@ -371,7 +371,7 @@ module _ (h : Head) (t : Tally) (k : Known) (m : Knows t k) (own : listed (formI
   unfolding accepting
   knows-after one =
       record {
-        taken = refl;
+        come = refl;
         offset = omega (arith, m .offset, packet-length rest ok room);
         captures =
             ap (λ (c : ℕ). pick (eqb number 0) (c + 1) c) (m .captures)
@@ -392,7 +392,7 @@ module _ (h : Head) (t : Tally) (k : Known) (m : Knows t k) (own : listed (formI
 
 end-same : (h : Head) (t : Tally) (k : Known) → Knows t k → comingBy h t [] ≡ atEnd h k
 unfolding comingBy
-end-same h t k m = rw (m .taken, ended-same h t k m, m .captures)
+end-same h t k m = rw (m .come, ended-same h t k m, m .captures)
 
 -- the report's lines of the bytes that are left
 abbrev pub linesLeft : ℕ → Head → Known → List ℕ → List Line
@@ -429,7 +429,7 @@ abbrev Agrees : ℕ → Head → Type 0
 Agrees n h =
     (t : Tally) (k : Known) (left : List ℕ) → length left ≤ n → Knows t k → allBytes left → comingBy h t left ≡ linesLeft n h k left
 
-module _ (n : ℕ) (h : Head) (own : listed (formIn h) ≡ true) (t : Tally) (k : Known) (m : Knows t k)
+module _ (n : ℕ) (h : Head) (own : listedForm (formIn h) ≡ true) (t : Tally) (k : Known) (m : Knows t k)
     (a : ℕ) (bs : List ℕ) (few : length (a ∷ bs) ≤ suc n) (small : allBytes (a ∷ bs)) (later : Agrees n h) where
   abbrev rest : List ℕ
   rest = a ∷ bs
@@ -444,12 +444,12 @@ module _ (n : ℕ) (h : Head) (own : listed (formIn h) ≡ true) (t : Tally) (k 
   none-lines : NoPacket rest → AgreesHere
   none-lines no-packet =
       let code = packet-code-by h k (packetIn rest) (not-whole rest no-packet) refl refl refl refl refl in
-      coming-no-packet t (m .taken) h a bs small no-packet
+      coming-no-packet t (m .come) h a bs small no-packet
       ∙ refused-same h t k m 30
       ∙ sym (lines-refused n h k a bs 30 code (λ e. omega arith))
 
   -- a whole packet
-  module _ (ok : listed (formAt rest) ≡ true) (room : totalOf (formAt rest) ≤ length rest) where
+  module _ (ok : listedForm (formAt rest) ≡ true) (room : totalOf (formAt rest) ≤ length rest) where
     abbrev long : ℕ
     long = totalOf (formAt rest)
 
@@ -472,7 +472,7 @@ module _ (n : ℕ) (h : Head) (own : listed (formIn h) ≡ true) (t : Tally) (k 
     reach =
         let two : lowHigh (getD rest 0 0) (getD rest 1 0) ≡ field 0 2 rest = omega (arith, field-two rest 0, byte-at rest small 0) in
         let four : lowHigh (getD rest 2 0) (getD rest 3 0) ≡ field 2 2 rest = omega (arith, field-two rest 2, byte-at rest small 2) in
-        reach-of f t rest long (field 0 2 rest) (field 2 2 rest) (m .taken) (omega (arith, least)) room two four ok refl
+        reach-of f t rest long (field 0 2 rest) (field 2 2 rest) (m .come) (omega (arith, least)) room two four ok refl
 
     code : packetCode h k first ≡ heardCode f v
     code = code-same h t k m own rest ok room
@@ -503,17 +503,17 @@ module _ (n : ℕ) (h : Head) (own : listed (formIn h) ≡ true) (t : Tally) (k 
         ∙ sym (lines-refused n h k a bs (heardCode f v) code other)
 
   packet-lines : AgreesHere
-  packet-lines = by (listed (formAt rest)) refl
+  packet-lines = by (listedForm (formAt rest)) refl
     where
-      whole : listed (formAt rest) ≡ true → totalOf (formAt rest) ≤ length rest → AgreesHere
+      whole : listedForm (formAt rest) ≡ true → totalOf (formAt rest) ≤ length rest → AgreesHere
       whole ok room =
           elim (ℕ-discrete (heardCode f (v ok room)) 1) [ yes one ↦ accepted-lines ok room one | no other ↦ refused-lines ok room other ]
 
-      by : (l : Bool) → listed (formAt rest) ≡ l → AgreesHere
+      by : (l : Bool) → listedForm (formAt rest) ≡ l → AgreesHere
       by true e = elim (decLe (totalOf (formAt rest)) (length rest)) [ yes r ↦ whole e r | no r ↦ none-lines (λ l q. r q) ]
       by false e = none-lines (λ l q. true-not-false (sym l ∙ e))
 
-pub coming-lines : (n : ℕ) (h : Head) → listed (formIn h) ≡ true → (t : Tally) (k : Known) (rest : List ℕ) → length rest ≤ n
+pub coming-lines : (n : ℕ) (h : Head) → listedForm (formIn h) ≡ true → (t : Tally) (k : Known) (rest : List ℕ) → length rest ≤ n
     → Knows t k → allBytes rest → comingBy h t rest ≡ linesLeft n h k rest
 unfolding linesFrom packetsIn
 coming-lines zero h own t k [] few m small = end-same h t k m

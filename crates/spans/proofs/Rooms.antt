@@ -11,7 +11,7 @@ use Rattle.wire.proofs.Laws.{pick-keeps}
 use Rattle.packets.specs.Numbers.{last}
 use Rattle.packets.proofs.Forms.{is-listed-form}
 use Rattle.heads.specs.declared.Head.{Head}
-use Rattle.heads.specs.Head.{formIn, allowed}
+use Rattle.heads.specs.Head.{formIn, allowedHead}
 use Rattle.heads.proofs.Rounds.{form-listed, divisor-small}
 use Rattle.hearing.specs.declared.Tally.{Tally}
 use Rattle.lines.specs.Lines.{Line, textOf, openingLine, samplesOver, endTime, captureLine, refusalLine, endLine}
@@ -40,7 +40,7 @@ head-room code small =
 
 -- What the lines of a tally need to be short: an allowed head, and counts that fit.
 pub record Short (h : Head) (t : Tally) : Type 0 where
-  pub ok : allowed h ≡ true
+  pub ok : allowedHead h ≡ true
   pub position : t .position ≤ last
   pub captures : t .captures < 2 ^ 64
   pub heard : t .heard < 2 ^ 64
@@ -73,9 +73,9 @@ module _ (h : Head) (t : Tally) (s : Short h t) where
   pub end-room : length (textOf (endLines h t)) ≤ 256
   end-room =
       let end : List Line = endLine (t .captures) ∷ [] in
-      let rest : List Line = pick (eqb (t .taken) 0) end (refusalLine 30 (t .begins) ∷ []) in
+      let rest : List Line = pick (eqb (t .come) 0) end (refusalLine 30 (t .begins) ∷ []) in
       let few : length (textOf rest) ≤ 44
-      = pick-keeps (λ (ls : List Line). length (textOf ls) ≤ 44) (eqb (t .taken) 0) _ _
+      = pick-keeps (λ (ls : List Line). length (textOf ls) ≤ 44) (eqb (t .come) 0) _ _
       (λ e. omega (arith, end-length (t .captures) (s .captures)))
       (λ e. refusal-length 30 (t .begins) (omega arith) (s .begins)) in
       omega (arith, lines-length (endedNow h t) rest, ended-length, few)

@@ -16,7 +16,7 @@ use Rattle.heads.specs.Head.{formIn}
 use Rattle.hearing.specs.declared.Tally.{Tally}
 use Rattle.hearing.specs.declared.Reach.{Reach}
 use Rattle.lines.specs.Lines.{Line, refusalLine, endLine}
-use Rattle.hearing.specs.Hearing.{taking, heardCode, closes, accepting, settled, reaching}
+use Rattle.hearing.specs.Hearing.{takingByte, heardCode, closes, accepting, settled, reaching}
 use Rattle.hearing.specs.Inside.{goesOn}
 use Rattle.spans.specs.Eating.{endedNow, heardLines}
 use Rattle.hearing.proofs.Heard.{settled-by}
@@ -25,7 +25,7 @@ use Rattle.hearing.proofs.Goings.{settled-due}
 
 -- the lines at the end of the input, with a tally
 abbrev pub endLines : Head → Tally → List Line
-endLines h t = endedNow h t ++ pick (eqb (t .taken) 0) (endLine (t .captures) ∷ []) (refusalLine 30 (t .begins) ∷ [])
+endLines h t = endedNow h t ++ pick (eqb (t .come) 0) (endLine (t .captures) ∷ []) (refusalLine 30 (t .begins) ∷ [])
 
 -- lines that come only where a code is 1
 abbrev pub ifOne : ℕ → List Line → List Line
@@ -37,13 +37,13 @@ byReach h r silent accepted = pick (eqb (r .code) 0) silent (heardLines h r ++ i
 
 -- what a tally comes to with one byte more, the n-th of those that are taken in one go
 abbrev pub withByte : ℕ → Form → Tally → ℕ → Reach
-withByte n f t b = settled n f (taking t b)
+withByte n f t b = settled n f (takingByte t b)
 
 unfoldable pub comingBy : Head → Tally → List ℕ → List Line
 comingBy h t [] = endLines h t
 comingBy h t (b ∷ bs) =
     let r = withByte 1 (formIn h) t b in
-    byReach h r (comingBy h (r .tally) bs) (comingBy h (accepting (taking t b)) bs)
+    byReach h r (comingBy h (r .tally) bs) (comingBy h (accepting (takingByte t b)) bs)
 
 -- ---- bytes that are taken in one go
 
@@ -69,14 +69,14 @@ reach-from (b ∷ bs) n f t =
     let r : Reach = withByte (n + 1) f t b in
     let next = reach-from bs (n + 1) f (r .tally) in
     pick-keeps (λ (x : Reach). n ≤ x .at) (eqb (r .code) 0) _ _ (λ e. omega (arith, next))
-    (λ e. omega (arith, settled-at (n + 1) f (taking t b)))
+    (λ e. omega (arith, settled-at (n + 1) f (takingByte t b)))
 
 pub reach-ahead : (b : ℕ) (bs : List ℕ) (n : ℕ) (f : Form) (t : Tally) → n + 1 ≤ reaching n f t (b ∷ bs) .at
 unfolding reaching
 reach-ahead b bs n f t =
     let r : Reach = withByte (n + 1) f t b in
     pick-keeps (λ (x : Reach). n + 1 ≤ x .at) (eqb (r .code) 0) _ _ (λ e. reach-from bs (n + 1) f (r .tally))
-    (λ e. omega (arith, settled-at (n + 1) f (taking t b)))
+    (λ e. omega (arith, settled-at (n + 1) f (takingByte t b)))
 
 -- the lines from what was reached on, of bytes of which n were taken before
 abbrev pub afterReach : Head → ℕ → Reach → List ℕ → List Line
@@ -89,22 +89,22 @@ unfolding comingBy
 coming-silent h t b bs e = rw e
 
 -- a byte after which more is waited for
-pub coming-wait : (h : Head) (t : Tally) (b : ℕ) (bs : List ℕ) → heardCode (formIn h) (taking t b) ≡ 0
-    → comingBy h t (b ∷ bs) ≡ comingBy h (taking t b) bs
+pub coming-wait : (h : Head) (t : Tally) (b : ℕ) (bs : List ℕ) → heardCode (formIn h) (takingByte t b) ≡ 0
+    → comingBy h t (b ∷ bs) ≡ comingBy h (takingByte t b) bs
 coming-wait h t b bs w =
-    let came = settled-by 1 (formIn h) (taking t b) w refl in
+    let came = settled-by 1 (formIn h) (takingByte t b) w refl in
     coming-silent h t b bs (ap (λ (r : Reach). eqb (r .code) 0) came) ∙ ap (λ (r : Reach). comingBy h (r .tally) bs) came
 
 pub coming-due : (h : Head) (t : Tally) (b : ℕ) (bs : List ℕ)
     → (let r = withByte 1 (formIn h) t b in
-    eqb (r .code) 0 ≡ false → comingBy h t (b ∷ bs) ≡ heardLines h r ++ ifOne (r .code) (comingBy h (accepting (taking t b)) bs))
+    eqb (r .code) 0 ≡ false → comingBy h t (b ∷ bs) ≡ heardLines h r ++ ifOne (r .code) (comingBy h (accepting (takingByte t b)) bs))
 unfolding comingBy
 coming-due h t b bs e = rw e
 
 -- bytes of which n were taken before, and what the first of them comes to
 module _ (n : ℕ) (f : Form) (t : Tally) (b : ℕ) (bs : List ℕ) where
   first-settled : reaching n f t (b ∷ bs) ≡ goesOn f (atByte (n + 1) (withByte 1 f t b)) bs
-  first-settled = reach-cons n f t b bs ∙ ap (λ (r : Reach). goesOn f r bs) (settled-any (n + 1) f (taking t b))
+  first-settled = reach-cons n f t b bs ∙ ap (λ (r : Reach). goesOn f r bs) (settled-any (n + 1) f (takingByte t b))
 
   reach-silent : eqb (withByte 1 f t b .code) 0 ≡ true → reaching n f t (b ∷ bs) ≡ reaching (n + 1) f (withByte 1 f t b .tally) bs
   unfolding goesOn
@@ -112,7 +112,7 @@ module _ (n : ℕ) (f : Form) (t : Tally) (b : ℕ) (bs : List ℕ) where
 
   reach-stops : eqb (withByte 1 f t b .code) 0 ≡ false → reaching n f t (b ∷ bs) ≡ withByte (n + 1) f t b
   unfolding goesOn
-  reach-stops e = first-settled ∙ (rw e) ∙ sym (settled-any (n + 1) f (taking t b))
+  reach-stops e = first-settled ∙ (rw e) ∙ sym (settled-any (n + 1) f (takingByte t b))
 
 shifted : (h : Head) (n : ℕ) (r : Reach) (b : ℕ) (bs : List ℕ) → n + 1 ≤ r .at → afterReach h n r (b ∷ bs) ≡ afterReach h (n + 1) r bs
 shifted h n r b bs ahead =
@@ -136,7 +136,7 @@ coming-reach (b ∷ bs) n h t = by (eqb (r .code) 0) refl (coming-reach bs (n + 
     f = formIn h
 
     u : Tally
-    u = taking t b
+    u = takingByte t b
 
     r : Reach
     r = settled 1 f u

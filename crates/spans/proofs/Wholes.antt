@@ -12,13 +12,13 @@ use Rattle.wire.specs.Number.{number, field}
 use Rattle.wire.specs.Header.{lengthIn}
 use Rattle.wire.proofs.Laws.{true-not-false}
 use Rattle.packets.specs.declared.Form.{Form}
-use Rattle.packets.specs.Forms.{totalOf, listed, formWithHeader, wholeOf, isPacket}
+use Rattle.packets.specs.Forms.{totalOf, listedForm, formWithHeader, wholeOf, isPacket}
 use Rattle.packets.proofs.Forms.{packet-is, whole-split}
 use Rattle.spans.specs.Report.{packetIn}
 use Rattle.hearing.proofs.Reaches.{form-with-own}
 
 -- a listed header holds the total of its form
-pub header-length : (h : ℕ) → listed (formWithHeader h) ≡ true → lengthIn h ≡ totalOf (formWithHeader h)
+pub header-length : (h : ℕ) → listedForm (formWithHeader h) ≡ true → lengthIn h ≡ totalOf (formWithHeader h)
 header-length h l = first (eqb h 0x85A4) refl
   where
     fourth : (b : Bool) → eqb h 0x85A4 ≡ false → eqb h 0x8184 ≡ false → eqb h 0x8404 ≡ false → eqb h 0x8204 ≡ b
@@ -47,16 +47,16 @@ same-header : (rest : List ℕ) → field 0 2 (packetIn rest) ≡ field 0 2 rest
 same-header rest = ap number (take-take 2 (totalOf (formAt rest)) rest (omega arith))
 
 -- a whole packet has the form of its header, and all its bytes are there
-pub is-whole : (rest : List ℕ) → isPacket (packetIn rest) ≡ true → (listed (formAt rest) ≡ true) × (totalOf (formAt rest) ≤ length rest)
+pub is-whole : (rest : List ℕ) → isPacket (packetIn rest) ≡ true → (listedForm (formAt rest) ≡ true) × (totalOf (formAt rest) ≤ length rest)
 is-whole rest e =
     let w = packet-is (packetIn rest) e in
     let form : formAt rest ≡ wholeOf (packetIn rest)
     = ap formWithHeader (sym (same-header rest) ∙ w .header) ∙ form-with-own (wholeOf (packetIn rest)) (w .form) in
     let long : length (packetIn rest) ≡ totalOf (formAt rest) = w .long ∙ ap totalOf (sym form) in
-    (ap listed form ∙ w .form, omega (arith, long, length-take (totalOf (formAt rest)) rest))
+    (ap listedForm form ∙ w .form, omega (arith, long, length-take (totalOf (formAt rest)) rest))
 
 -- and where they are there, it is one
-module _ (rest : List ℕ) (ok : listed (formAt rest) ≡ true) (room : totalOf (formAt rest) ≤ length rest) where
+module _ (rest : List ℕ) (ok : listedForm (formAt rest) ≡ true) (room : totalOf (formAt rest) ≤ length rest) where
   pub packet-length : length (packetIn rest) ≡ totalOf (formAt rest)
   packet-length = length-take-le (totalOf (formAt rest)) rest room
 
@@ -68,10 +68,10 @@ module _ (rest : List ℕ) (ok : listed (formAt rest) ≡ true) (room : totalOf 
       whole-split (packetIn rest) ∙ rw fits (ap formWithHeader (same-header rest))
 
   pub whole-packet : isPacket (packetIn rest) ≡ true
-  whole-packet = ap listed whole-form ∙ ok
+  whole-packet = ap listedForm whole-form ∙ ok
 
 -- else it is none
-pub not-whole : (rest : List ℕ) → (listed (formAt rest) ≡ true → totalOf (formAt rest) ≤ length rest → ⊥) → isPacket (packetIn rest) ≡ false
+pub not-whole : (rest : List ℕ) → (listedForm (formAt rest) ≡ true → totalOf (formAt rest) ≤ length rest → ⊥) → isPacket (packetIn rest) ≡ false
 not-whole rest no-packet = by (isPacket (packetIn rest)) refl
   where
     by : (b : Bool) → isPacket (packetIn rest) ≡ b → isPacket (packetIn rest) ≡ false

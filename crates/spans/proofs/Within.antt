@@ -10,13 +10,13 @@ use borrow.Author.Tests.{ltb-false}
 use Rattle.wire.proofs.Laws.{pick-keeps}
 use Rattle.packets.specs.declared.Form.{Form}
 use Rattle.heads.specs.Head.{headLength, formIn}
-use Rattle.heads.specs.Head.{readCode as headCode}
+use Rattle.heads.specs.Head.{headReadCode}
 use Rattle.hearing.specs.declared.Tally.{Tally}
 use Rattle.hearing.specs.declared.Reach.{Reach}
 use Rattle.spans.specs.declared.Span.{Span}
 use Rattle.lines.specs.Lines.{Line, textOf}
 use Rattle.lines.specs.Due.{Telling, silentWith, telling}
-use Rattle.hearing.specs.Hearing.{taking, settled, reaching}
+use Rattle.hearing.specs.Hearing.{takingByte, settled, reaching}
 use Rattle.spans.specs.Eating.{validSpan, headOf, lacking, headTaken, headLines, headRead, heardLines, heardSpan}
 use Rattle.spans.specs.Eating.{Eating, refused, silently, saying, opening, listening, eatingOf, lastLines, finishingOf}
 use Rattle.hearing.proofs.Reaches.{settled-at}
@@ -26,10 +26,10 @@ pub reach-within : (bs : List ℕ) (n : ℕ) (f : Form) (t : Tally) → reaching
 unfolding reaching
 reach-within [] n f t = omega arith
 reach-within (b ∷ bs) n f t =
-    let r : Reach = settled (n + 1) f (taking t b) in
+    let r : Reach = settled (n + 1) f (takingByte t b) in
     let next = reach-within bs (n + 1) f (r .tally) in
     pick-keeps (λ (x : Reach). x .at ≤ n + length (b ∷ bs)) (eqb (r .code) 0) _ _ (λ e. omega (arith, next))
-    (λ e. omega (arith, settled-at (n + 1) f (taking t b)))
+    (λ e. omega (arith, settled-at (n + 1) f (takingByte t b)))
 
 pub record Within (piece : List ℕ) (room : ℕ) (e : Eating) : Type 0 where
   pub consumed : e .eaten .consumed ≤ length piece
@@ -52,7 +52,7 @@ module _ (s : Span) (piece : List ℕ) (room : ℕ) where
   unfolding opening
   opening-within =
       let after : Span = headTaken s piece in
-      let code : ℕ = headCode (after .head) in
+      let code : ℕ = headReadCode (after .head) in
       pick-keeps (Within piece room) (ltb (after .came) headLength) _ _ (λ e. silently-within 0 (lacking s piece) after (omega arith))
       (λ e. saying-within (lacking s piece) (headLines code) (headRead code after) (omega arith))
 

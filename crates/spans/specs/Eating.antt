@@ -11,32 +11,32 @@ use Rattle.wire.specs.Choice.{pick}
 use Rattle.wire.specs.Codes as Code
 use Rattle.heads.specs.declared.Head.{Head}
 use Rattle.heads.specs.Head.{headLength, formIn, headIn}
-use Rattle.heads.specs.Head.{readCode as headCode}
+use Rattle.heads.specs.Head.{headReadCode}
 use Rattle.hearing.specs.declared.Tally.{Tally}
 use Rattle.hearing.specs.declared.Reach.{Reach}
 use Rattle.spans.specs.declared.Span.{Span}
 use Rattle.spans.specs.declared.Eaten.{Eaten}
 use Rattle.lines.specs.Lines.{Line, textOf, openingLine, captureLine, refusalLine, endLine}
 use Rattle.lines.specs.Due.{Telling, silentWith, telling}
-use Rattle.hearing.specs.Hearing.{inRange, nextTally, reaching}
+use Rattle.hearing.specs.Hearing.{tallyInRange, nextTally, reaching}
 
 -- ---- spans
 
 -- nothing heard, after the head
 abbrev pub freshTally : Tally
-freshTally = record { begins = headLength; taken = 0; header = 0; number = 0; captures = 0; heard = 0; position = 0 }
+freshTally = record { begins = headLength; come = 0; header = 0; number = 0; captures = 0; heard = 0; position = 0 }
 
 abbrev pub freshSpan : Span
 freshSpan = record { stopped = false; came = 0; head = replicate 14 0; tally = freshTally }
 
 -- the head is still coming, or is whole and one that is read
 abbrev pub headOk : Span → Bool
-headOk s = ltb (s .came) headLength || (eqb (s .came) headLength && eqb (headCode (s .head)) Code.done)
+headOk s = ltb (s .came) headLength || (eqb (s .came) headLength && eqb (headReadCode (s .head)) Code.done)
 
 -- A span that has not stopped is broken (21) where a count of its tally is out of its range, or its head is whole and one
 -- that is refused. All else is taken as it is, whether or not some bytes leave it.
 unfoldable pub validSpan : Span → Bool
-validSpan s = s .stopped || (inRange (s .tally) && headOk s)
+validSpan s = s .stopped || (tallyInRange (s .tally) && headOk s)
 
 abbrev pub headOf : Span → Head
 headOf s = headIn (s .head)
@@ -96,7 +96,7 @@ headRead code s = record { stopped = not (eqb code Code.done); came = s .came; h
 abbrev pub openingBy : Span → ℕ → ℕ → Span → Eating
 openingBy s room n after =
     pick (ltb (after .came) headLength) (silently Code.waiting n after)
-    (saying s room n (headLines (headCode (after .head))) (headRead (headCode (after .head)) after))
+    (saying s room n (headLines (headReadCode (after .head))) (headRead (headReadCode (after .head)) after))
 
 unfoldable pub opening : Span → List ℕ → ℕ → Eating
 opening s piece room = openingBy s room (lacking s piece) (headTaken s piece)
@@ -135,7 +135,7 @@ abbrev pub lastLines : Span → List Line
 lastLines s =
     pick (ltb (s .came) headLength) (openingLine ∷ refusalLine Code.notAHead 0 ∷ [])
     (endedNow (headOf s) (s .tally)
-    ++ pick (eqb (s .tally .taken) 0) (endLine (s .tally .captures) ∷ []) (refusalLine Code.notAPacket (s .tally .begins) ∷ []))
+    ++ pick (eqb (s .tally .come) 0) (endLine (s .tally .captures) ∷ []) (refusalLine Code.notAPacket (s .tally .begins) ∷ []))
 
 -- 21 for a broken span, 2 for one that has stopped
 unfoldable pub finishingOf : Span → ℕ → Telling

@@ -12,10 +12,10 @@ use Rattle.wire.specs.Number.{field}
 use Rattle.packets.specs.Forms.{sameForm, totalOf, formWithHeader, wholeOf, isPacket}
 use Rattle.packets.specs.Numbers.{numberIn}
 use Rattle.reader.specs.declared.Reader.{Reader}
-use Rattle.reader.specs.Reading.{silent, positionAfter, readCode}
+use Rattle.reader.specs.Reading.{silent, positionAfter, readingCode}
 use Rattle.heads.specs.declared.Head.{Head}
 use Rattle.heads.specs.Head.{headLength, formIn, headIn}
-use Rattle.heads.specs.Head.{readCode as headCode}
+use Rattle.heads.specs.Head.{headReadCode}
 use Rattle.lines.specs.Lines.{Line, textOf, openingLine, captureLine, refusalLine, endLine}
 
 -- ---- the packets of the input
@@ -55,7 +55,7 @@ readerAfter h (last ∷ before) = record { heard = true; position = last; form =
 unfoldable pub packetCode : Head → Known → List ℕ → ℕ
 packetCode h k packet =
     firstOf (check Code.notAPacket (not (isPacket packet)) ∷ check Code.formChanged (not (sameForm (wholeOf packet) (formIn h))) ∷ [])
-    (readCode (readerAfter h (k .accepted)) packet)
+    (readingCode (readerAfter h (k .accepted)) packet)
 
 -- "done": the packet is accepted
 abbrev pub accepts : Head → Known → List ℕ → Bool
@@ -110,8 +110,8 @@ linesFrom h k (packet ∷ more) =
 unfoldable pub linesOf : List ℕ → List Line
 linesOf input =
     openingLine
-    ∷ pick (eqb (headCode input) Code.done) (linesFrom (headIn input) nothing (packetsIn (length input) (drop headLength input)))
-    (refusalLine (headCode input) 0 ∷ [])
+    ∷ pick (eqb (headReadCode input) Code.done) (linesFrom (headIn input) nothing (packetsIn (length input) (drop headLength input)))
+    (refusalLine (headReadCode input) 0 ∷ [])
 
 -- what is printed
 unfoldable pub report : List ℕ → List ℕ

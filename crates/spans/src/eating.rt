@@ -4,8 +4,8 @@ ghost use Prim.Native.Nat.{_<_};
 ghost use mathlib.Core.Bool.{true};
 ghost use lib.ListN.{length};
 ghost use lib.Seq.{sets};
-ghost use Rattle.heads.specs.Head.{allowed, headLength};
-ghost use Rattle.hearing.specs.Hearing.{inRange};
+ghost use Rattle.heads.specs.Head.{allowedHead, headLength};
+ghost use Rattle.hearing.specs.Hearing.{tallyInRange};
 ghost use Rattle.spans.specs.Eating.{freshSpan, validSpan, headOf, refused, headRead};
 ghost use Rattle.spans.specs.Eating.{withTally, opening, listening, eatingOf, finishingOf};
 use crate::Eaten;
@@ -17,7 +17,7 @@ use crate::head::head_code;
 use crate::head::head_ok;
 use crate::head::take_head;
 use hearing::Tally;
-use lines::Told;
+use lines::LinesAnswer;
 use wire::codes;
 
 // A span before its first byte.
@@ -30,7 +30,7 @@ pub fn fresh() -> Span
         head: [0; 14],
         tally: Tally {
             begins: 14,
-            taken: 0,
+            come: 0,
             header: 0,
             number: 0,
             captures: 0,
@@ -119,7 +119,7 @@ fn open(s: Span, piece: &[u8], out: &mut [u8]) -> Eaten
 
 // The packets' part of a piece.
 fn listen(s: Span, piece: &[u8], out: &mut [u8]) -> Eaten
-    requires { ⌜ (allowed (headOf s) ≡ true) × (inRange (s .tally) ≡ true) ⌝ }
+    requires { ⌜ (allowedHead (headOf s) ≡ true) × (tallyInRange (s .tally) ≡ true) ⌝ }
     ensures { λ r.
         ⌜ (r ≡ listening s (now (piece .entry)) (length (now (out .entry))) .eaten)
         × (now (out .exit) ≡ sets (now (out .entry)) 0 (listening s (now (piece .entry)) (length (now (out .entry))) .bytes)) ⌝ }
@@ -177,19 +177,19 @@ pub fn eat(s: Span, piece: &[u8], out: &mut [u8]) -> Eaten
 
 // Writes the lines that the end of the input brings. Code 1: lines were written; 2: the span stopped before, and none are
 // due. Nothing happens with 21, where the span is broken, and then with 20, where out has no room for the lines.
-pub fn finish(s: Span, out: &mut [u8]) -> Told
+pub fn finish(s: Span, out: &mut [u8]) -> LinesAnswer
     ensures { λ r.
         ⌜ (r ≡ finishingOf s (length (now (out .entry))) .told)
         × (now (out .exit) ≡ sets (now (out .entry)) 0 (finishingOf s (length (now (out .entry))) .bytes)) ⌝ }
 {
     if !is_valid(s) {
-        return Told {
+        return LinesAnswer {
             code: codes::BROKEN,
             wrote: 0,
         };
     }
     if s.stopped {
-        return Told {
+        return LinesAnswer {
             code: codes::NO_REPLY_DUE,
             wrote: 0,
         };

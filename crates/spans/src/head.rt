@@ -2,7 +2,7 @@
 ghost use mathlib.Core.Path.{_≡_};
 ghost use Prim.Native.Nat.{_<_};
 ghost use Rattle.heads.specs.Head.{headLength};
-ghost use Rattle.heads.specs.Head.{readCode as headCode};
+ghost use Rattle.heads.specs.Head.{headReadCode};
 ghost use Rattle.spans.specs.Eating.{headOk, headTaken};
 use crate::Span;
 use heads::Opened;
@@ -10,7 +10,7 @@ use wire::codes;
 
 // The code with which a head reads.
 pub(crate) fn head_code(s: &[u8]) -> u8
-    ensures { λ r. ⌜ r ≡ headCode (now (s .entry)) ⌝ }
+    ensures { λ r. ⌜ r ≡ headReadCode (now (s .entry)) ⌝ }
 {
     let o = heads::read_head(s);
     match o {

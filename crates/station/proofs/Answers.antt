@@ -24,7 +24,7 @@ use Rattle.wire.proofs.Checks.{not-given}
 
 -- the header split into type and length is the message's
 pub message-is : (ten : List ℕ) (header type size : ℕ) → header ≡ field 0 2 ten → type ≡ typeIn header → size ≡ lengthIn header
-    → _≡_ {A = Message} (record { type = type; size = size; held = ten }) (openedMessage ten)
+    → _≡_ {A = Message} (record { type = type; size = size; bytes = ten }) (openedMessage ten)
 message-is ten header type size h a b = rw (a, b, h)
 
 -- a message's own code is never 20

@@ -9,7 +9,7 @@ use native.Mathlib.Nat.{le-trans}
 use native.Mathlib.Omega.{arith}
 use lib.ListN.{length}
 use Rattle.framing.specs.declared.Store.{Store}
-use Rattle.framing.specs.Framing.{taken, finished, between}
+use Rattle.framing.specs.Framing.{callTakes, finished, between}
 use Rattle.framing.proofs.Cutting.{count-some, count-most, taken-left}
 use Rattle.framing.proofs.Leaving.{between-left, left-open}
 use Rattle.items.specs.Answer.{settingsAfter}
@@ -35,7 +35,7 @@ feeding-within s host room =
     none : {code : ℕ} → Within host room (refused code s)
     none = record { consumed = omega arith; wrote = refl; fits = omega arith }
 
-    most : taken (s .store) host .count ≤ length host
+    most : callTakes (s .store) host .count ≤ length host
     most = omega (arith, count-most 0 (s .store) host)
 
 -- "Codes from 20 .. return the state given."
@@ -43,33 +43,33 @@ pub refused-returns : (s : Station) (host : List ℕ) (room : ℕ) → 20 ≤ fe
     → feedingOf s host room .fed .station ≡ s
 refused-returns s host room =
     each-way (λ f. 20 ≤ f .fed .code → f .fed .station ≡ s) s host room (λ v r. refl) (λ v r. refl) (λ v f r. absurd (omega arith))
-    (λ v f enough r. absurd (omega (arith, code-below (s .settings) (messageIn (taken (s .store) host .store)))))
+    (λ v f enough r. absurd (omega (arith, code-below (s .settings) (messageIn (callTakes (s .store) host .store)))))
 
 -- a valid box stays valid, whatever it is fed
 pub feeding-keeps : (s : Station) (host : List ℕ) (room : ℕ) → valid s ≡ true → valid (feedingOf s host room .fed .station) ≡ true
 feeding-keeps s host room v =
     let settings = valid-settings (s .settings) (s .store) v in
     let store = valid-store (s .settings) (s .store) v in
-    let message = messageIn (taken (s .store) host .store) in
+    let message = messageIn (callTakes (s .store) host .store) in
     each-way (λ f. valid (f .fed .station) ≡ true) s host room (λ w. v) (λ w. v)
-    (λ w f. valid-both (s .settings) (taken (s .store) host .store) settings (taken-left 0 (s .store) host store f))
+    (λ w f. valid-both (s .settings) (callTakes (s .store) host .store) settings (taken-left 0 (s .store) host store f))
     (λ w f enough. valid-both (settingsAfter (s .settings) message) between (message-keeps (s .settings) message settings) between-left)
 
 -- a message that is not finished takes a byte, where there is one
-some-taken : (t : Store) (host : List ℕ) → finished t ≡ false → 0 < length host → 1 ≤ taken t host .count
+some-taken : (t : Store) (host : List ℕ) → finished t ≡ false → 0 < length host → 1 ≤ callTakes t host .count
 some-taken t [] f l = absurd (omega arith)
 some-taken t (b ∷ bs) f l = count-some t b bs f
 
 pub feeding-some : (s : Station) (host : List ℕ) (room : ℕ) → valid s ≡ true → 64 ≤ room → 0 < length host
     → 1 ≤ feedingOf s host room .fed .consumed
-feeding-some s host room v enough l = go (finished (taken (s .store) host .store)) refl
+feeding-some s host room v enough l = go (finished (callTakes (s .store) host .store)) refl
   where
-    some : 1 ≤ taken (s .store) host .count
+    some : 1 ≤ callTakes (s .store) host .count
     some = some-taken (s .store) host (left-open (s .store) (valid-store (s .settings) (s .store) v)) l
 
-    go : (d : Bool) → finished (taken (s .store) host .store) ≡ d → 1 ≤ feedingOf s host room .fed .consumed
+    go : (d : Bool) → finished (callTakes (s .store) host .store) ≡ d → 1 ≤ feedingOf s host room .fed .consumed
     go true f =
         let settings = valid-settings (s .settings) (s .store) v in
-        let short = reply-short (s .settings) (messageIn (taken (s .store) host .store)) settings in
+        let short = reply-short (s .settings) (messageIn (callTakes (s .store) host .store)) settings in
         rw (feeding-answered (s .settings) (s .store) host room v f (le-trans short enough)) some
     go false f = rw (feeding-waiting (s .settings) (s .store) host room v f) some

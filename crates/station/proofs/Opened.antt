@@ -10,7 +10,7 @@ use lib.Dec.{ltb}
 use lib.ListN.{length, take}
 use Rattle.wire.specs.Choice.{pick}
 use Rattle.framing.specs.declared.Took.{Took}
-use Rattle.framing.specs.Framing.{Taking, headerIn, between, taken, couldBeLeft}
+use Rattle.framing.specs.Framing.{Taking, headerIn, between, callTakes, couldBeLeft}
 use Rattle.framing.specs.Telling.{tookOf, tookIn, heldAfter}
 use Rattle.framing.proofs.Cutting.{taken-unused, taken-long}
 use Rattle.framing.proofs.FirstTen.{held-opening}
@@ -20,7 +20,7 @@ use Rattle.items.specs.Answer.{Message, codeOf, settingsAfter, replyOf}
 use Rattle.items.proofs.TenBytes.{heldMessage, Same, ten-decide}
 use Rattle.station.specs.declared.Station.{Station}
 use Rattle.station.specs.Station.{valid}
-use Rattle.station.specs.Feeding.{Feeding, messageIn, feedingOf, refused, waiting}
+use Rattle.station.specs.Feeding.{Feeding, messageIn, feedingOf, refused, waitingCall}
 use Rattle.station.specs.Inside.{opened, answering}
 use Rattle.station.proofs.Valid.{valid-store, feeding-open, feeding-done}
 
@@ -67,7 +67,7 @@ same-answer s t room long =
 module _ (s : Station) (host : List ℕ) (room : ℕ) (r : Took) (after : List ℕ) (v : valid s ≡ true)
     (told : r ≡ tookIn (s .store) host) (left : after ≡ heldAfter (s .store) host) where
   abbrev all : Taking
-  all = taken (s .store) host
+  all = callTakes (s .store) host
 
   could : couldBeLeft (s .store) ≡ true
   could = valid-store (s .settings) (s .store) v
@@ -86,7 +86,7 @@ module _ (s : Station) (host : List ℕ) (room : ℕ) (r : Took) (after : List �
   holding = record { store = record { held = after; taken = r .taken }; count = r .count; finished = r .finished }
 
   -- a message that is not finished
-  pub waits : r .finished ≡ false → waiting (s .settings) holding ≡ feedingOf s host room
+  pub waits : r .finished ≡ false → waitingCall (s .settings) holding ≡ feedingOf s host room
   waits f =
       let open′ : all .finished ≡ false = sym ends ∙ f in
       let kept : after ≡ all .store .held = left ∙ rw (eq-eqb (length (s .store .held)) 64 long, open′) refl in

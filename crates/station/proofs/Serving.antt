@@ -9,7 +9,7 @@ use mathlib.Core.List.{List, [], _∷_, _++_}
 use lib.ListN.{length, drop}
 use Rattle.wire.specs.Choice.{pick}
 use Rattle.wire.specs.Lists.{joined as joinedBytes}
-use Rattle.framing.specs.Framing.{taken, finished}
+use Rattle.framing.specs.Framing.{callTakes, finished}
 use Rattle.framing.specs.Stream as stream
 use Rattle.framing.specs.Stream.{Stream}
 use Rattle.framing.proofs.Cutting.{finished-taking}
@@ -28,21 +28,21 @@ Good r = valid (come r .station) ≡ true
 
 -- what a call comes to in the stream
 abbrev next : Stream Come → List ℕ → Stream Come
-next r host = stream.called answer (r .state) (taken (r .store) host)
+next r host = stream.called answer (r .state) (callTakes (r .store) host)
 
 -- a call of feeding is a call of the stream, and consumes what that takes
 next-come : (room : ℕ) (r : Stream Come) (host : List ℕ) → 64 ≤ room → Good r
     → (called room (come r) host ≡ come (next r host))
-    × (feedingOf (come r .station) host room .fed .consumed ≡ taken (r .store) host .count)
-next-come room r host enough g = go (taken (r .store) host .finished) refl
+    × (feedingOf (come r .station) host room .fed .consumed ≡ callTakes (r .store) host .count)
+next-come room r host enough g = go (callTakes (r .store) host .finished) refl
   where
-    go : (d : Bool) → taken (r .store) host .finished ≡ d
-        → let t = taken (r .store) host .store in
+    go : (d : Bool) → callTakes (r .store) host .finished ≡ d
+        → let t = callTakes (r .store) host .store in
         (called room (come r) host ≡ come (pick d (stream.answered answer (r .state) t) (stream.keeping (r .state) t)))
-        × (feedingOf (come r .station) host room .fed .consumed ≡ taken (r .store) host .count)
+        × (feedingOf (come r .station) host room .fed .consumed ≡ callTakes (r .store) host .count)
     go true f =
         let s = r .state .settings in
-        let short = reply-short s (messageIn (taken (r .store) host .store)) (valid-settings s (r .store) g) in
+        let short = reply-short s (messageIn (callTakes (r .store) host .store)) (valid-settings s (r .store) g) in
         rw (feeding-answered s (r .store) host room g (finished-taking 0 (r .store) host ∙ f) (le-trans short enough)) (refl, refl)
     go false f =
         rw (feeding-waiting (r .state .settings) (r .store) host room g (finished-taking 0 (r .store) host ∙ f))
@@ -61,7 +61,7 @@ calling-come rooms (suc calls) r [] enough g = (refl, g)
 calling-come rooms (suc calls) r (b ∷ bs) enough g =
     let host = b ∷ bs in
     let here = next-come (rooms calls) r host (enough calls) g in
-    let rest = calling-come rooms calls (next r host) (drop (taken (r .store) host .count) host) enough (next-good r host g) in (
+    let rest = calling-come rooms calls (next r host) (drop (callTakes (r .store) host .count) host) enough (next-good r host g) in (
       ap (λ (x : Served). calling rooms calls x (drop (feedingOf (come r .station) host (rooms calls) .fed .consumed) host)) (here .0)
           ∙ ap (λ (n : ℕ). calling rooms calls (come (next r host)) (drop n host)) (here .1)
           ∙ rest .0,

@@ -11,14 +11,14 @@ use borrow.Author.Tests.{le-ltb, lt-leb, ltb-false, not-true, not-false}
 use Rattle.wire.specs.Choice.{pick}
 use Rattle.wire.proofs.Laws.{and-left, and-right, and-both, pick-keeps}
 use Rattle.framing.specs.declared.Store.{Store}
-use Rattle.framing.specs.Framing.{Taking, taken, finished, couldBeLeft}
+use Rattle.framing.specs.Framing.{Taking, callTakes, finished, couldBeLeft}
 use Rattle.framing.proofs.Cutting.{finished-taking}
 use Rattle.items.specs.declared.Settings.{Settings}
 use Rattle.items.specs.Settings.{inRange}
 use Rattle.items.specs.Answer.{replyOf}
 use Rattle.station.specs.declared.Station.{Station}
 use Rattle.station.specs.Station.{valid}
-use Rattle.station.specs.Feeding.{Feeding, messageIn, comesTo, feedingOf, refused, answered, waiting}
+use Rattle.station.specs.Feeding.{Feeding, messageIn, comesTo, feedingOf, refused, answered, waitingCall}
 use Rattle.station.specs.Inside.{answering}
 use Rattle.station.proofs.Kept.{code-below}
 
@@ -42,8 +42,8 @@ valid-both s t p q = and-both (inRange s) (couldBeLeft t) p q
 -- what the bytes come to is no refusal of the call's own: a message's code is under 20
 pub comes-below : (s : Station) (host : List ℕ) → comesTo s host .fed .code < 20
 comes-below s host =
-    pick-keeps (λ (f : Feeding). f .fed .code < 20) (finished (taken (s .store) host .store)) _ _
-    (λ f. code-below (s .settings) (messageIn (taken (s .store) host .store))) (λ f. omega arith)
+    pick-keeps (λ (f : Feeding). f .fed .code < 20) (finished (callTakes (s .store) host .store)) _ _
+    (λ f. code-below (s .settings) (messageIn (callTakes (s .store) host .store))) (λ f. omega arith)
 
 pub feeding-by : (s : Station) (host : List ℕ) (room : ℕ)
     → feedingOf s host room
@@ -60,13 +60,13 @@ feeding-by s host room =
     go false false f low = rw (lt-leb 20 (f .fed .code) low) refl
 
 pub feeding-answered : (s : Settings) (t : Store) (host : List ℕ) (room : ℕ) → valid (box s t) ≡ true
-    → finished (taken t host .store) ≡ true → length (replyOf s (messageIn (taken t host .store))) ≤ room
-    → feedingOf (box s t) host room ≡ answered s (taken t host)
+    → finished (callTakes t host .store) ≡ true → length (replyOf s (messageIn (callTakes t host .store))) ≤ room
+    → feedingOf (box s t) host room ≡ answered s (callTakes t host)
 feeding-answered s t host room v f r =
-    rw (feeding-by (box s t) host room, v, f, le-ltb room (length (replyOf s (messageIn (taken t host .store)))) r)
+    rw (feeding-by (box s t) host room, v, f, le-ltb room (length (replyOf s (messageIn (callTakes t host .store)))) r)
 
 pub feeding-waiting : (s : Settings) (t : Store) (host : List ℕ) (room : ℕ) → valid (box s t) ≡ true
-    → finished (taken t host .store) ≡ false → feedingOf (box s t) host room ≡ waiting s (taken t host)
+    → finished (callTakes t host .store) ≡ false → feedingOf (box s t) host room ≡ waitingCall s (callTakes t host)
 feeding-waiting s t host room v f = rw (feeding-by (box s t) host room, v, f, le-ltb room 0 (omega arith))
 
 -- ---- the three ways that a call of feeding goes, by what the framing took
@@ -75,11 +75,11 @@ module _ (s : Station) (host : List ℕ) (room : ℕ) where
   pub feeding-broken : valid s ≡ false → feedingOf s host room ≡ refused 21 s
   feeding-broken v = rw (feeding-by s host room, v)
 
-  module _ (t : Taking) (v : valid s ≡ true) (e : t ≡ taken (s .store) host) where
-    ends : t .finished ≡ finished (taken (s .store) host .store)
+  module _ (t : Taking) (v : valid s ≡ true) (e : t ≡ callTakes (s .store) host) where
+    ends : t .finished ≡ finished (callTakes (s .store) host .store)
     ends = ap (λ (k : Taking). k .finished) e ∙ sym (finished-taking 0 (s .store) host)
 
-    pub feeding-open : t .finished ≡ false → waiting (s .settings) t ≡ feedingOf s host room
+    pub feeding-open : t .finished ≡ false → waitingCall (s .settings) t ≡ feedingOf s host room
     feeding-open f = rw (feeding-by s host room, v, sym ends ∙ f, e, le-ltb room 0 (omega arith))
 
     pub feeding-done : t .finished ≡ true → answering s t room ≡ feedingOf s host room
@@ -89,24 +89,24 @@ module _ (s : Station) (host : List ℕ) (room : ℕ) where
 
 -- the reply that a call owes for the message that it finishes
 abbrev reply : Station → List ℕ → List ℕ
-reply s host = replyOf (s .settings) (messageIn (taken (s .store) host .store))
+reply s host = replyOf (s .settings) (messageIn (callTakes (s .store) host .store))
 
 module _ (P : Feeding → Type 0) (s : Station) (host : List ℕ) (room : ℕ) where
   -- what holds of each way that it can go holds of the call
   pub each-way :
       (valid s ≡ false → P (refused 21 s))
       → (valid s ≡ true → P (refused 20 s))
-      → (valid s ≡ true → taken (s .store) host .finished ≡ false → P (waiting (s .settings) (taken (s .store) host)))
-      → (valid s ≡ true → taken (s .store) host .finished ≡ true → length (reply s host) ≤ room
-      → P (answered (s .settings) (taken (s .store) host)))
+      → (valid s ≡ true → callTakes (s .store) host .finished ≡ false → P (waitingCall (s .settings) (callTakes (s .store) host)))
+      → (valid s ≡ true → callTakes (s .store) host .finished ≡ true → length (reply s host) ≤ room
+      → P (answered (s .settings) (callTakes (s .store) host)))
       → P (feedingOf s host room)
   each-way broken short wait done =
       rw (feeding-by s host room)
       (pick-keeps P (not (valid s)) _ _ (λ v. broken (not-true (valid s) v))
-      (λ v. by-end (not-false (valid s) v) (finished (taken (s .store) host .store)) refl))
+      (λ v. by-end (not-false (valid s) v) (finished (callTakes (s .store) host .store)) refl))
     where
-      by-end : valid s ≡ true → (d : Bool) → finished (taken (s .store) host .store) ≡ d
-          → let f = pick d (answered (s .settings) (taken (s .store) host)) (waiting (s .settings) (taken (s .store) host)) in
+      by-end : valid s ≡ true → (d : Bool) → finished (callTakes (s .store) host .store) ≡ d
+          → let f = pick d (answered (s .settings) (callTakes (s .store) host)) (waitingCall (s .settings) (callTakes (s .store) host)) in
           P (pick (ltb room (length (f .bytes))) (refused 20 s) f)
       by-end v true f =
           pick-keeps P (ltb room (length (reply s host))) _ _ (λ l. short v)

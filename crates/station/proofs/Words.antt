@@ -16,7 +16,7 @@ use Rattle.tuning.proofs.Words.{word-is}
 use Rattle.station.specs.declared.Station.{Station}
 use Rattle.station.specs.declared.Tuning.{Tuning}
 use Rattle.station.specs.declared.Tuning.the-variants.{Word, Broken}
-use Rattle.station.specs.Station.{valid, told, tuningTold}
+use Rattle.station.specs.Station.{valid, tuningSays, tuningTold}
 use Rattle.station.proofs.Kept.{ranges}
 use Rattle.station.proofs.Valid.{valid-settings}
 
@@ -28,31 +28,31 @@ module _ (s : Station) (v : valid s ≡ true) where
   abbrev asked : Told
   asked = wordTold (s .settings .frequency) (s .settings .clock)
 
-  answered : asked ≡ tuning.told (Tuned.the-variants.Is word)
+  answered : asked ≡ tuning.wordSays (Tuned.the-variants.Is word)
   answered =
       let r = ranges (s .settings) (valid-settings (s .settings) (s .store) v) in
       word-is (s .settings .frequency) (s .settings .clock) (r .frequency) (r .clock)
 
-  pub word-told : (w : ℕ) → tuning.told (Tuned.the-variants.Is w) ≡ asked → told (Word w) ≡ tuningTold s
+  pub word-told : (w : ℕ) → tuning.wordSays (Tuned.the-variants.Is w) ≡ asked → tuningSays (Word w) ≡ tuningTold s
   unfolding tuningTold
   word-told w e = rw v (e ∙ answered)
 
-  pub never-without : tuning.told Tuned.the-variants.NotAllowed ≡ asked → told Broken ≡ tuningTold s
+  pub never-without : tuning.wordSays Tuned.the-variants.NotAllowed ≡ asked → tuningSays Broken ≡ tuningTold s
   never-without e = absurd (let z : _≡_ {A = ℕ} 16 1 = ap (λ (t : Told). t .code) (e ∙ answered) in omega arith)
 
 -- the answer says all: the number and the value decide the case
 back : Told → Tuning
 back t = pick (eqb (t .code) 1) (Word (getD (t .values) 0 0)) Broken
 
-back-told : (t : Tuning) → back (told t) ≡ t
+back-told : (t : Tuning) → back (tuningSays t) ≡ t
 unfolding back
 back-told (Word w) = refl
 back-told Broken = refl
 
 -- two answers that tell the same are the same
-pub told-one : OneEach told
-told-one = one-by told back back-told
+pub told-one : OneEach tuningSays
+told-one = one-by tuningSays back back-told
 
 -- so two words that the promise allows coincide
-pub word-one : (s : Station) {r t : Tuning} → told r ≡ tuningTold s → told t ≡ tuningTold s → r ≡ t
-word-one s = two-results-coincide told told-one (tuningTold s)
+pub word-one : (s : Station) {r t : Tuning} → tuningSays r ≡ tuningTold s → tuningSays t ≡ tuningTold s → r ≡ t
+word-one s = two-results-coincide tuningSays told-one (tuningTold s)

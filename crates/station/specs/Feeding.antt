@@ -7,7 +7,7 @@ use lib.ListN.{length}
 use Rattle.wire.specs.Choice.{pick, Check, check, firstOf}
 use Rattle.wire.specs.Codes as Code
 use Rattle.wire.specs.Header.{lengthIn, typeIn}
-use Rattle.framing.specs.Framing.{Taking, taken, finished, headerIn, between}
+use Rattle.framing.specs.Framing.{Taking, callTakes, finished, headerIn, between}
 use Rattle.framing.specs.declared.Store.{Store}
 use Rattle.items.specs.declared.Settings.{Settings}
 use Rattle.items.specs.Answer.{Message, codeOf, replyOf, settingsAfter}
@@ -18,7 +18,7 @@ use Rattle.station.specs.Station.{valid}
 
 -- the finished message in a store
 abbrev pub messageIn : Store → Message
-messageIn t = record { type = typeIn (headerIn (t .held)); size = lengthIn (headerIn (t .held)); held = t .held }
+messageIn t = record { type = typeIn (headerIn (t .held)); size = lengthIn (headerIn (t .held)); bytes = t .held }
 
 -- what a call returns, and the bytes that it writes at the start of the reply buffer
 pub record Feeding : Type 0 where
@@ -30,8 +30,8 @@ abbrev pub refused : ℕ → Station → Feeding
 refused code s = record { fed = record { code = code; consumed = 0; wrote = 0; station = s }; bytes = [] }
 
 -- 0: "waiting, all bytes consumed"
-abbrev pub waiting : Settings → Taking → Feeding
-waiting s t =
+abbrev pub waitingCall : Settings → Taking → Feeding
+waitingCall s t =
     record {
       fed = record { code = Code.waiting; consumed = t .count; wrote = 0; station = record { settings = s; store = t .store } };
       bytes = [];
@@ -54,8 +54,8 @@ answered s t =
 -- what the host's bytes come to: a message that they finish is answered, any other waits
 abbrev pub comesTo : Station → List ℕ → Feeding
 comesTo s host =
-    let t = taken (s .store) host in
-    pick (finished (t .store)) (answered (s .settings) t) (waiting (s .settings) t)
+    let t = callTakes (s .store) host in
+    pick (finished (t .store)) (answered (s .settings) t) (waitingCall (s .settings) t)
 
 -- "Orders: feeding 21, 20." 20: "lent buffer shorter than what this call would write"
 abbrev pub feedChecks : Station → List ℕ → ℕ → List Check

@@ -31,9 +31,9 @@ freshBox serial =
     }
 
 -- what an answer tells, in the numbers of "What comes back": 1 and the word, or 21
-abbrev pub told : Tuning → Told
-told (Word w) = tells Code.done (w ∷ [])
-told Broken = tells Code.broken []
+abbrev pub tuningSays : Tuning → Told
+tuningSays (Word w) = tells Code.done (w ∷ [])
+tuningSays Broken = tells Code.broken []
 
 -- The tuning word: "it is worked out when asked". A broken box has none.
 unfoldable pub tuningTold : Station → Told

@@ -4,7 +4,7 @@ mod feeding; // feeding.rt: one call of feeding
 pub use feeding::feed;
 pub use feeding::feed_held;
 ghost use mathlib.Core.Path.{_≡_};
-ghost use Rattle.station.specs.Station.{valid, boxOf, freshBox, freshStation, sessionSerial, told, tuningTold};
+ghost use Rattle.station.specs.Station.{valid, boxOf, freshBox, freshStation, sessionSerial, tuningSays, tuningTold};
 use framing::Store;
 use items::Settings;
 
@@ -91,7 +91,7 @@ pub fn is_sound(settings: Settings, held: &[u8], taken: usize) -> bool
 
 // The tuning word, worked out when asked.
 pub fn tuning_word(s: Station) -> Tuning
-    ensures { λ r. ⌜ told r ≡ tuningTold s ⌝ }
+    ensures { λ r. ⌜ tuningSays r ≡ tuningTold s ⌝ }
 {
     if !is_valid(s) {
         return Tuning::Broken;

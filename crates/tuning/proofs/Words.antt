@@ -12,7 +12,7 @@ use Rattle.wire.proofs.Halves.{half-up}
 use Rattle.wire.proofs.Laws.{and-not-right, within-low}
 use Rattle.tuning.specs.Bands.{inBands}
 use Rattle.wire.specs.Told.{Told}
-use Rattle.tuning.specs.Word.{offsetOf, wordOf, isClock, told, wordTold}
+use Rattle.tuning.specs.Word.{offsetOf, wordOf, isClock, wordSays, wordTold}
 use Rattle.tuning.specs.declared.word.Word.{Word}
 use Rattle.tuning.specs.declared.word.Word.the-variants.{Is, NotAllowed}
 use Rattle.wire.proofs.Firm.{one-by, two-results-coincide}
@@ -38,22 +38,22 @@ word-fits n clock small fast =
 
 -- no frequency of a band, or no clock: 16
 module _ (hz clock : ℕ) where
-  pub no-clock : isClock clock ≡ false → told NotAllowed ≡ wordTold hz clock
+  pub no-clock : isClock clock ≡ false → wordSays NotAllowed ≡ wordTold hz clock
   no-clock c = rw (and-not-right (inBands hz) (isClock clock) c)
 
-  pub no-band : inFirst hz ≡ false → inSecond hz ≡ false → told NotAllowed ≡ wordTold hz clock
+  pub no-band : inFirst hz ≡ false → inSecond hz ≡ false → wordSays NotAllowed ≡ wordTold hz clock
   no-band one two = rw (one, two)
 
   -- a frequency of a band and a clock that may be set have a word
-  pub word-is : inBands hz ≡ true → isClock clock ≡ true → wordTold hz clock ≡ told (Is (wordOf hz clock))
+  pub word-is : inBands hz ≡ true → isClock clock ≡ true → wordTold hz clock ≡ wordSays (Is (wordOf hz clock))
   word-is b c = rw (b, c)
 
-  pub word-first : inFirst hz ≡ true → isClock clock ≡ true → told (Is (quotient hz clock)) ≡ wordTold hz clock
+  pub word-first : inFirst hz ≡ true → isClock clock ≡ true → wordSays (Is (quotient hz clock)) ≡ wordTold hz clock
   unfolding wordOf
   word-first one c = rw (one, c)
 
   pub word-second : inFirst hz ≡ false → inSecond hz ≡ true → isClock clock ≡ true
-      → told (Is (quotient (160000000 - hz) clock)) ≡ wordTold hz clock
+      → wordSays (Is (quotient (160000000 - hz) clock)) ≡ wordTold hz clock
   unfolding wordOf
   word-second one two c = rw (one, two, c)
 
@@ -63,18 +63,18 @@ module _ (hz clock : ℕ) where
 back : Told → Word
 back t = pick (eqb (t .code) 1) (Is (getD (t .values) 0 0)) NotAllowed
 
-back-told : (w : Word) → back (told w) ≡ w
+back-told : (w : Word) → back (wordSays w) ≡ w
 unfolding back
 back-told (Is w) = refl
 back-told NotAllowed = refl
 
 -- two answers that tell the same are the same
-pub told-one : (v w : Word) → told v ≡ told w → v ≡ w
-told-one = one-by told back back-told
+pub told-one : (v w : Word) → wordSays v ≡ wordSays w → v ≡ w
+told-one = one-by wordSays back back-told
 
 -- so the promise of the word allows one answer
-pub word-one : (hz clock : ℕ) {v w : Word} → told v ≡ wordTold hz clock → told w ≡ wordTold hz clock → v ≡ w
-word-one hz clock p q = two-results-coincide told told-one (wordTold hz clock) p q
+pub word-one : (hz clock : ℕ) {v w : Word} → wordSays v ≡ wordTold hz clock → wordSays w ≡ wordTold hz clock → v ≡ w
+word-one hz clock p q = two-results-coincide wordSays told-one (wordTold hz clock) p q
 
 -- ---- the nearest whole number, halves up
 

@@ -29,9 +29,9 @@ abbrev pub isClock : ℕ → Bool
 isClock hz = within 79_992_000 80_008_000 hz
 
 -- the number and the value of each case: 1 and the word, or 16
-abbrev pub told : Word → Told
-told (Is w) = record { code = Code.done; values = w ∷ [] }
-told NotAllowed = record { code = Code.valueNotAllowed; values = [] }
+abbrev pub wordSays : Word → Told
+wordSays (Is w) = record { code = Code.done; values = w ∷ [] }
+wordSays NotAllowed = record { code = Code.valueNotAllowed; values = [] }
 
 -- "value not allowed": the frequency lies in no band, or the clock is none that may be set
 abbrev pub wordCode : ℕ → ℕ → ℕ

@@ -1,7 +1,7 @@
 // Tuning word (house).
 ghost use mathlib.Core.Path.{_≡_};
 ghost use Prim.Native.Nat.{_+_, _*_, _/_, _^_, _≤_};
-ghost use Rattle.tuning.specs.Word.{isClock, told, wordTold};
+ghost use Rattle.tuning.specs.Word.{isClock, wordSays, wordTold};
 use crate::bands::SECOND_OSCILLATOR;
 use crate::bands::in_first;
 use crate::bands::in_second;
@@ -31,7 +31,7 @@ fn nearest(n: u64, clock: u32) -> u32
 // The tuning word of a frequency at a clock: "it is worked out when asked". Refused where the frequency lies in no band,
 // or the clock may not be set.
 pub fn word_of(hz: u64, clock: u32) -> Word
-    ensures { λ r. ⌜ told r ≡ wordTold hz clock ⌝ }
+    ensures { λ r. ⌜ wordSays r ≡ wordTold hz clock ⌝ }
 {
     if !is_clock(clock) {
         return Word::NotAllowed;

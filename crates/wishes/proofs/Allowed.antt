@@ -10,7 +10,7 @@ use lib.Signed.{mag}
 use denote.Enum.Declared.{tagOf}
 use borrow.Author.Tests.{eqb-true, eqb-false, eq-eqb, ne-eqb}
 use Rattle.wire.specs.Choice.{within, oneOf}
-use Rattle.wire.specs.Signed.{coded, sameInteger}
+use Rattle.wire.specs.Signed.{minus, coded, sameInteger}
 use Rattle.wire.proofs.Laws.{true-not-false, never, and-left, and-right, within-high, by-test, by-or, one-has}
 use Rattle.tuning.specs.Bands.{inBands}
 use Rattle.items.specs.Settings.{gains, isGain, isMode}
@@ -20,7 +20,7 @@ use Rattle.wishes.specs.declared.Wish.{Wish}
 use Rattle.wishes.specs.declared.Wish.the-variants.{AskName, AskSerial, AskInterface, AskVersion, AskStatus, SetState}
 use Rattle.wishes.specs.declared.Wish.the-variants.{AskState, SetFrequency, AskFrequency, AskFrequencyRange, SetGain, AskGain}
 use Rattle.wishes.specs.declared.Wish.the-variants.{SetClock, AskClock, SetRate, AskRate, SetPacketSize, AskPacketSize}
-use Rattle.wishes.specs.Wishes.{Fits, allowed}
+use Rattle.wishes.specs.Wishes.{Fits, allowedWish}
 
 pub bands-high : (hz : ℕ) → inBands hz ≡ true → hz ≤ 150_000_000
 bands-high hz = by-or (within 100_000 34_000_000 hz) _ first (by-or (within 140_000_000 150_000_000 hz) false second never)
@@ -36,7 +36,7 @@ gain-below n = one-has (λ m. m < 256) n (map (coded 8) gains) (omega arith, (om
 
 -- the states that may be wished for: idle, with any mode, and run in either mode
 pub state-has : (P : StateFields → Type 0) → ((m : ℕ) → P (record { run = 1; mode = m })) → P (record { run = 2; mode = 0x80 })
-    → P (record { run = 2; mode = 0x00 }) → (f : StateFields) → allowed (SetState f) ≡ true → P f
+    → P (record { run = 2; mode = 0x00 }) → (f : StateFields) → allowedWish (SetState f) ≡ true → P f
 state-has P idle wide narrow f = by-or (eqb (f .run) 1) (eqb (f .run) 2 && isMode (f .mode)) rests runs
   where
     with-run : (r : ℕ) → eqb (f .run) r ≡ true → P (record { run = r; mode = f .mode }) → P f
@@ -60,13 +60,13 @@ integer-eq (negsuc a) (pos b) e = never e
 integer-eq (negsuc a) (negsuc b) e = ap negsuc (eqb-true a b e)
 
 -- what 0, -10, -20 and -30 have, every gain has
-pub gain-has : (P : ℤ → Type 0) → P (pos 0) → P (negsuc 9) → P (negsuc 19) → P (negsuc 29) → (g : ℤ) → allowed (SetGain g) ≡ true → P g
+pub gain-has : (P : ℤ → Type 0) → P (pos 0) → P (minus 10) → P (minus 20) → P (minus 30) → (g : ℤ) → allowedWish (SetGain g) ≡ true → P g
 gain-has P a b c d g =
     let at : (z : ℤ) → P z → sameInteger g z ≡ true → P g = λ z h e. subst P (sym (integer-eq g z e)) h in
     by-or (sameInteger g (pos 0)) _ (at (pos 0) a)
-    (by-or (sameInteger g (negsuc 9)) _ (at (negsuc 9) b)
-    (by-or (sameInteger g (negsuc 19)) _ (at (negsuc 19) c)
-    (by-or (sameInteger g (negsuc 29)) false (at (negsuc 29) d) never)))
+    (by-or (sameInteger g (minus 10)) _ (at (minus 10) b)
+    (by-or (sameInteger g (minus 20)) _ (at (minus 20) c)
+    (by-or (sameInteger g (minus 30)) false (at (minus 30) d) never)))
 
 -- the bits of a negative number are those of -n - 1 exactly where it is
 bits-of : (n k : ℕ) → n < 128 → k < 128 → eqb (256 - suc n) (256 - suc k) ≡ eqb n k
@@ -75,7 +75,7 @@ bits-of n k small less =
     (λ other. ne-eqb (256 - suc n) (256 - suc k) (λ is. eqb-false n k other (omega arith)) ∙ sym other)
 
 -- a signed byte is a gain exactly where its bits are a gain's
-pub gain-bits : (g : ℤ) → mag g < 128 → isGain (coded 8 g) ≡ allowed (SetGain g)
+pub gain-bits : (g : ℤ) → mag g < 128 → isGain (coded 8 g) ≡ allowedWish (SetGain g)
 gain-bits (pos n) small =
     rw (ne-eqb n 246 (λ is. omega arith), ne-eqb n 236 (λ is. omega arith), ne-eqb n 226 (λ is. omega arith)) refl
 gain-bits (negsuc n) small =
@@ -87,7 +87,7 @@ gain-bits (negsuc n) small =
     ) refl
 
 -- an allowed value fits its field
-pub value-fits : (w : Wish) → allowed w ≡ true → Fits w
+pub value-fits : (w : Wish) → allowedWish w ≡ true → Fits w
 value-fits AskName e = omega arith
 value-fits AskSerial e = omega arith
 value-fits AskInterface e = omega arith
@@ -111,7 +111,7 @@ value-fits AskPacketSize e = omega arith
 unfoldable pub valueless : List ℕ
 valueless = 0 ∷ 1 ∷ 2 ∷ 4 ∷ 6 ∷ 8 ∷ 9 ∷ 11 ∷ 13 ∷ 15 ∷ 17 ∷ []
 
-pub valueless-allowed : (w : Wish) → oneOf (tagOf the-type w) valueless ≡ true → allowed w ≡ true
+pub valueless-allowed : (w : Wish) → oneOf (tagOf the-type w) valueless ≡ true → allowedWish w ≡ true
 unfolding valueless
 valueless-allowed AskName h = refl
 valueless-allowed AskSerial h = refl

@@ -9,20 +9,20 @@ use Rattle.wire.proofs.Firm.{one-by}
 use Rattle.wishes.specs.declared.Wish.{Wish}
 use Rattle.wishes.specs.declared.Written.{Written}
 use Rattle.wishes.specs.declared.Written.the-variants.{Message, NotAllowed, NoRoom}
-use Rattle.wishes.specs.Wishes.{allowed}
-use Rattle.wishes.specs.Writing.{Writing, writtenSays, writeCode}
+use Rattle.wishes.specs.Wishes.{allowedWish}
+use Rattle.wishes.specs.Writing.{Writing, writtenSays, wishCode}
 
 module _ (w : Wish) (room : ℕ) where
-  pub code-not-allowed : allowed w ≡ false → writeCode w room ≡ 16
-  unfolding writeCode
+  pub code-not-allowed : allowedWish w ≡ false → wishCode w room ≡ 16
+  unfolding wishCode
   code-not-allowed e = rw e
 
-  pub code-no-room : allowed w ≡ true → room < 16 → writeCode w room ≡ 20
-  unfolding writeCode
+  pub code-no-room : allowedWish w ≡ true → room < 16 → wishCode w room ≡ 20
+  unfolding wishCode
   code-no-room e h = rw (e, lt-ltb room 16 h)
 
-  pub code-written : allowed w ≡ true → 16 ≤ room → writeCode w room ≡ 1
-  unfolding writeCode
+  pub code-written : allowedWish w ≡ true → 16 ≤ room → wishCode w room ≡ 1
+  unfolding wishCode
   code-written e h = rw (e, le-ltb room 16 h)
 
 -- the case that tells so

@@ -23,15 +23,15 @@ use Rattle.tuning.specs.Word.{isClock}
 use Rattle.layouts.specs.Layouts.{parametersOf}
 use Rattle.items.specs.declared.Settings.{Settings}
 use Rattle.items.specs.Settings.{isGain, isMode, isSize, withFrequency, withClock, withDivisor, withGain, withSize}
-use Rattle.items.specs.Items.{idle, run, mayState, rowOf, listed}
+use Rattle.items.specs.Items.{idle, run, mayState, rowOf, listedItem}
 use Rattle.items.specs.Answer.{codeOf, settingsAfter, valueAllowed, refusedRunning, row, parameters}
 use Rattle.wishes.specs.declared.StateFields.{StateFields}
 use Rattle.wishes.specs.declared.Wish.{Wish}
 use Rattle.wishes.specs.declared.Wish.the-variants.{AskName, AskSerial, AskInterface, AskVersion, AskStatus, SetState}
 use Rattle.wishes.specs.declared.Wish.the-variants.{AskState, SetFrequency, AskFrequency, AskFrequencyRange, SetGain, AskGain}
 use Rattle.wishes.specs.declared.Wish.the-variants.{SetClock, AskClock, SetRate, AskRate, SetPacketSize, AskPacketSize}
-use Rattle.wishes.specs.Wishes.{asking, layoutOf, Fits, allowed, granted, notNow, messageOf, asMessage}
-use Rattle.wishes.specs.Writing.{writeCode}
+use Rattle.wishes.specs.Wishes.{asking, layoutOf, Fits, allowedWish, granted, notNow, messageOf, asMessage}
+use Rattle.wishes.specs.Writing.{wishCode}
 use Rattle.wishes.proofs.Rows.{by-wish, of-row}
 use Rattle.wishes.proofs.Answers.{code-not-allowed}
 use Rattle.wishes.proofs.Allowed.{state-has, gain-bits, value-fits}
@@ -49,7 +49,7 @@ abbrev Checked : Wish → Type 0
 Checked w = (s : Settings) → codeOf s (asMessage w) ≡ firstOf (check 16 (not (valueTaken w)) ∷ check 17 (locked w s) ∷ []) 1
 
 checked : (w : Wish) → Checked w
-unfolding codeOf rowOf listed messageOf
+unfolding codeOf rowOf listedItem messageOf
 checked w = search (by-wish Checked)
 
 -- a state's bytes come back
@@ -66,16 +66,16 @@ run-same r m fits =
     tests a true c = refl
     tests a false c = refl
 
-state-same : (f : StateFields) → Fits (SetState f) → valueTaken (SetState f) ≡ allowed (SetState f)
+state-same : (f : StateFields) → Fits (SetState f) → valueTaken (SetState f) ≡ allowedWish (SetState f)
 unfolding messageOf
 state-same f fits = go (eqb (f .run) idle) refl
   where
-    go : (t : Bool) → eqb (f .run) idle ≡ t → valueTaken (SetState f) ≡ allowed (SetState f)
+    go : (t : Bool) → eqb (f .run) idle ≡ t → valueTaken (SetState f) ≡ allowedWish (SetState f)
     go true q = rw q refl
     go false q = rw q (rw q at (run-same (f .run) (f .mode) ((rw q at fits) .1)))
 
 -- a value that fits its field is allowed by the box exactly where the writer allows it
-value-same : (w : Wish) → Fits w → valueTaken w ≡ allowed w
+value-same : (w : Wish) → Fits w → valueTaken w ≡ allowedWish w
 unfolding messageOf
 value-same AskName fits = refl
 value-same AskSerial fits = refl
@@ -106,7 +106,7 @@ always-locked true = refl
 always-locked false = refl
 
 -- of an allowed wish it says what `notNow` does
-locked-now : (w : Wish) (s : Settings) → allowed w ≡ true → locked w s ≡ notNow w s
+locked-now : (w : Wish) (s : Settings) → allowedWish w ≡ true → locked w s ≡ notNow w s
 locked-now AskName s e = refl
 locked-now AskSerial s e = refl
 locked-now AskInterface s e = refl
@@ -127,7 +127,7 @@ locked-now (SetPacketSize n) s e = always-locked (s .running)
 locked-now AskPacketSize s e = refl
 
 -- the code of an allowed wish: 17 where the box is running and the wish's row is locked, else 1
-pub code-of-wish : (w : Wish) (s : Settings) → allowed w ≡ true → codeOf s (asMessage w) ≡ pick (notNow w s) 17 1
+pub code-of-wish : (w : Wish) (s : Settings) → allowedWish w ≡ true → codeOf s (asMessage w) ≡ pick (notNow w s) 17 1
 code-of-wish w s e = checked w s ∙ rw (value-same w (value-fits w e), e, locked-now w s e) refl
 
 -- where 16 is checked first, it is given by that check alone
@@ -138,22 +138,22 @@ first-alike true false u m n other e = absurd (eqb-false 1 16 refl e)
 
 -- "The writer refuses with 16 values the box would refuse so": where the value fits its field, the writer says 16 exactly
 -- where the box would, whatever its settings.
-pub refused-alike : (w : Wish) (s : Settings) (room : ℕ) → Fits w → (writeCode w room ≡ 16) ↔ (codeOf s (asMessage w) ≡ 16)
-unfolding writeCode
+pub refused-alike : (w : Wish) (s : Settings) (room : ℕ) → Fits w → (wishCode w room ≡ 16) ↔ (codeOf s (asMessage w) ≡ 16)
+unfolding wishCode
 refused-alike w s room fits = (
-  λ (e : writeCode w room ≡ 16). box ∙ first-alike (allowed w) (ltb room 16) (locked w s) 20 17 (eqb-false 20 16 refl) e,
-  λ (e : codeOf s (asMessage w) ≡ 16). first-alike (allowed w) (locked w s) (ltb room 16) 17 20 (eqb-false 17 16 refl) (sym box ∙ e),
+  λ (e : wishCode w room ≡ 16). box ∙ first-alike (allowedWish w) (ltb room 16) (locked w s) 20 17 (eqb-false 20 16 refl) e,
+  λ (e : codeOf s (asMessage w) ≡ 16). first-alike (allowedWish w) (locked w s) (ltb room 16) 17 20 (eqb-false 17 16 refl) (sym box ∙ e),
 )
   where
-    box : codeOf s (asMessage w) ≡ firstOf (check 16 (not (allowed w)) ∷ check 17 (locked w s) ∷ []) 1
+    box : codeOf s (asMessage w) ≡ firstOf (check 16 (not (allowedWish w)) ∷ check 17 (locked w s) ∷ []) 1
     box = checked w s ∙ rw (value-same w fits) refl
 
 -- What does not fit, the writer refuses too: a frequency of more than 40 bits lies in no band. A box would see the lowest 40
 -- bits alone.
-pub unfit-refused : (w : Wish) (room : ℕ) → (Fits w → ⊥) → writeCode w room ≡ 16
-unfit-refused w room unfit = code-not-allowed w room (go (allowed w) refl)
+pub unfit-refused : (w : Wish) (room : ℕ) → (Fits w → ⊥) → wishCode w room ≡ 16
+unfit-refused w room unfit = code-not-allowed w room (go (allowedWish w) refl)
   where
-    go : (t : Bool) → allowed w ≡ t → t ≡ false
+    go : (t : Bool) → allowedWish w ≡ t → t ≡ false
     go true e = absurd (unfit (value-fits w e))
     go false e = refl
 
@@ -167,7 +167,7 @@ abbrev taken : Wish → Settings → Settings
 taken w s = pick (eqb (asking w .kind) typeSet) (asking w .item .rule .stored s (parameters (asMessage w))) s
 
 -- they are those that the wish means
-taken-granted : (w : Wish) (s : Settings) → allowed w ≡ true → taken w s ≡ granted w s
+taken-granted : (w : Wish) (s : Settings) → allowedWish w ≡ true → taken w s ≡ granted w s
 unfolding messageOf
 taken-granted AskName s e = refl
 taken-granted AskSerial s e = refl
@@ -189,7 +189,7 @@ taken-granted (SetPacketSize n) s e = ap (λ (n : ℕ). withSize n s) (mod-eq-of
 taken-granted AskPacketSize s e = refl
 
 -- What an allowed wish leaves of the settings
-pub settings-of-wish : (w : Wish) (s : Settings) → allowed w ≡ true → settingsAfter s (asMessage w) ≡ pick (notNow w s) s (granted w s)
+pub settings-of-wish : (w : Wish) (s : Settings) → allowedWish w ≡ true → settingsAfter s (asMessage w) ≡ pick (notNow w s) s (granted w s)
 unfolding settingsAfter
 settings-of-wish w s e = rw (code-of-wish w s e, row-of-wish w) (by (notNow w s))
   where

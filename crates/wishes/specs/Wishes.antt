@@ -105,9 +105,9 @@ cellOf code kind dash = []
 abbrev pub cellsIn : List Item → List Cell
 cellsIn [] = []
 cellsIn (i ∷ is) =
-    cellOf (i .code) typeSet (i .set)
-    ++ cellOf (i .code) typeRequest (i .request)
-    ++ cellOf (i .code) typeRange (i .range)
+    cellOf (i .code) typeSet (i .onSet)
+    ++ cellOf (i .code) typeRequest (i .onRequest)
+    ++ cellOf (i .code) typeRange (i .onRange)
     ++ cellsIn is
 
 -- the values that wishes hold
@@ -186,25 +186,25 @@ mayWishState f = eqb (f .run) idle || (eqb (f .run) run && isMode (f .mode))
 
 -- "The writer refuses with 16 values the box would refuse so": the wishes whose value the box allows. The value counts
 -- whole, also where it has more bytes than its field.
-abbrev pub allowed : Wish → Bool
-allowed AskName = true
-allowed AskSerial = true
-allowed AskInterface = true
-allowed (AskVersion id) = isVersion id
-allowed AskStatus = true
-allowed (SetState f) = mayWishState f
-allowed AskState = true
-allowed (SetFrequency hz) = inBands hz
-allowed AskFrequency = true
-allowed AskFrequencyRange = true
-allowed (SetGain g) = anyOf (sameInteger g) gains
-allowed AskGain = true
-allowed (SetClock hz) = isClock hz
-allowed AskClock = true
-allowed (SetRate hz) = mayAsk hz
-allowed AskRate = true
-allowed (SetPacketSize n) = isSize n
-allowed AskPacketSize = true
+abbrev pub allowedWish : Wish → Bool
+allowedWish AskName = true
+allowedWish AskSerial = true
+allowedWish AskInterface = true
+allowedWish (AskVersion id) = isVersion id
+allowedWish AskStatus = true
+allowedWish (SetState f) = mayWishState f
+allowedWish AskState = true
+allowedWish (SetFrequency hz) = inBands hz
+allowedWish AskFrequency = true
+allowedWish AskFrequencyRange = true
+allowedWish (SetGain g) = anyOf (sameInteger g) gains
+allowedWish AskGain = true
+allowedWish (SetClock hz) = isClock hz
+allowedWish AskClock = true
+allowedWish (SetRate hz) = mayAsk hz
+allowedWish AskRate = true
+allowedWish (SetPacketSize n) = isSize n
+allowedWish AskPacketSize = true
 
 -- What a wish means: the settings of a box that grants it. Only a set changes one.
 abbrev pub granted : Wish → Settings → Settings
@@ -255,5 +255,5 @@ asMessage w =
     record {
       type = asking w .kind;
       size = length (messageOf w);
-      held = messageOf w ++ replicate (64 - length (messageOf w)) 0;
+      bytes = messageOf w ++ replicate (64 - length (messageOf w)) 0;
     }

@@ -10,18 +10,18 @@ use Rattle.wire.specs.Codes as Code
 use Rattle.wishes.specs.declared.Wish.{Wish}
 use Rattle.wishes.specs.declared.Written.{Written}
 use Rattle.wishes.specs.declared.Written.the-variants.{Message, NotAllowed, NoRoom}
-use Rattle.wishes.specs.Wishes.{allowed, messageOf}
+use Rattle.wishes.specs.Wishes.{allowedWish, messageOf}
 
 -- "16 values the box would refuse so, with 20 a buffer under 16 bytes (16 checked first)"
-abbrev pub writeChecks : Wish → ℕ → List Check
-writeChecks w room = check Code.valueNotAllowed (not (allowed w)) ∷ check Code.noRoom (ltb room 16) ∷ []
+abbrev pub wishChecks : Wish → ℕ → List Check
+wishChecks w room = check Code.valueNotAllowed (not (allowedWish w)) ∷ check Code.noRoom (ltb room 16) ∷ []
 
-unfoldable pub writeCode : Wish → ℕ → ℕ
-writeCode w room = firstOf (writeChecks w room) Code.done
+unfoldable pub wishCode : Wish → ℕ → ℕ
+wishCode w room = firstOf (wishChecks w room) Code.done
 
 -- what is written at the start of a buffer of so many bytes: the message or nothing, by the column "Written" of the table of codes
 unfoldable pub bytesWritten : Wish → ℕ → List ℕ
-bytesWritten w room = othersWrite (writeCode w room) (messageOf w)
+bytesWritten w room = othersWrite (wishCode w room) (messageOf w)
 
 -- An answer in document 01's terms: its code, and how many bytes were written.
 pub record Writing : Type 0 where
@@ -36,4 +36,4 @@ writtenSays NoRoom = record { code = Code.noRoom; wrote = 0 }
 
 -- what writing a wish into a buffer of so many bytes answers
 abbrev pub writingOf : Wish → ℕ → Writing
-writingOf w room = record { code = writeCode w room; wrote = length (bytesWritten w room) }
+writingOf w room = record { code = wishCode w room; wrote = length (bytesWritten w room) }

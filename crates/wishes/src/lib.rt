@@ -5,7 +5,7 @@ ghost use lib.Seq.{sets};
 ghost use Rattle.wire.specs.Number.{number};
 ghost use Rattle.wire.specs.Signed.{coded};
 ghost use Rattle.wire.specs.Header.{typeSet, typeRequest};
-ghost use Rattle.wishes.specs.Wishes.{stateSent, layoutOf, allowed, mayWishState};
+ghost use Rattle.wishes.specs.Wishes.{stateSent, layoutOf, allowedWish, mayWishState};
 ghost use Rattle.wishes.specs.Writing.{writtenSays, writingOf, bytesWritten};
 use items::table;
 use items::values;
@@ -140,7 +140,7 @@ fn may_state(fields: StateFields) -> bool
 
 // The box would not refuse the wish's value with 16.
 pub fn is_allowed(w: Wish) -> bool
-    ensures { λ r. ⌜ r ≡ allowed w ⌝ }
+    ensures { λ r. ⌜ r ≡ allowedWish w ⌝ }
 {
     match w {
         Wish::AskVersion(id) => values::is_version(id),

@@ -18,7 +18,7 @@ judge-requires : tie.Need-judge-requires
 judge-requires c κs = search needs
 
 abbrev message : tie.Start → Message
-message c = record { type = c .args .kind; size = c .args .size; held = now (c .args .opening) }
+message c = record { type = c .args .kind; size = c .args .size; bytes = now (c .args .opening) }
 
 -- ---- what is judged
 

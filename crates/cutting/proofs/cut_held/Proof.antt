@@ -13,7 +13,7 @@ use borrow.Author.Tests.{not-true, not-false}
 use lib.ListN.{length}
 use denote.Ref.{now}
 use Rattle.packets.specs.declared.Form.{Form}
-use Rattle.packets.specs.Forms.{listed, totalOf}
+use Rattle.packets.specs.Forms.{listedForm, totalOf}
 use Rattle.packets.proofs.Forms.{is-listed-form}
 use Rattle.station.specs.Station.{boxOf, valid}
 use Rattle.station.specs.declared.Station.{Station}
@@ -69,7 +69,7 @@ form c = c .form-for .result
 form-at : (c : tie.After-form-for) → form c ≡ formNow (box c .settings)
 form-at c = c .form-for .ensures
 
-listed-at : (c : tie.After-form-for) → listed (form c) ≡ true
+listed-at : (c : tie.After-form-for) → listedForm (form c) ≡ true
 listed-at c = rw (form-at c) (valid-form (box c) (valid-at (sound (running c))))
 
 -- there are as many samples as it has

@@ -4,7 +4,7 @@ use mathlib.Core.Bool.{true}
 use borrow.Author.Needs.{needs}
 use borrow.Author.Tests.{not-true, not-false}
 use Rattle.rates.specs.Rate.{isD}
-use Rattle.packets.specs.Forms.{listed}
+use Rattle.packets.specs.Forms.{listedForm}
 use Rattle.tuning.specs.Bands.{inBands}
 use Rattle.heads.proofs.is_allowed.Statement.{statement}
 use Rattle.heads.proofs.is_allowed.Tie as tie
@@ -37,7 +37,7 @@ is-listed-requires c κs = search needs
 returns-3 : tie.Need-returns-3
 returns-3 c =
     rw (divided (c .before .before .before .before), tuned (c .before .before))
-    (c .is-listed .ensures ∙ ap listed (c .before .form-in .ensures))
+    (c .is-listed .ensures ∙ ap listedForm (c .before .form-in .ensures))
 
 pub is-allowed-spec : {M : Type 1} → statement M
 is-allowed-spec =

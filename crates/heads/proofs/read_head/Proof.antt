@@ -10,7 +10,7 @@ use borrow.Author.Tests.{lt-ltb, le-ltb, eq-eqb, ne-eqb}
 use denote.Ref.{now}
 use Rattle.wire.specs.Number.{number, field}
 use Rattle.heads.specs.declared.Head.{Head}
-use Rattle.heads.specs.Head.{mark, version, headLength, allowed, headIn, readCode}
+use Rattle.heads.specs.Head.{mark, version, headLength, allowedHead, headIn, headReadCode}
 use Rattle.heads.proofs.Codes.{codeBy, code-by, reading-by}
 use Rattle.heads.proofs.read_head.Statement.{statement}
 use Rattle.heads.proofs.read_head.Tie as tie
@@ -35,8 +35,8 @@ one : (c : tie.Else3) → eqb (field 3 2 (came (enough (ours c)))) version ≡ t
 one c = eq-eqb _ _ (sym (c .before .number-at2 .ensures) ∙ c .if3 .left)
 
 -- a head's length, mark and version are there: the values decide
-values-decide : (c : tie.Else3) {ok : Bool} → allowed (headIn (came (enough (ours c)))) ≡ ok
-    → readCode (came (enough (ours c))) ≡ codeBy false true true ok
+values-decide : (c : tie.Else3) {ok : Bool} → allowedHead (headIn (came (enough (ours c)))) ≡ ok
+    → headReadCode (came (enough (ours c))) ≡ codeBy false true true ok
 values-decide c is = code-by _ (long (enough (ours c))) (marked (ours c)) (one c) is
 
 returns : tie.Need-returns
@@ -68,13 +68,13 @@ is-allowed-requires c κs = search needs
 returns-4 : tie.Need-returns-4
 returns-4 c =
     let same = c .before .before .head-in .ensures in
-    let ok = ap allowed (sym same) ∙ sym (c .before .is-allowed .ensures) ∙ c .if4 .taken in
+    let ok = ap allowedHead (sym same) ∙ sym (c .before .is-allowed .ensures) ∙ c .if4 .taken in
     ap (λ (h : Head). record { code = 1; heads = h ∷ [] }) same ∙ sym (reading-by _ (values-decide (c .before .before .before) ok))
 
 returns-5 : tie.Need-returns-5
 returns-5 c =
     let same = c .before .before .head-in .ensures in
-    let bad = ap allowed (sym same) ∙ sym (c .before .is-allowed .ensures) ∙ c .if4 .left in
+    let bad = ap allowedHead (sym same) ∙ sym (c .before .is-allowed .ensures) ∙ c .if4 .left in
     sym (reading-by _ (values-decide (c .before .before .before) bad))
 
 pub read-head-spec : {M : Type 1} → statement M

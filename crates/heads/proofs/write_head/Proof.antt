@@ -5,7 +5,7 @@ use lib.ListN.{length}
 use borrow.Author.Needs.{needs}
 use borrow.Author.Tests.{not-true, not-false, lt-ltb, le-ltb}
 use denote.Ref.{now}
-use Rattle.heads.specs.Head.{allowed}
+use Rattle.heads.specs.Head.{allowedHead}
 use Rattle.heads.proofs.Codes.{write-by}
 use Rattle.heads.proofs.write_head.Statement.{statement}
 use Rattle.heads.proofs.write_head.Tie as tie
@@ -18,7 +18,7 @@ abbrev start : tie.After-is-allowed → tie.Start
 start c = c .before .before
 
 -- the head is not refused
-fine : (c : tie.Else1) → allowed (start (c .before) .args .h) ≡ true
+fine : (c : tie.Else1) → allowedHead (start (c .before) .args .h) ≡ true
 fine c = sym (c .before .is-allowed .ensures) ∙ not-false _ (c .if1 .left)
 
 returns : tie.Need-returns

@@ -7,8 +7,8 @@ use borrow.Author.Needs.{needs}
 use borrow.Author.Tests.{not-true, not-false}
 use Rattle.items.proofs.Keys.{matched}
 use Rattle.wishes.specs.declared.Wish.{Wish}
-use Rattle.wishes.specs.Wishes.{allowed}
-use Rattle.replies.specs.Reading.{isNak, toldOf}
+use Rattle.wishes.specs.Wishes.{allowedWish}
+use Rattle.replies.specs.Reading.{isNak, replyReaderSays}
 use Rattle.replies.proofs.Tags.{unranged, not-range}
 use Rattle.replies.proofs.Answers.{read-refused, read-nak}
 use Rattle.replies.proofs.read.Statement.{statement}
@@ -25,7 +25,7 @@ abbrev came : tie.After-is-allowed → List ℕ
 came c = start c .args .bytes .now
 
 -- the wish is allowed
-allowed-here : (c : tie.Else1) → allowed (wish (c .before)) ≡ true
+allowed-here : (c : tie.Else1) → allowedWish (wish (c .before)) ≡ true
 allowed-here c = sym (c .before .is-allowed .ensures) ∙ not-false (c .before .is-allowed .result) (c .if1 .left)
 
 -- and what came is not NAK
@@ -61,7 +61,7 @@ returns-3 : tie.Need-returns-3
 returns-3 c =
     let matched = c .before .before in
     let e = fine (matched .before .before) in
-    c .read-range .ensures ∙ ap (λ (w : Wish). toldOf w (came (e .before))) (sym (c .before .enum-told .given .1))
+    c .read-range .ensures ∙ ap (λ (w : Wish). replyReaderSays w (came (e .before))) (sym (c .before .enum-told .given .1))
 
 read-value-requires : tie.Need-read-value-requires
 unfolding unranged

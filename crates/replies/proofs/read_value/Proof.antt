@@ -10,7 +10,7 @@ use borrow.Author.Tests.{not-true, not-false}
 use Rattle.wire.specs.Number.{field}
 use Rattle.wishes.specs.declared.Wish.{Wish}
 use Rattle.replies.specs.Awaited.{awaited, replyBytes, valueAt, numberIn}
-use Rattle.replies.specs.Reading.{isReply, told}
+use Rattle.replies.specs.Reading.{isReply, replySays}
 use Rattle.wire.specs.Lists.{same}
 use Rattle.replies.proofs.Answers.{read-none, read-reply}
 use Rattle.replies.proofs.Values.{word-in, word-fits, not-given, given-could}
@@ -86,7 +86,7 @@ returns-2 c =
     let e = c .before .before .before in
     let n = number e in
     let is = could (c .before .before) ∙ c .before .if2 .taken in
-    ap told (c .says .ensures)
+    ap replySays (c .says .ensures)
     ∙ read-reply (wish n) (came n) (start n .pre .0) (start n .pre .2) _ is (word e ∙ sym (n .number-in .ensures))
 
 returns-3 : tie.Need-returns-3

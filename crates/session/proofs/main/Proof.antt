@@ -11,17 +11,14 @@ use borrow.Author.Needs.{needs}
 use Rattle.session.proofs.main.Statement.{statement}
 use Rattle.session.proofs.main.Tie as tie
 
-slice-aggregate-fresh : tie.Need-slice-aggregate-fresh
-slice-aggregate-fresh c = search needs
-
-fresh-requires : tie.Need-fresh-requires
-fresh-requires c κs = search needs
+session-box-requires : tie.Need-session-box-requires
+session-box-requires c κs = search needs
 
 slice-aggregate-serve : tie.Need-slice-aggregate-serve
 slice-aggregate-serve c = search needs
 
 serve-requires : tie.Need-serve-requires
-serve-requires c κs = rw (c .before .fresh .ensures) none-read
+serve-requires c κs = rw (c .before .session-box .ensures) none-read
 
 slice-aggregate-fail : tie.Need-slice-aggregate-fail
 slice-aggregate-fail c = search needs
@@ -56,8 +53,7 @@ pub main-spec : {M : Type 1} → statement M
 main-spec =
     tie.close
     (tie.spec
-    slice-aggregate-fresh
-    fresh-requires
+    session-box-requires
     slice-aggregate-serve
     serve-requires
     slice-aggregate-fail

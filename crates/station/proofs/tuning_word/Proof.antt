@@ -33,12 +33,12 @@ returns-2 : tie.Need-returns-2
 returns-2 c =
     let asked = c .before .before .before in
     let w = c .before .w .given in
-    word-told _ (whole (asked .before .before)) (w .0 .0) (ap tuning.told (sym (w .1)) ∙ asked .word-of .ensures)
+    word-told _ (whole (asked .before .before)) (w .0 .0) (ap tuning.wordSays (sym (w .1)) ∙ asked .word-of .ensures)
 
 returns-3 : tie.Need-returns-3
 returns-3 c =
     let asked = c .before .before in
-    never-without _ (whole (asked .before .before)) (ap tuning.told (sym (c .enum-told .given .1)) ∙ asked .word-of .ensures)
+    never-without _ (whole (asked .before .before)) (ap tuning.wordSays (sym (c .enum-told .given .1)) ∙ asked .word-of .ensures)
 
 pub tuning-word-spec : {M : Type 1} → statement M
 tuning-word-spec =

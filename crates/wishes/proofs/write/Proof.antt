@@ -6,7 +6,7 @@ use lib.Dec.{lit≤}
 use native.Mathlib.Nat.{le-trans}
 use borrow.Author.Needs.{needs}
 use borrow.Author.Tests.{not-true, not-false}
-use Rattle.wishes.specs.Wishes.{allowed, layoutOf, messageOf}
+use Rattle.wishes.specs.Wishes.{allowedWish, layoutOf, messageOf}
 use Rattle.wishes.specs.Writing.{bytesWritten}
 use Rattle.layouts.proofs.Writing.{written-whole}
 use Rattle.wishes.proofs.Rows.{short-message}
@@ -18,10 +18,10 @@ use Rattle.wishes.proofs.write.Tie as tie
 abbrev start : tie.After-is-allowed → tie.Start
 start c = c .before .before
 
-refused : (c : tie.Then1) → allowed (start (c .before) .args .w) ≡ false
+refused : (c : tie.Then1) → allowedWish (start (c .before) .args .w) ≡ false
 refused c = sym (c .before .is-allowed .ensures) ∙ not-true _ (c .if1 .taken)
 
-taken : (c : tie.Else1) → allowed (start (c .before) .args .w) ≡ true
+taken : (c : tie.Else1) → allowedWish (start (c .before) .args .w) ≡ true
 taken c = sym (c .before .is-allowed .ensures) ∙ not-false _ (c .if1 .left)
 
 is-allowed-requires : tie.Need-is-allowed-requires

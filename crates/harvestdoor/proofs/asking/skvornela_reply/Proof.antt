@@ -4,7 +4,7 @@ use mir.Syntax.{w8}
 use mir.Val.{toZ, ofZ, SFits}
 use mir.Facts.{toZ-ofZ}
 use Rattle.wishes.specs.declared.Wish.{Wish}
-use Rattle.replies.specs.Reading.{toldOf}
+use Rattle.replies.specs.Reading.{replyReaderSays}
 use Rattle.harvestdoor.specs.Asking.{shown}
 use Rattle.harvestdoor.proofs.Asked.{wished}
 use borrow.Author.Needs.{needs}
@@ -30,7 +30,7 @@ returns c =
     let is = wished (a .which) (a .byte) (a .mode) (a .word) (a .hertz) (a .gain) _ _ gain (wish .wish-of .ensures) in
     let fits : SFits w8 (c .before .shown-by .result .gain) = record { sfits = c .struct-told .given .1 .1 .1 .1 .1 .0 .1 } in
     let level : toZ w8 (ofZ w8 (c .before .shown-by .result .gain)) ≡ c .before .shown-by .result .gain = toZ-ofZ fits in
-    rw level (c .before .shown-by .ensures ∙ ap shown (read .read .ensures ∙ ap (λ (w : Wish). toldOf w (a .bytes .now)) is))
+    rw level (c .before .shown-by .ensures ∙ ap shown (read .read .ensures ∙ ap (λ (w : Wish). replyReaderSays w (a .bytes .now)) is))
 
 pub skvornela-reply-spec : {M : Type 1} → statement M
 skvornela-reply-spec =

@@ -5,17 +5,17 @@ use mathlib.Core.Bool.{Bool, true, false}
 use lib.Dec.{ltb}
 use borrow.Author.Tests.{not-true, not-false, lt-ltb, le-ltb}
 use Rattle.packets.specs.declared.Form.{Form}
-use Rattle.packets.specs.Forms.{listed, sameForm, totalOf}
+use Rattle.packets.specs.Forms.{listedForm, sameForm, totalOf}
 use Rattle.hearing.specs.declared.Tally.{Tally}
 use Rattle.packets.specs.Numbers.{last}
-use Rattle.hearing.specs.Hearing.{formNow, positionNow, lacksFirst, heardCode}
+use Rattle.hearing.specs.Hearing.{formComing, positionNow, lacksFirst, heardCode}
 use Rattle.hearing.proofs.Heard.{codeBy, heard-by, total-is}
 use Rattle.hearing.proofs.coming.code_of.Statement.{statement}
 use Rattle.hearing.proofs.coming.code_of.Tie as tie
 
 -- ---- what each call answers, and what is known past each test
 
-enough : (c : tie.Else1) → ltb (c .before .before .args .t .taken) 2 ≡ false
+enough : (c : tie.Else1) → ltb (c .before .before .args .t .come) 2 ≡ false
 enough c = le-ltb _ _ (c .if1 .left)
 
 abbrev first : tie.After-is-listed → tie.Else1
@@ -24,19 +24,19 @@ first c = c .before .before
 abbrev tally : tie.After-is-listed → Tally
 tally c = first c .before .before .args .t
 
-named : (c : tie.After-is-listed) → listed (formNow (tally c)) ≡ c .is-listed .result
-named c = ap listed (sym (c .before .form-of-header .ensures)) ∙ sym (c .is-listed .ensures)
+named : (c : tie.After-is-listed) → listedForm (formComing (tally c)) ≡ c .is-listed .result
+named c = ap listedForm (sym (c .before .form-of-header .ensures)) ∙ sym (c .is-listed .ensures)
 
-known : (c : tie.Else2) → listed (formNow (tally (c .before))) ≡ true
+known : (c : tie.Else2) → listedForm (formComing (tally (c .before))) ≡ true
 known c = named (c .before) ∙ not-false _ (c .if2 .left)
 
-total : (c : tie.After-total-of) → c .total-of .result ≡ totalOf (formNow (tally (c .before .before)))
+total : (c : tie.After-total-of) → c .total-of .result ≡ totalOf (formComing (tally (c .before .before)))
 total c = total-is _ _ _ (c .total-of .ensures) (c .before .before .before .form-of-header .ensures) (known (c .before))
 
 abbrev second : tie.Else3 → tie.Else2
 second c = c .before .before .before
 
-whole : (c : tie.Else3) → (let t = tally (second c .before) in ltb (t .taken) (totalOf (formNow t)) ≡ false)
+whole : (c : tie.Else3) → (let t = tally (second c .before) in ltb (t .come) (totalOf (formComing t)) ≡ false)
 whole c = le-ltb _ _ (rw (total (c .before .before)) at (c .if3 .left))
 
 abbrev listing : tie.After-same-form → tie.After-is-listed
@@ -45,7 +45,7 @@ listing c = second (c .before) .before
 abbrev wanted : tie.After-is-listed → Form
 wanted c = first c .before .before .args .f
 
-alike : (c : tie.After-same-form) → sameForm (formNow (tally (listing c))) (wanted (listing c)) ≡ c .same-form .result
+alike : (c : tie.After-same-form) → sameForm (formComing (tally (listing c))) (wanted (listing c)) ≡ c .same-form .result
 alike c =
     let n = listing c in
     ap (λ (x : Form). sameForm x (wanted n)) (sym (n .before .form-of-header .ensures)) ∙ sym (c .same-form .ensures)

@@ -1,6 +1,6 @@
 -- Field by field.
 use borrow.Author.Needs.{needs}
-use Rattle.hearing.specs.Hearing.{taking}
+use Rattle.hearing.specs.Hearing.{takingByte}
 use Rattle.hearing.proofs.coming.take_byte.Statement.{statement}
 use Rattle.hearing.proofs.coming.take_byte.Tie as tie
 
@@ -14,7 +14,7 @@ field-with-requires-2 : tie.Need-field-with-requires-2
 field-with-requires-2 c κs = search needs
 
 returns : tie.Need-returns
-unfolding taking
+unfolding takingByte
 returns c = rw (c .before .field-with .ensures, c .field-with2 .ensures)
 
 pub take-byte-spec : {M : Type 1} → statement M

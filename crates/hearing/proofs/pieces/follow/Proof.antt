@@ -13,17 +13,17 @@ use Rattle.hearing.proofs.pieces.follow.Statement.{statement}
 use Rattle.hearing.proofs.pieces.follow.Tie as tie
 
 -- where the packet's first four bytes are read: its number is in them
-abbrev start : tie.After-word → tie.Start
+abbrev start : tie.After-word-at → tie.Start
 start c = c .before .before .before
 
-abbrev piece : tie.After-word → List ℕ
+abbrev piece : tie.After-word-at → List ℕ
 piece c = now (start c .args .piece)
 
-small : (c : tie.After-word) (k : ℕ) → getD (piece c) k 0 < 256
+small : (c : tie.After-word-at) (k : ℕ) → getD (piece c) k 0 < 256
 small c k = omega (arith, c .before .before .shared-slice-known .given k)
 
-number : (c : tie.After-word) → c .word .result / 65536 ≡ twoAt (piece c) (start c .args .at + 2)
-number c = ap (λ (n : ℕ). n / 65536) (c .word .ensures) ∙ word-number (piece c) (start c .args .at) (small c)
+number : (c : tie.After-word-at) → c .word-at .result / 65536 ≡ twoAt (piece c) (start c .args .at + 2)
+number c = ap (λ (n : ℕ). n / 65536) (c .word-at .ensures) ∙ word-number (piece c) (start c .args .at) (small c)
 
 sub-if1 : tie.Need-sub-if1
 sub-if1 c = search needs
@@ -31,8 +31,8 @@ sub-if1 c = search needs
 returns : tie.Need-returns
 returns c = search needs
 
-word-requires : tie.Need-word-requires
-word-requires c κs = search needs
+word-at-requires : tie.Need-word-at-requires
+word-at-requires c κs = search needs
 
 returns-2 : tie.Need-returns-2
 returns-2 c = search needs
@@ -49,7 +49,7 @@ step-requires c κs = search needs
 add-next : tie.Need-add-next
 add-next c =
     let w = c .before .before .before in
-    omega (arith, c .step .ensures, step-small (start w .args .«before») (w .word .result / 65536) (omega arith) (omega arith))
+    omega (arith, c .step .ensures, step-small (start w .args .«before») (w .word-at .result / 65536) (omega arith) (omega arith))
 
 returns-4 : tie.Need-returns-4
 returns-4 c = search needs
@@ -63,7 +63,7 @@ returns-5 c =
     let a = start w .args in
     λ some. record {
       room = omega (arith, w .before .if1 .left, start w .pre);
-      header = sym (word-header (piece w) (a .at) (small w)) ∙ ap (λ (n : ℕ). n % 65536) (sym (w .word .ensures)) ∙ second .if2 .left;
+      header = sym (word-header (piece w) (a .at) (small w)) ∙ ap (λ (n : ℕ). n % 65536) (sym (w .word-at .ensures)) ∙ second .if2 .left;
       above = omega (arith, number w, third .if3 .left);
       here = ap (λ (n : ℕ). a .position + n) (s .step .ensures ∙ ap (stepOf (a .«before»)) (number w));
       fits = c .if4 .left;
@@ -75,7 +75,7 @@ follow-spec =
     (tie.spec
     sub-if1
     returns
-    word-requires
+    word-at-requires
     returns-2
     cast-number
     returns-3

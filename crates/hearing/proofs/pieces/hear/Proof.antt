@@ -6,10 +6,10 @@ use native.Mathlib.Omega.{arith}
 use denote.Ref.{now}
 use borrow.Author.Tests.{not-true, not-false}
 use Rattle.wire.proofs.Laws.{and-not-left, and-not-right}
-use Rattle.packets.specs.Forms.{listed}
+use Rattle.packets.specs.Forms.{listedForm}
 use Rattle.hearing.specs.declared.Tally.{Tally}
 use Rattle.hearing.specs.declared.Reach.{Reach}
-use Rattle.hearing.specs.Hearing.{inRange, outcome}
+use Rattle.hearing.specs.Hearing.{tallyInRange, outcome}
 use Rattle.hearing.proofs.Goings.{Is-due, reach-due}
 use Rattle.hearing.proofs.Ranges.{range-sane, hearing-broken, hearing-is}
 use Rattle.hearing.proofs.pieces.hear.Statement.{statement}
@@ -19,14 +19,14 @@ use Rattle.hearing.proofs.pieces.hear.Tie as tie
 abbrev start : tie.After-in-range → tie.Start
 start c = c .before .before
 
-ranged : (c : tie.Else1) → inRange (start (c .before) .args .t) ≡ true
+ranged : (c : tie.Else1) → tallyInRange (start (c .before) .args .t) ≡ true
 ranged c = sym (c .before .in-range .ensures) ∙ not-false _ (c .if1 .left)
 
 -- and the form is listed
 abbrev given : tie.After-is-listed → tie.Start
 given c = start (c .before .before)
 
-known : (c : tie.Else2) → listed (given (c .before) .args .f) ≡ true
+known : (c : tie.Else2) → listedForm (given (c .before) .args .f) ≡ true
 known c = sym (c .before .is-listed .ensures) ∙ not-false _ (c .if2 .left)
 
 in-range-requires : tie.Need-in-range-requires
@@ -40,7 +40,7 @@ returns c =
     let tested = c .before in
     let a = start (tested .before) .args in
     let outside = sym (tested .before .in-range .ensures) ∙ not-true _ (tested .if1 .taken) in
-    c .broken .ensures ∙ sym (hearing-broken (a .f) (a .t) (now (a .piece)) (and-not-left _ (listed (a .f)) outside))
+    c .broken .ensures ∙ sym (hearing-broken (a .f) (a .t) (now (a .piece)) (and-not-left _ (listedForm (a .f)) outside))
 
 is-listed-requires : tie.Need-is-listed-requires
 is-listed-requires c κs = search needs
@@ -53,7 +53,7 @@ returns-2 c =
     let tested = c .before in
     let a = given (tested .before) .args in
     let unlisted = sym (tested .before .is-listed .ensures) ∙ not-true _ (tested .if2 .taken) in
-    c .broken2 .ensures ∙ sym (hearing-broken (a .f) (a .t) (now (a .piece)) (and-not-right (inRange (a .t)) _ unlisted))
+    c .broken2 .ensures ∙ sym (hearing-broken (a .f) (a .t) (now (a .piece)) (and-not-right (tallyInRange (a .t)) _ unlisted))
 
 hear-all-requires : tie.Need-hear-all-requires
 hear-all-requires c κs =

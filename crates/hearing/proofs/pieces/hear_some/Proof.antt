@@ -10,7 +10,7 @@ use Prim.Native.Nat.{_+_, _<_}
 use lib.ListN.{getD}
 use Rattle.hearing.specs.declared.Tally.{Tally}
 use Rattle.hearing.specs.declared.Reach.{Reach}
-use Rattle.hearing.specs.Hearing.{taking, settled}
+use Rattle.hearing.specs.Hearing.{takingByte, settled}
 use Rattle.hearing.specs.Inside.{Sane, Goes}
 use Rattle.hearing.proofs.pieces.hear_some.Statement.{statement}
 use Rattle.hearing.proofs.pieces.hear_some.Tie as tie
@@ -23,11 +23,11 @@ start c = c .before .before .before .before .before
 abbrev unskipped : tie.After-take-byte → tie.After-skippable
 unskipped c = c .before .before .before
 
-taken : (c : tie.After-take-byte) → 0 < c .take-byte .result .taken
-unfolding taking
-taken c =
+come : (c : tie.After-take-byte) → 0 < c .take-byte .result .come
+unfolding takingByte
+come c =
     let t = start (unskipped c) .args .t in
-    let one : c .take-byte .result .taken ≡ t .taken + 1 = ap (λ (u : Tally). u .taken) (c .take-byte .ensures) in
+    let one : c .take-byte .result .come ≡ t .come + 1 = ap (λ (u : Tally). u .come) (c .take-byte .ensures) in
     omega (arith, one)
 
 whole-packets-requires : tie.Need-whole-packets-requires
@@ -74,14 +74,14 @@ settle-requires : tie.Need-settle-requires
 settle-requires c κs =
     let s = start (unskipped c) in
     let a = s .args in
-    (subst (Sane 0) (sym (c .take-byte .ensures)) (sane-taking 0 (a .t) _ (sane-less 1 (omega arith) (s .pre .2))), taken c)
+    (subst (Sane 0) (sym (c .take-byte .ensures)) (sane-taking 0 (a .t) _ (sane-less 1 (omega arith) (s .pre .2))), come c)
 
 returns-3 : tie.Need-returns-3
 returns-3 c =
     let byte = c .before in
     let s = start (unskipped byte) in
     let a = s .args in
-    let came : c .settle .result ≡ settled (a .at + 1) (a .f) (taking (a .t) (getD (now (a .piece)) (a .at) 0))
+    let came : c .settle .result ≡ settled (a .at + 1) (a .f) (takingByte (a .t) (getD (now (a .piece)) (a .at) 0))
     = c .settle .ensures ∙ ap (settled (a .at + 1) (a .f)) (byte .take-byte .ensures) in
     let there : c .settle .result .at ≡ a .at + 1 = ap (λ (r : Reach). r .at) came ∙ settled-at (a .at + 1) (a .f) _ in
     let goes = goes-byte (a .f) (a .t) (now (a .piece)) (a .at) (s .pre .1) (s .pre .2) in

@@ -3,7 +3,7 @@ use borrow.Author.Needs.{needs}
 use Prim.Native.Nat.{ℕ, _+_, _<_}
 use mathlib.Core.Path.{sym, ap, _∙_}
 use native.Mathlib.Omega.{arith}
-use Rattle.packets.specs.Forms.{listed, totalOf}
+use Rattle.packets.specs.Forms.{listedForm, totalOf}
 use Rattle.hearing.specs.declared.Tally.{Tally}
 use Rattle.hearing.specs.Inside.{Samples}
 use Rattle.hearing.proofs.Heard.{total-some}
@@ -17,14 +17,14 @@ totalled c = c .before .before
 abbrev tally : tie.Else2 → Tally
 tally c = totalled c .before .before .before .before .args .t
 
-within : (c : tie.Else2) (k : ℕ) → tally c .taken + k < totalled c .total-of .result → Samples (tally c) k
+within : (c : tie.Else2) (k : ℕ) → tally c .come + k < totalled c .total-of .result → Samples (tally c) k
 within c k short =
     let total = totalled c in
     let some = total-some (total .before .form-of-header .result) (total .total-of .result) (total .total-of .ensures) (omega arith) in
     let form = total .before .form-of-header .ensures in
     record {
       past = total .before .before .if1 .left;
-      form = ap listed (sym form) ∙ some .0;
+      form = ap listedForm (sym form) ∙ some .0;
       short = omega (arith, short, some .1, ap totalOf form);
     }
 

@@ -60,13 +60,13 @@ abbrev called : tie.At-loop Inv-loop μ-loop → tie.Start Inv-loop μ-loop
 called l = given (totalled l)
 
 -- the number of the packet that follows
-number : (c : tie.After-word Inv-loop μ-loop)
+number : (c : tie.After-word-at Inv-loop μ-loop)
     → (let l = c .before .before in
-    c .word .result / 65536 ≡ twoAt (now (called l .args .piece)) (l .loop .at + 2))
+    c .word-at .result / 65536 ≡ twoAt (now (called l .args .piece)) (l .loop .at + 2))
 number c =
     let l = c .before .before in
     let known = totalled l .before .before .before .shared-slice-known .given in
-    ap (λ (n : ℕ). n / 65536) (c .word .ensures)
+    ap (λ (n : ℕ). n / 65536) (c .word-at .ensures)
     ∙ word-number (now (called l .args .piece)) (l .loop .at) (λ i. omega (arith, known i))
 
 is-between-requires : tie.Need-is-between-requires Inv-loop μ-loop
@@ -107,8 +107,8 @@ loop-holds c =
     onward-start _ _ _ _ _ _ (pre .0) (total d) (header h) _ _ (between (d .before)) (pre .2) (pre .1)
     (c .before .number-at-position .ensures) (c .follow .ensures)
 
-word-requires : tie.Need-word-requires Inv-loop μ-loop
-word-requires c κs =
+word-at-requires : tie.Need-word-at-requires Inv-loop μ-loop
+word-at-requires c κs =
     let l = c .before in
     omega (arith, l .loop .inv .follows (c .loop-test .taken) .room, least (totalled l) .0)
 
@@ -176,7 +176,7 @@ whole-packets-spec =
     number-at-position-requires
     follow-requires
     loop-holds
-    word-requires
+    word-at-requires
     cast-before
     add-heard
     add-at

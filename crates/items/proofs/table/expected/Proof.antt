@@ -2,7 +2,7 @@
 use borrow.Author.Needs.{needs}
 use mathlib.Core.Path.{refl}
 use borrow.Author.Tests.{ne-eqb}
-use Rattle.items.specs.Items.{listed, rowOf}
+use Rattle.items.specs.Items.{listedItem, rowOf}
 use Rattle.items.proofs.Lines.{else}
 use Rattle.items.proofs.table.expected.Statement.{statement}
 use Rattle.items.proofs.table.expected.Tie as tie
@@ -38,63 +38,63 @@ set-or-asked-requires-5 : tie.Need-set-or-asked-requires-5
 set-or-asked-requires-5 c κs = search needs
 
 returns : tie.Need-returns
-unfolding listed rowOf
+unfolding listedItem rowOf
 returns c = rw (c .before .match .keys1) (c .asked .ensures)
 
 returns-2 : tie.Need-returns-2
-unfolding listed rowOf
+unfolding listedItem rowOf
 returns-2 c = rw (c .before .match .keys2) (c .asked2 .ensures)
 
 returns-3 : tie.Need-returns-3
-unfolding listed rowOf
+unfolding listedItem rowOf
 returns-3 c = rw (c .before .match .keys3) (c .asked3 .ensures)
 
 returns-4 : tie.Need-returns-4
-unfolding listed rowOf
+unfolding listedItem rowOf
 returns-4 c = rw (c .before .match .keys4) (c .asked4 .ensures)
 
 returns-5 : tie.Need-returns-5
-unfolding listed rowOf
+unfolding listedItem rowOf
 returns-5 c = rw (c .before .match .keys5) (c .asked5 .ensures)
 
 returns-6 : tie.Need-returns-6
-unfolding listed rowOf
+unfolding listedItem rowOf
 returns-6 c = rw (c .before .match .keys6) (c .set-or-asked .ensures)
 
 returns-7 : tie.Need-returns-7
-unfolding listed rowOf
+unfolding listedItem rowOf
 returns-7 c = rw (c .before .match .keys7, c .match2 .keys1) refl
 
 returns-8 : tie.Need-returns-8
-unfolding listed rowOf
+unfolding listedItem rowOf
 returns-8 c = rw (c .before .match .keys7, c .match2 .keys2) refl
 
 returns-9 : tie.Need-returns-9
-unfolding listed rowOf
+unfolding listedItem rowOf
 returns-9 c = rw (c .before .match .keys7, c .match2 .keys3) refl
 
 returns-10 : tie.Need-returns-10
-unfolding listed rowOf
+unfolding listedItem rowOf
 returns-10 c = rw (c .before .match .keys7) (else _ _ _ _ (c .match2 .rest .0 .0 .1) (c .match2 .rest .0 .1) (c .match2 .rest .1))
 
 returns-11 : tie.Need-returns-11
-unfolding listed rowOf
+unfolding listedItem rowOf
 returns-11 c = rw (c .before .match .keys8) (c .set-or-asked2 .ensures)
 
 returns-12 : tie.Need-returns-12
-unfolding listed rowOf
+unfolding listedItem rowOf
 returns-12 c = rw (c .before .match .keys9) (c .set-or-asked3 .ensures)
 
 returns-13 : tie.Need-returns-13
-unfolding listed rowOf
+unfolding listedItem rowOf
 returns-13 c = rw (c .before .match .keys10) (c .set-or-asked4 .ensures)
 
 returns-14 : tie.Need-returns-14
-unfolding listed rowOf
+unfolding listedItem rowOf
 returns-14 c = rw (c .before .match .keys11) (c .set-or-asked5 .ensures)
 
 returns-15 : tie.Need-returns-15
-unfolding listed rowOf
+unfolding listedItem rowOf
 returns-15 c =
     let r = c .match .rest in
     let n = c .before .args .item in

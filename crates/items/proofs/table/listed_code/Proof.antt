@@ -4,7 +4,7 @@ use mathlib.Core.Path.{_≡_, _∙_, ap}
 use borrow.Author.Tests.{eq-eqb, ne-eqb}
 use Rattle.wire.specs.Choice.{firstOf}
 use Rattle.wire.specs.Told.{Told}
-use Rattle.items.specs.Table.{told, tableChecks}
+use Rattle.items.specs.Table.{expectedSays, tableChecks}
 use Rattle.items.proofs.Lines.{codeBy, code-by}
 use Rattle.items.proofs.table.listed_code.Statement.{statement}
 use Rattle.items.proofs.table.listed_code.Tie as tie
@@ -24,7 +24,7 @@ enum-known-length c = search needs
 -- the code by what the table said
 said : (c : tie.After-expected)
     → let a = c .before .args in
-    codeBy (told (c .expected .result)) (a .size) ≡ firstOf (tableChecks (a .item) (a .kind) (a .size)) 1
+    codeBy (expectedSays (c .expected .result)) (a .size) ≡ firstOf (tableChecks (a .item) (a .kind) (a .size)) 1
 said c =
     let a = c .before .args in
     ap (λ (t : Told). codeBy t (a .size)) (c .expected .ensures) ∙ code-by (a .item) (a .kind) (a .size)

@@ -25,7 +25,7 @@ header-code-requires c κs = search needs
 
 -- the message that is judged
 abbrev message : tie.Start → Message
-message c = record { type = c .args .kind; size = c .args .size; held = now (c .args .opening) }
+message c = record { type = c .args .kind; size = c .args .size; bytes = now (c .args .opening) }
 
 refused-requires : tie.Need-refused-requires
 refused-requires c κs = search needs

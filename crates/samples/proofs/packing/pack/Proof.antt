@@ -7,7 +7,7 @@ use borrow.Author.Needs.{needs}
 use borrow.Author.Tests.{not-true, not-false}
 use denote.Ref.{now}
 use lib.ListN.{length}
-use Rattle.packets.specs.Forms.{listed, totalOf}
+use Rattle.packets.specs.Forms.{listedForm, totalOf}
 use Rattle.packets.specs.Samples.{allSamples}
 use Rattle.packets.proofs.Forms.{is-listed-form}
 use Rattle.samples.proofs.Refusals.{other-width, room-for, eight-pairs}
@@ -37,7 +37,7 @@ returns c =
     pack-unlisted (a .f) (now (a .samples)) (now (a .packet)) (sym (c .before .is-listed .ensures) ∙ not-true _ (c .if1 .taken))
 
 -- past the first test the form is listed
-form : (c : tie.Else1) → listed (start c .args .f) ≡ true
+form : (c : tie.Else1) → listedForm (start c .args .f) ≡ true
 form c = sym (c .before .is-listed .ensures) ∙ not-false _ (c .if1 .left)
 
 mul-if2 : tie.Need-mul-if2

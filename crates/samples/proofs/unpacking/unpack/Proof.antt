@@ -8,7 +8,7 @@ use borrow.Author.Tests.{not-true, not-false}
 use denote.Ref.{now}
 use lib.ListN.{length, drop}
 use lib.Seq.{sets}
-use Rattle.packets.specs.Forms.{listed, totalOf}
+use Rattle.packets.specs.Forms.{listedForm, totalOf}
 use Rattle.packets.specs.Samples.{samplesFrom}
 use Rattle.packets.proofs.Forms.{is-listed-form}
 use Rattle.samples.proofs.Refusals.{other-width, room-for, whole-blocks, unpack-unlisted, unpack-short, unpack-room, unpack-done}
@@ -34,7 +34,7 @@ returns c =
     unpack-unlisted (a .f) (now (a .packet)) (now (a .out)) (sym (c .before .is-listed .ensures) ∙ not-true _ (c .if1 .taken))
 
 -- past the first test the form is listed
-form : (c : tie.Else1) → listed (start c .args .f) ≡ true
+form : (c : tie.Else1) → listedForm (start c .args .f) ≡ true
 form c = sym (c .before .is-listed .ensures) ∙ not-false _ (c .if1 .left)
 
 total-of-requires : tie.Need-total-of-requires

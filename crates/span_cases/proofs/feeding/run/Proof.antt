@@ -41,10 +41,13 @@ short c = omega arith
 
 -- what the call did
 step : (c : tie.After-hand-over Inv-loop μ-loop)
-    → Step (c .before .before .before .before .before .before .before .args .input .now) (c .before .before .before .before .loop .at) (c .hand-over .result)
+    → (let l = c .before .before .before .before in
+    Step (l .before .before .before .args .input .now) (l .loop .at) (c .hand-over .result))
 step c =
     let l = c .before .before .before .before in
-    steps _ _ _ _ (l .loop .inv) (c .before .before .before .loop-test .taken) (l .before .before .before .pre) (short (l .before .before)) _ _ (c .before .first .ensures) (c .hand-over .ensures)
+    let more = c .before .before .before .loop-test .taken in
+    steps _ _ _ _ (l .loop .inv) more (l .before .before .before .pre) (short (l .before .before)) _ _
+    (c .before .first .ensures) (c .hand-over .ensures)
 
 add-at : tie.Need-add-at Inv-loop μ-loop
 add-at c = omega (arith, step (c .before .before) .next .inside, short (c .before .before .before .before .before .before .before .before))

@@ -11,7 +11,7 @@ use lib.ListN.{length}
 use Rattle.packets.specs.declared.Form.{Form}
 use Rattle.packets.specs.Numbers.{last}
 use Rattle.heads.specs.declared.Head.{Head}
-use Rattle.heads.specs.Head.{formIn, allowed}
+use Rattle.heads.specs.Head.{formIn, allowedHead}
 use Rattle.heads.proofs.Rounds.{form-listed}
 use Rattle.lines.specs.Due.{dueLines}
 use Rattle.hearing.specs.declared.Reach.{Reach}
@@ -118,7 +118,7 @@ returns c =
 heard-due-requires : tie.Need-heard-due-requires
 heard-due-requires c κs =
     let h = c .before .before .before in
-    (ap allowed (h .before .before .head-in .ensures) ∙ start h .pre .0, allowed-position h)
+    (ap allowedHead (h .before .before .head-in .ensures) ∙ start h .pre .0, allowed-position h)
 
 tell-requires : tie.Need-tell-requires
 tell-requires c κs = search needs

@@ -39,7 +39,7 @@ start c = c .before .before .before
 
 -- the message that is handed on
 handed-is : (c : tie.After-answer)
-    → _≡_ {A = Message} (record { type = typed c .type-in .result; size = sized c .length-in .result; held = ten (start (numbered c)) })
+    → _≡_ {A = Message} (record { type = typed c .type-in .result; size = sized c .length-in .result; bytes = ten (start (numbered c)) })
     (openedMessage (ten (start (numbered c))))
 handed-is c =
     message-is (ten (start (numbered c))) (numbered c .number-at .result) (typed c .type-in .result) (sized c .length-in .result)

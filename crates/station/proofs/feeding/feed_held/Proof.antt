@@ -11,7 +11,7 @@ use Rattle.framing.specs.declared.Took.{Took}
 use Rattle.station.specs.declared.Station.{Station}
 use Rattle.station.specs.declared.Fed.{Fed}
 use Rattle.station.specs.Station.{boxOf, valid}
-use Rattle.station.specs.Feeding.{feedingOf, waiting, partsOf}
+use Rattle.station.specs.Feeding.{feedingOf, waitingCall, partsOf}
 use Rattle.station.specs.Inside.{opened, openedMessage, answering}
 use Rattle.station.proofs.Valid.{feeding-broken, valid-store}
 use Rattle.station.proofs.Opened.{waits, answers, same-held}
@@ -61,7 +61,7 @@ module _ (t : tie.After-take-in) where
   left = t .take-in .last .0
 
   open-at : result .finished ≡ false
-      → waiting (box .settings) (record {
+      → waitingCall (box .settings) (record {
         store = record { held = left; taken = result .taken };
         count =
             result .count;

@@ -6,7 +6,7 @@ use native.Mathlib.Omega.{arith}
 use borrow.Author.Needs.{needs}
 use borrow.Author.Tests.{not-true, not-false}
 use Rattle.wire.proofs.Laws.{within-low, within-high}
-use Rattle.tuning.specs.Word.{isClock, told}
+use Rattle.tuning.specs.Word.{isClock, wordSays}
 use Rattle.tuning.specs.declared.word.Word.the-variants.{Is}
 use Rattle.tuning.proofs.Words.{inFirst, inSecond, no-clock, no-band, word-first, word-second}
 use Rattle.tuning.proofs.word.word_of.Statement.{statement}
@@ -55,7 +55,7 @@ nearest-requires c κs = (within-high _ _ _ (first c), within-low _ _ _ (clocked
 returns-2 : tie.Need-returns-2
 returns-2 c =
     let in-first = c .before in
-    ap (λ (w : ℕ). told (Is w)) (c .nearest .ensures) ∙ word-first _ _ (first in-first) (clocked (in-first .before .before))
+    ap (λ (w : ℕ). wordSays (Is w)) (c .nearest .ensures) ∙ word-first _ _ (first in-first) (clocked (in-first .before .before))
 
 in-second-requires : tie.Need-in-second-requires
 in-second-requires c κs = search needs
@@ -74,7 +74,7 @@ returns-3 : tie.Need-returns-3
 returns-3 c =
     let in-second = c .before in
     let past-first = in-second .before .before in
-    ap (λ (w : ℕ). told (Is w)) (c .nearest2 .ensures)
+    ap (λ (w : ℕ). wordSays (Is w)) (c .nearest2 .ensures)
     ∙ word-second _ _ (not-first past-first) (second in-second) (clocked (past-clock past-first))
 
 returns-4 : tie.Need-returns-4
