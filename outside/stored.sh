@@ -21,7 +21,7 @@ items() { for i in $(seq "$1"); do item 8194; done; }
 # of setting the gain to -10, and sets 7,050,000 Hz; the third begins in the midst of a data item, and asks for gain,
 # frequency, rate and serial.
 session() {
-    # 90 bytes: name, serial, version; 14,010,000 Hz and the range; gain -20 set and asked for; a rate, the clock, the
+    # 90 bytes: name, serial, status; 14,010,000 Hz and the range; gain -20 set and asked for; a rate, the clock, the
     # acknowledgement and the data item that are unanswered, another rate, 20,000,000 Hz
     printf '\004\040\001\000\004\040\002\000\004\040\005\000'
     printf '\012\000\040\000\000\220\306\325\000\000\005\100\040\000\000'

@@ -30,10 +30,6 @@ module _ (i : Item) (item width value : ℕ) (s : Settings) (echo : ℕ) (code :
       let size : 5 + width ≡ 2 + suc (suc (suc (length (bytes width value)))) = omega (arith, length-bytes width value) in
       rw (one, shown, code, ← size) refl
 
-pub status-bytes : (b : Bool) → pick b 0x0C 0x0B ∷ [] ≡ bytes 1 (pick b 0x0C 0x0B)
-status-bytes true = refl
-status-bytes false = refl
-
 -- a code that is in no row
 pub no-row : (item : ℕ) → (item ≡ 0x0001 → ⊥) → (item ≡ 0x0002 → ⊥) → (item ≡ 0x0003 → ⊥) → (item ≡ 0x0004 → ⊥) → (item ≡ 0x0005 → ⊥)
     → (item ≡ 0x0018 → ⊥) → (item ≡ 0x0020 → ⊥) → (item ≡ 0x0038 → ⊥) → (item ≡ 0x00B0 → ⊥) → (item ≡ 0x00B8 → ⊥) → (item ≡ 0x00C4 → ⊥)

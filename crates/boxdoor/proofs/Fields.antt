@@ -10,6 +10,7 @@ use lib.Seq.{sets, sets-eq, length-sets, length-take-le, take-append-add, take-a
 use borrow.Rule.Slice.PartMut.{putMid}
 use Rattle.wire.specs.Choice.{pick}
 use Rattle.wire.specs.Number.{bytes}
+use Rattle.wire.proofs.Laws.{flag-byte}
 use Rattle.wire.proofs.Numbers.{length-bytes}
 use Rattle.wire.proofs.Stores.{sets-then}
 use Rattle.items.specs.declared.Settings.{Settings}
@@ -22,11 +23,6 @@ pub wide-stored : (s : Settings) (l a b c d : List ℕ) → a ≡ sets l 0 (byte
     → c ≡ sets b 16 (bytes 4 (s .clock)) → d ≡ sets c 20 (bytes 4 (s .divisor)) → d ≡ sets l 0 (wideOf s)
 unfolding wideOf
 wide-stored s l a b c d p q r t = rw (t, r, q, p)
-
--- a flag as the code casts it
-flag-byte : (b : Bool) → boolByte b ≡ pick b 1 0
-flag-byte true = refl
-flag-byte false = refl
 
 pub narrow-stored : (s : Settings) (l a b c d : List ℕ) → a ≡ sets l 24 (bytes 1 (boolByte (s .running)))
     → b ≡ sets a 25 (bytes 1 (s .mode))

@@ -1,6 +1,6 @@
 -- Demand 1, and the third column of "What comes back": what a call of the box writes is what the table has beside its code, and
 -- the call says how many bytes these are. The writers outside the box are defined by the table itself: `bytesWritten` of a
--- wish, `writtenBytes` of a head, `unpackedOf` a packet.
+-- wish, `writtenBytes` of a head, `numbersWritten` a packet.
 use Prim.Native.Nat.{ℕ}
 use mathlib.Core.Path.{_≡_}
 use mathlib.Core.List.{List}

@@ -14,7 +14,7 @@ use Rattle.framing.specs.declared.Store.{Store}
 -- How many bytes a message has in all: its length; "lengths 0 and 1 finish after the two header bytes, except length 0 in
 -- types 4 to 7"; "a data item of length 0 means 8,194 bytes in all".
 abbrev pub totalOf : ℕ → ℕ → ℕ
-totalOf type length = pick (leb typeData type && eqb length 0) 8194 (max 2 length)
+totalOf type size = pick (leb typeData type && eqb size 0) 8194 (max 2 size)
 
 -- the header of a held message
 abbrev pub headerIn : List ℕ → ℕ

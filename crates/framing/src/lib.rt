@@ -37,16 +37,16 @@ pub fn between() -> Store
 }
 
 // How many bytes a message has in all.
-pub fn total_of(kind: u8, length: u16) -> u16
-    ensures { λ r. ⌜ r ≡ totalOf kind length ⌝ }
+pub fn total_of(kind: u8, size: u16) -> u16
+    ensures { λ r. ⌜ r ≡ totalOf kind size ⌝ }
 {
-    match length {
+    match size {
         0 => match kind {
             0..=3 => 2,
             _ => 8194,
         },
         1 => 2,
-        _ => length,
+        _ => size,
     }
 }
 

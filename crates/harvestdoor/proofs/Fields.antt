@@ -8,14 +8,10 @@ use lib.ListN.{length}
 use lib.Seq.{sets}
 use Rattle.wire.specs.Choice.{pick}
 use Rattle.wire.specs.Number.{bytes}
+use Rattle.wire.proofs.Laws.{flag-byte}
 use Rattle.wire.proofs.Stores.{sets-whole}
 use Rattle.reader.specs.declared.Reader.{Reader}
 use Rattle.harvestdoor.specs.States.{readerBytes}
-
--- a flag as the code casts it
-flag-byte : (b : Bool) → boolByte b ≡ pick b 1 0
-flag-byte true = refl
-flag-byte false = refl
 
 pub reader-stored : (r : Reader) (l a b c d : List ℕ) → length l ≡ 25
     → a ≡ sets l 0 (bytes 8 (r .position)) → b ≡ sets a 8 (bytes 8 (r .form .bits))

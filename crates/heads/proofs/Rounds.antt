@@ -10,29 +10,20 @@ use lib.Dec.{eqb, ltb}
 use lib.ListN.{length, getD, take, drop, length-drop}
 use lib.Seq.{take-add, drop-drop, length-take-le, getD-drop}
 use borrow.Author.Tests.{le-ltb, ltb-false, eqb-true, eq-eqb, ne-eqb}
-use Rattle.wire.specs.Choice.{within}
 use Rattle.wire.specs.Number.{number, bytes, field}
-use Rattle.wire.proofs.Laws.{and-left, and-right, never, by-or, within-high}
+use Rattle.wire.proofs.Laws.{and-left, and-right, never, within-high}
 use Rattle.wire.specs.Lists.{allBytes}
 use Rattle.wire.proofs.Lists.{byte-at}
 use Rattle.wire.proofs.Numbers.{bytes-number}
 use Rattle.rates.specs.Rate.{isD}
 use Rattle.tuning.specs.Bands.{inBands}
+use Rattle.tuning.proofs.Covered.{bands-high}
 use Rattle.packets.specs.Forms.{formFor, listedForm}
 use Rattle.heads.specs.declared.Head.{Head}
 use Rattle.heads.proofs.Codes.{code-by, reading-by}
 use Rattle.heads.specs.Head.{mark, version, headLength, formIn, allowedHead, headBytes, headIn, headReadCode, headReadingOf}
 
 -- ---- what an allowed head has
-
-bands-high : (hz : ℕ) → inBands hz ≡ true → hz ≤ 150_000_000
-bands-high hz = by-or (within 100_000 34_000_000 hz) _ first (by-or (within 140_000_000 150_000_000 hz) false second never)
-  where
-    first : within 100_000 34_000_000 hz ≡ true → hz ≤ 150_000_000
-    first is = omega (arith, within-high 100_000 34_000_000 hz is)
-
-    second : within 140_000_000 150_000_000 hz ≡ true → hz ≤ 150_000_000
-    second = within-high 140_000_000 150_000_000 hz
 
 module _ (h : Head) (a : allowedHead h ≡ true) where
   abbrev divisorOk : Bool

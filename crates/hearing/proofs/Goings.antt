@@ -70,7 +70,7 @@ used-up f t piece at h = rw (drop-of-length-le piece h)
 
 -- ---- where a line is due
 
-pub taken-some : (t : Tally) (b : ℕ) → 0 < takingByte t b .come
+pub taken-some : (t : Tally) (b : ℕ) → 0 < takingByte t b .came
 unfolding takingByte
 taken-some t b = omega arith
 
@@ -89,7 +89,7 @@ settled-due n f t due = by (eqb (heardCode f t) 0) (eqb (heardCode f t) 1 && not
 -- What is due after some bytes: the code of a packet's bytes so far.
 pub record Is-due (f : Form) (r : Reach) : Type 0 where
   pub code : r .code ≡ heardCode f (r .tally)
-  pub some : 0 < r .tally .come
+  pub some : 0 < r .tally .came
 
 pub reach-due : (bs : List ℕ) (n : ℕ) (f : Form) (t : Tally) → (reaching n f t bs .code ≡ 0 → ⊥) → Is-due f (reaching n f t bs)
 unfolding reaching

@@ -27,7 +27,7 @@ codeBy few ok short same lone past =
     1
 
 pub heard-by : (f : Form) (t : Tally) {few ok short same lone past : Bool}
-    → ltb (t .come) 2 ≡ few → listedForm (formComing t) ≡ ok → ltb (t .come) (totalOf (formComing t)) ≡ short
+    → ltb (t .came) 2 ≡ few → listedForm (formComing t) ≡ ok → ltb (t .came) (totalOf (formComing t)) ≡ short
     → sameForm (formComing t) f ≡ same → lacksFirst t ≡ lone → ltb last (positionNow t) ≡ past
     → heardCode f t ≡ codeBy few ok short same lone past
 unfolding heardCode
@@ -89,10 +89,10 @@ accepted-fits f t e = ltb-false _ _ (absent (heardChecks f t) 1 refl e .1 .1 .1 
 -- ---- sums that fit
 
 -- an accepted packet leaves a sane tally
-pub sane-accepting : (rest : ℕ) (t : Tally) → Sane rest t → 0 < t .come → positionNow t ≤ last → Sane rest (accepting t)
+pub sane-accepting : (rest : ℕ) (t : Tally) → Sane rest t → 0 < t .came → positionNow t ≤ last → Sane rest (accepting t)
 unfolding accepting
 sane-accepting rest t s some fits =
-    let within : ℕ → Type 0 = λ n. n ≤ t .begins + t .come in
+    let within : ℕ → Type 0 = λ n. n ≤ t .begins + t .came in
     record {
       room = omega (arith, s .room);
       heard = pick-keeps within (eqb (t .number) 0) 1 (t .heard + 1) (λ e. omega arith) (λ e. omega (arith, s .heard));
@@ -107,7 +107,7 @@ pub sane-taking : (rest : ℕ) (t : Tally) (b : ℕ) → Sane (rest + 1) t → S
 unfolding takingByte
 sane-taking rest t b s = record { room = omega (arith, s .room); heard = s .heard; captures = s .captures; position = s .position }
 
-pub sane-settled : (rest n : ℕ) (f : Form) (t : Tally) → Sane rest t → 0 < t .come → Sane rest (settled n f t .tally)
+pub sane-settled : (rest n : ℕ) (f : Form) (t : Tally) → Sane rest t → 0 < t .came → Sane rest (settled n f t .tally)
 unfolding settled
 sane-settled rest n f t s some =
     pick-keeps (λ (r : Reach). Sane rest (r .tally)) (eqb (heardCode f t) 0) _ _ (λ e. s)

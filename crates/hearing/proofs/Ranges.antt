@@ -18,7 +18,7 @@ use Rattle.hearing.specs.Inside.{Sane}
 use Rattle.hearing.proofs.Heard.{sane-taking, sane-settled, sane-less}
 use Rattle.hearing.proofs.Goings.{taken-some}
 
-pub range-by : (t : Tally) {a b c d : Bool} → leb (t .begins + t .come) farthest ≡ a → leb (t .heard) (t .begins) ≡ b
+pub range-by : (t : Tally) {a b c d : Bool} → leb (t .begins + t .came) farthest ≡ a → leb (t .heard) (t .begins) ≡ b
     → leb (t .captures) (t .begins) ≡ c → leb (t .position) last ≡ d
     → tallyInRange t ≡ a && b && c && d
 range-by t p q r s = rw (p, q, r, s)
@@ -26,14 +26,14 @@ range-by t p q r s = rw (p, q, r, s)
 -- a tally in range is sane while a piece is taken
 pub range-sane : (t : Tally) (n : ℕ) → tallyInRange t ≡ true → n < 0x8000_0000_0000_0000 → Sane n t
 range-sane t n e short =
-    let a : Bool = leb (t .begins + t .come) farthest in
+    let a : Bool = leb (t .begins + t .came) farthest in
     let b : Bool = leb (t .heard) (t .begins) in
     let c : Bool = leb (t .captures) (t .begins) in
     let d : Bool = leb (t .position) last in
     let abc = and-left (a && b && c) d e in
     let ab = and-left (a && b) c abc in
     record {
-      room = omega (arith, leb-true (t .begins + t .come) farthest (and-left a b ab));
+      room = omega (arith, leb-true (t .begins + t .came) farthest (and-left a b ab));
       heard = leb-true _ _ (and-right a b ab);
       captures = leb-true _ _ (and-right (a && b) c abc);
       position = leb-true _ _ (and-right (a && b && c) d e);

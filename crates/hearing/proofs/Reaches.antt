@@ -15,7 +15,7 @@ use Rattle.wire.specs.Header.{headerOf, typeData}
 use Rattle.packets.specs.declared.Form.{Form}
 use Rattle.packets.specs.Forms.{sameForm, totalOf, listedForm, formWithHeader}
 use Rattle.packets.specs.Numbers.{numberAt, stepOf, last}
-use Rattle.packets.proofs.Forms.{of-listed, same-is}
+use Rattle.packets.proofs.Forms.{of-listed, same-self, same-is}
 use Rattle.hearing.specs.declared.Tally.{Tally}
 use Rattle.hearing.specs.declared.Reach.{Reach}
 use Rattle.hearing.specs.Hearing.{lowHigh, takingByte, formComing, positionNow, heardCode, accepting, closes, settled, reaching}
@@ -48,40 +48,40 @@ unfolding reaching
 reach-wait n f t b bs w = rw (settled-by (n + 1) f (takingByte t b) w refl)
 
 -- the header is listed and the packet not whole
-pub heard-waits : (f : Form) (t : Tally) → 2 ≤ t .come → listedForm (formComing t) ≡ true → t .come < totalOf (formComing t) → heardCode f t ≡ 0
+pub heard-waits : (f : Form) (t : Tally) → 2 ≤ t .came → listedForm (formComing t) ≡ true → t .came < totalOf (formComing t) → heardCode f t ≡ 0
 heard-waits f t some ok short = heard-by f t (le-ltb _ _ some) ok (lt-ltb _ _ short) refl refl refl
 
 -- ---- samples
 
-pub taking-sample : (t : Tally) (b : ℕ) → 4 ≤ t .come → takingByte t b ≡ skipped t 1
+pub taking-sample : (t : Tally) (b : ℕ) → 4 ≤ t .came → takingByte t b ≡ skipped t 1
 unfolding takingByte
 taking-sample t b past = rw (other 0 (omega arith), other (0 + 1) (omega arith), other 2 (omega arith), other (2 + 1) (omega arith))
   where
-    other : (place : ℕ) → place < 4 → eqb (t .come) place ≡ false
-    other place early = ne-eqb (t .come) place (λ e. omega arith)
+    other : (place : ℕ) → place < 4 → eqb (t .came) place ≡ false
+    other place early = ne-eqb (t .came) place (λ e. omega arith)
 
 pub reach-skip : (xs ys : List ℕ) (n : ℕ) (f : Form) (t : Tally) → Samples t (length xs)
     → reaching n f t (xs ++ ys) ≡ reaching (n + length xs) f (skipped t (length xs)) ys
-reach-skip [] ys n f t s = rw (add-zero n, add-zero (t .come))
+reach-skip [] ys n f t s = rw (add-zero n, add-zero (t .came))
 reach-skip (x ∷ xs) ys n f t s =
     let one : takingByte t x ≡ skipped t 1 = taking-sample t x (s .past) in
-    let past : 4 ≤ t .come = s .past in
-    let short : t .come + suc (length xs) < totalOf (formComing t) = s .short in
+    let past : 4 ≤ t .came = s .past in
+    let short : t .came + suc (length xs) < totalOf (formComing t) = s .short in
     let waits : heardCode f (takingByte t x) ≡ 0 = rw one (heard-waits f (skipped t 1) (omega arith) (s .form) (omega arith)) in
     let rest : reaching (n + 1) f (skipped t 1) (xs ++ ys) ≡ reaching (n + 1 + length xs) f (skipped (skipped t 1) (length xs)) ys
     = reach-skip xs ys (n + 1) f (skipped t 1) (record { past = omega arith; form = s .form; short = omega arith }) in
     let count : n + 1 + length xs ≡ n + suc (length xs) = omega arith in
-    let bytes : t .come + 1 + length xs ≡ t .come + suc (length xs) = omega arith in
+    let bytes : t .came + 1 + length xs ≡ t .came + suc (length xs) = omega arith in
     reach-wait n f t x (xs ++ ys) waits ∙ ap (λ (u : Tally). reaching (n + 1) f u (xs ++ ys)) one ∙ rest ∙ rw (count, bytes)
 
 -- ---- a whole packet
 
 -- a tally with so many bytes of a packet taken
 abbrev pub tallied : Tally → ℕ → ℕ → ℕ → Tally
-tallied t come header number =
+tallied t came header number =
     record {
       begins = t .begins;
-      come = come;
+      came = came;
       header = header;
       number = number;
       captures = t .captures;
@@ -90,7 +90,7 @@ tallied t come header number =
     }
 
 -- the first four bytes of a packet whose header is listed
-pub reach-front : (n : ℕ) (f : Form) (t : Tally) (a b c d : ℕ) (rest : List ℕ) → t .come ≡ 0
+pub reach-front : (n : ℕ) (f : Form) (t : Tally) (a b c d : ℕ) (rest : List ℕ) → t .came ≡ 0
     → listedForm (formWithHeader (lowHigh a b)) ≡ true → 4 < totalOf (formWithHeader (lowHigh a b))
     → reaching n f t (a ∷ b ∷ c ∷ d ∷ rest) ≡ reaching (n + 4) f (tallied t 4 (lowHigh a b) (lowHigh c d)) rest
 unfolding takingByte
@@ -114,7 +114,7 @@ reach-front n f t a b c d rest none ok long =
     ∙ ap (λ (k : ℕ). reaching k f four-in rest) count
 
 -- all bytes of a packet whose header is listed: the last one decides
-pub reach-whole : (n : ℕ) (f : Form) (t : Tally) (a b c d : ℕ) (xs : List ℕ) (z : ℕ) (ys : List ℕ) → t .come ≡ 0
+pub reach-whole : (n : ℕ) (f : Form) (t : Tally) (a b c d : ℕ) (xs : List ℕ) (z : ℕ) (ys : List ℕ) → t .came ≡ 0
     → listedForm (formWithHeader (lowHigh a b)) ≡ true → length xs + 5 ≡ totalOf (formWithHeader (lowHigh a b))
     → reaching n f t (a ∷ b ∷ c ∷ d ∷ (xs ++ z ∷ ys))
     ≡ goesOn f (settled (n + (length xs + 5)) f (tallied t (length xs + 5) (lowHigh a b) (lowHigh c d))) ys
@@ -154,9 +154,6 @@ packet-parts p at k room =
     = sym (take-append-drop k (drop (at + 4) p)) ∙ ap (λ (l : List ℕ). take k (drop (at + 4) p) ++ l) (drop-drop k (at + 4) p ∙ last) in
     drop-next p at (at + 1) refl (omega arith) ∙ behind _ (one ∙ behind _ (two ∙ behind _ (three ∙ behind _ samples)))
 
-same-self : (f : Form) → sameForm f f ≡ true
-same-self f = rw (eq-eqb (f .bits) (f .bits) refl, eq-eqb (f .pairs) (f .pairs) refl)
-
 pub form-with-own : (f : Form) → listedForm f ≡ true → formWithHeader (headerOf typeData (totalOf f)) ≡ f
 form-with-own f l = same-is _ _ (of-listed (λ g. sameForm (formWithHeader (headerOf typeData (totalOf g))) g) refl f l)
 
@@ -168,7 +165,7 @@ abbrev pub followed : Tally → ℕ → ℕ → Tally
 followed t total q =
     record {
       begins = t .begins + total;
-      come = 0;
+      came = 0;
       header = 0;
       number = 0;
       captures = t .captures;
@@ -178,7 +175,7 @@ followed t total q =
 
 -- such a packet is accepted, and brings no line
 module _
-    (f : Form) (t : Tally) (ok : listedForm f ≡ true) (form : formComing t ≡ f) (whole : t .come ≡ totalOf f)
+    (f : Form) (t : Tally) (ok : listedForm f ≡ true) (form : formComing t ≡ f) (whole : t .came ≡ totalOf f)
     (some : 0 < t .heard) (above : 0 < t .number)
     (q : ℕ) (here : q ≡ t .position + stepOf (numberAt (t .position)) (t .number)) (fits : q ≤ last) where
   numbered : eqb (t .number) 0 ≡ false
@@ -189,20 +186,20 @@ module _
 
   pub quiet-code : heardCode f t ≡ 1
   quiet-code =
-      heard-by f t (le-ltb (t .come) 2 (omega (arith, whole, total-least f ok))) (ap listedForm form ∙ ok)
-      (le-ltb (t .come) (totalOf (formComing t)) (omega (arith, whole, ap totalOf form)))
+      heard-by f t (le-ltb (t .came) 2 (omega (arith, whole, total-least f ok))) (ap listedForm form ∙ ok)
+      (le-ltb (t .came) (totalOf (formComing t)) (omega (arith, whole, ap totalOf form)))
       (ap (λ (g : Form). sameForm g f) form ∙ same-self f)
       (and-not-right (not (eqb (t .number) 0)) (eqb (t .heard) 0) (ne-eqb (t .heard) 0 (λ e. omega arith)))
       (le-ltb last (positionNow t) (omega (arith, goes-to, fits)))
 
-  pub quiet-accepting : accepting t ≡ followed t (t .come) q
+  pub quiet-accepting : accepting t ≡ followed t (t .came) q
   unfolding accepting
   quiet-accepting = rw (numbered, here)
 
   pub quiet-settled : (n : ℕ) → settled n f t ≡ record { at = n; code = 0; tally = accepting t }
   quiet-settled n = settled-by n f t quiet-code (and-not-left (eqb (t .number) 0) (not (eqb (t .heard) 0)) numbered)
 
-follows-of : (f : Form) (t : Tally) (piece : List ℕ) (at k q : ℕ) → listedForm f ≡ true → t .come ≡ 0 → 0 < t .heard → k + 5 ≡ totalOf f
+follows-of : (f : Form) (t : Tally) (piece : List ℕ) (at k q : ℕ) → listedForm f ≡ true → t .came ≡ 0 → 0 < t .heard → k + 5 ≡ totalOf f
     → Follows piece at (headerOf typeData (totalOf f)) (k + 5) (numberAt (t .position)) (t .position) q
     → reaching at f t (drop at piece) ≡ reaching (at + (k + 5)) f (followed t (k + 5) q) (drop (at + (k + 5)) piece)
 unfolding goesOn
@@ -224,7 +221,7 @@ follows-of f t piece at k q ok none some long x =
     ∙ ap (λ (r : Reach). goesOn f r ys) (quiet-settled f packet ok form long some (x .above) q (x .here) (x .fits) (at + (k + 5)))
     ∙ ap (λ (u : Tally). reaching (at + (k + 5)) f u ys) (quiet-accepting f packet ok form long some (x .above) q (x .here) (x .fits))
 
-pub reach-follows : (f : Form) (t : Tally) (piece : List ℕ) (at total q : ℕ) → listedForm f ≡ true → t .come ≡ 0 → 0 < t .heard
+pub reach-follows : (f : Form) (t : Tally) (piece : List ℕ) (at total q : ℕ) → listedForm f ≡ true → t .came ≡ 0 → 0 < t .heard
     → total ≡ totalOf f
     → Follows piece at (headerOf typeData (totalOf f)) total (numberAt (t .position)) (t .position) q
     → reaching at f t (drop at piece) ≡ reaching (at + total) f (followed t total q) (drop (at + total) piece)

@@ -40,7 +40,7 @@ abbrev pub tallyAt : Tally → ℕ → ℕ → ℕ → ℕ → Tally
 tallyAt t from at heard position =
     record {
       begins = t .begins + (at - from);
-      come = 0;
+      came = 0;
       header = 0;
       number = 0;
       captures = t .captures;
@@ -48,8 +48,8 @@ tallyAt t from at heard position =
       position = position;
     }
 
-same-tally : (t : Tally) {a b c d : ℕ} → a ≡ t .begins → b ≡ t .come → c ≡ t .header → d ≡ t .number
-    → record { begins = a; come = b; header = c; number = d; captures = t .captures; heard = t .heard; position = t .position } ≡ t
+same-tally : (t : Tally) {a b c d : ℕ} → a ≡ t .begins → b ≡ t .came → c ≡ t .header → d ≡ t .number
+    → record { begins = a; came = b; header = c; number = d; captures = t .captures; heard = t .heard; position = t .position } ≡ t
 same-tally t p q r s = rw (p, q, r, s)
 
 -- What holds between two of them. The form is known by the header.
@@ -86,7 +86,7 @@ module _
         follows = follows;
         same =
             ap (λ (u : Tally). reaching from (formWithHeader front) u (drop from piece))
-            (same-tally t none (sym (b .come)) (sym (b .header)) (sym (b .number)));
+            (same-tally t none (sym (b .came)) (sym (b .header)) (sym (b .number)));
       }
 
   pub onward-turn : (at heard position number next after last′ : ℕ)

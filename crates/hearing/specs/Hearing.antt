@@ -26,7 +26,7 @@ farthest = 0x8000_0000_0000_0000
 -- outside it is broken (21).
 abbrev pub tallyInRange : Tally → Bool
 tallyInRange t =
-    leb (t .begins + t .come) farthest
+    leb (t .begins + t .came) farthest
     && leb (t .heard) (t .begins)
     && leb (t .captures) (t .begins)
     && leb (t .position) last
@@ -39,16 +39,16 @@ lowHigh low high = low % 256 + 256 * high
 
 -- a 16-bit field that begins at a place of the packet, after one byte more
 abbrev pub fieldWith : ℕ → ℕ → ℕ → ℕ → ℕ
-fieldWith place come field b = pick (eqb come place) b (pick (eqb come (place + 1)) (lowHigh field b) field)
+fieldWith place came field b = pick (eqb came place) b (pick (eqb came (place + 1)) (lowHigh field b) field)
 
 -- One byte of the packet more. "Header, 16-bit packet number, then I and Q in turn": all but the first four are skipped.
 unfoldable pub takingByte : Tally → ℕ → Tally
 takingByte t b =
     record {
       begins = t .begins;
-      come = t .come + 1;
-      header = fieldWith 0 (t .come) (t .header) b;
-      number = fieldWith 2 (t .come) (t .number) b;
+      came = t .came + 1;
+      header = fieldWith 0 (t .came) (t .header) b;
+      number = fieldWith 2 (t .came) (t .number) b;
       captures = t .captures;
       heard = t .heard;
       position = t .position;
@@ -74,9 +74,9 @@ lacksFirst t = not (eqb (t .number) 0) && eqb (t .heard) 0
 -- all else waits for the whole packet.
 abbrev pub heardChecks : Form → Tally → List Check
 heardChecks f t =
-    check Code.waiting (ltb (t .come) 2)
+    check Code.waiting (ltb (t .came) 2)
     ∷ check Code.notAPacket (not (listedForm (formComing t)))
-    ∷ check Code.waiting (ltb (t .come) (totalOf (formComing t)))
+    ∷ check Code.waiting (ltb (t .came) (totalOf (formComing t)))
     ∷ check Code.formChanged (not (sameForm (formComing t) f))
     ∷ check Code.noFirstPacket (lacksFirst t)
     ∷ check Code.pastLast (ltb last (positionNow t))
@@ -89,8 +89,8 @@ heardCode f t = firstOf (heardChecks f t) Code.done
 unfoldable pub accepting : Tally → Tally
 accepting t =
     record {
-      begins = t .begins + t .come;
-      come = 0;
+      begins = t .begins + t .came;
+      came = 0;
       header = 0;
       number = 0;
       captures = pick (eqb (t .number) 0) (t .captures + 1) (t .captures);

@@ -21,7 +21,7 @@ goesOn f r rest = pick (eqb (r .code) Code.waiting) (reaching (r .at) f (r .tall
 
 -- a tally whose sums fit 64 bits while the rest of a piece is taken
 pub record Sane (rest : ℕ) (t : Tally) : Type 0 where
-  pub room : t .begins + t .come + rest < 0x1_0000_0000_0000_0000
+  pub room : t .begins + t .came + rest < 0x1_0000_0000_0000_0000
   pub heard : t .heard ≤ t .begins
   pub captures : t .captures ≤ t .begins
   pub position : t .position ≤ last
@@ -46,7 +46,7 @@ wordAt piece at =
 
 -- a packet that begins between packets of an open capture
 pub record Between (t : Tally) : Type 0 where
-  pub come : t .come ≡ 0
+  pub came : t .came ≡ 0
   pub header : t .header ≡ 0
   pub number : t .number ≡ 0
   pub heard : 0 < t .heard
@@ -62,16 +62,16 @@ pub record Follows (piece : List ℕ) (at expected total before position q : ℕ
 
 -- k bytes of a packet, the last one not among them, are samples
 pub record Samples (t : Tally) (k : ℕ) : Type 0 where
-  pub past : 4 ≤ t .come
+  pub past : 4 ≤ t .came
   pub form : listedForm (formComing t) ≡ true
-  pub short : t .come + k < totalOf (formComing t)
+  pub short : t .came + k < totalOf (formComing t)
 
 -- the tally with k bytes more of the packet's samples
 abbrev pub skipped : Tally → ℕ → Tally
 skipped t k =
     record {
       begins = t .begins;
-      come = t .come + k;
+      came = t .came + k;
       header = t .header;
       number = t .number;
       captures = t .captures;

@@ -17,7 +17,7 @@ pub fn in_range(t: Tally) -> bool
     if FARTHEST < t.begins {
         return false;
     }
-    if FARTHEST - t.begins < t.come {
+    if FARTHEST - t.begins < t.came {
         return false;
     }
     if t.begins < t.heard {
@@ -30,14 +30,14 @@ pub fn in_range(t: Tally) -> bool
 }
 
 // A 16-bit field that begins at a place of the packet, after one byte more.
-fn field_with(place: u64, come: u64, field: u16, b: u8) -> u16
+fn field_with(place: u64, came: u64, field: u16, b: u8) -> u16
     requires { ⌜ place ≤ 2 ⌝ }
-    ensures { λ r. ⌜ r ≡ fieldWith place come field b ⌝ }
+    ensures { λ r. ⌜ r ≡ fieldWith place came field b ⌝ }
 {
-    if come == place {
+    if came == place {
         return b as u16;
     }
-    if come == place + 1 {
+    if came == place + 1 {
         return field % 256 + 256 * b as u16;
     }
     field
@@ -45,13 +45,13 @@ fn field_with(place: u64, come: u64, field: u16, b: u8) -> u16
 
 // One byte of the packet more.
 pub(crate) fn take_byte(t: Tally, b: u8) -> Tally
-    requires { ⌜ t .come + 1 < 0x1_0000_0000_0000_0000 ⌝ }
+    requires { ⌜ t .came + 1 < 0x1_0000_0000_0000_0000 ⌝ }
     ensures { λ r. ⌜ r ≡ takingByte t b ⌝ }
 {
     let mut next = t;
-    next.come = t.come + 1;
-    next.header = field_with(0, t.come, t.header, b);
-    next.number = field_with(2, t.come, t.number, b);
+    next.came = t.came + 1;
+    next.header = field_with(0, t.came, t.header, b);
+    next.number = field_with(2, t.came, t.number, b);
     next
 }
 
@@ -81,14 +81,14 @@ fn code_of(f: Form, t: Tally) -> u8
     requires { ⌜ t .position ≤ last ⌝ }
     ensures { λ r. ⌜ r ≡ heardCode f t ⌝ }
 {
-    if t.come < 2 {
+    if t.came < 2 {
         return codes::WAITING;
     }
     let now = packets::form_of_header(t.header);
     if !packets::is_listed(now) {
         return codes::NOT_A_PACKET;
     }
-    if t.come < packets::total_of(now) {
+    if t.came < packets::total_of(now) {
         return codes::WAITING;
     }
     if !packets::same_form(now, f) {
@@ -105,15 +105,15 @@ fn code_of(f: Form, t: Tally) -> u8
 
 // The tally after an accepted packet.
 pub(crate) fn accept(t: Tally) -> Tally
-    requires { ⌜ Sane 0 t × (0 < t .come) ⌝ }
+    requires { ⌜ Sane 0 t × (0 < t .came) ⌝ }
     ensures { λ r. ⌜ r ≡ accepting t ⌝ }
 {
     let position = position_now(t);
-    let begins = t.begins + t.come;
+    let begins = t.begins + t.came;
     if t.number == 0 {
         return Tally {
             begins,
-            come: 0,
+            came: 0,
             header: 0,
             number: 0,
             captures: t.captures + 1,
@@ -123,7 +123,7 @@ pub(crate) fn accept(t: Tally) -> Tally
     }
     Tally {
         begins,
-        come: 0,
+        came: 0,
         header: 0,
         number: 0,
         captures: t.captures,
@@ -145,7 +145,7 @@ fn closes(t: Tally) -> bool
 // Settles what the bytes of a packet come to, with n bytes taken in all: more are waited for, or the packet is accepted, or
 // a line is due.
 pub(crate) fn settle(n: usize, f: Form, t: Tally) -> Reach
-    requires { ⌜ Sane 0 t × (0 < t .come) ⌝ }
+    requires { ⌜ Sane 0 t × (0 < t .came) ⌝ }
     ensures { λ r. ⌜ r ≡ settled n f t ⌝ }
 {
     let code = code_of(f, t);

@@ -13,7 +13,7 @@ pub struct Tally {
     // the input byte where the packet begins
     pub begins: u64,
     // how many of its bytes have come
-    pub come: u64,
+    pub came: u64,
     // its header and its number, as far as they have come
     pub header: u16,
     pub number: u16,

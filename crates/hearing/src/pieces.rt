@@ -25,7 +25,7 @@ use wire::types;
 fn is_between(t: Tally) -> bool
     ensures { λ r. ⌜ (r ≡ true → Between t) ⌝ }
 {
-    if t.come != 0 {
+    if t.came != 0 {
         return false;
     }
     if t.header != 0 {
@@ -100,7 +100,7 @@ fn whole_packets(f: Form, t: Tally, piece: &[u8], from: usize) -> Reach
         code: codes::WAITING,
         tally: Tally {
             begins: t.begins + (at - from) as u64,
-            come: 0,
+            came: 0,
             header: 0,
             number: 0,
             captures: t.captures,
@@ -116,14 +116,14 @@ fn whole_packets(f: Form, t: Tally, piece: &[u8], from: usize) -> Reach
 fn skippable(t: Tally, rest: usize) -> usize
     ensures { λ r. ⌜ (r ≤ rest) × (0 < r → Samples t r) ⌝ }
 {
-    if t.come < 4 {
+    if t.came < 4 {
         return 0;
     }
     let total = packets::total_of(packets::form_of_header(t.header));
-    if total <= t.come {
+    if total <= t.came {
         return 0;
     }
-    let left = (total - 1 - t.come) as usize;
+    let left = (total - 1 - t.came) as usize;
     if rest < left {
         return rest;
     }
@@ -131,11 +131,11 @@ fn skippable(t: Tally, rest: usize) -> usize
 }
 
 fn skip(t: Tally, k: usize) -> Tally
-    requires { ⌜ t .come + k < 0x1_0000_0000_0000_0000 ⌝ }
+    requires { ⌜ t .came + k < 0x1_0000_0000_0000_0000 ⌝ }
     ensures { λ r. ⌜ r ≡ skipped t k ⌝ }
 {
     let mut next = t;
-    next.come = t.come + k as u64;
+    next.came = t.came + k as u64;
     next
 }
 
@@ -184,7 +184,7 @@ fn hear_all(f: Form, t: Tally, piece: &[u8]) -> Reach
 
 // The tally with which hearing goes on from what was reached.
 fn next_tally(r: Reach) -> Tally
-    requires { ⌜ (r .code ≡ Code.done → Sane 0 (r .tally) × (0 < r .tally .come)) ⌝ }
+    requires { ⌜ (r .code ≡ Code.done → Sane 0 (r .tally) × (0 < r .tally .came)) ⌝ }
     ensures { λ t. ⌜ t ≡ nextTally r ⌝ }
 {
     if r.code == codes::DONE {

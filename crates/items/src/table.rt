@@ -67,11 +67,11 @@ fn asked(kind: u8, request: u16) -> Expected
 }
 
 // The line of an item that can be set and requested.
-fn set_or_asked(kind: u8, set: u16, request: u16) -> Expected
-    ensures { λ r. ⌜ expectedSays r ≡ offerTold (offerFor (total set) (total request) dash kind) ⌝ }
+fn set_or_asked(kind: u8, setting: u16, request: u16) -> Expected
+    ensures { λ r. ⌜ expectedSays r ≡ offerTold (offerFor (total setting) (total request) dash kind) ⌝ }
 {
     match kind {
-        types::SET => Expected::Total(set),
+        types::SET => Expected::Total(setting),
         types::REQUEST => Expected::Total(request),
         _ => Expected::NotOffered,
     }

@@ -82,7 +82,7 @@ pub telling-short : (text : List ℕ) (room n : ℕ) → n ≡ 0 + length text �
 telling-short text room n is short = rw (lt-ltb room (length text) (omega arith))
 
 pub telling-whole : (text : List ℕ) (room n : ℕ) → n ≡ 0 + length text → n ≤ room
-    → telling text room ≡ record { told = record { code = 1; wrote = n }; bytes = text }
+    → telling text room ≡ record { answer = record { code = 1; wrote = n }; bytes = text }
 telling-whole text room n is long =
     let same : length text ≡ n = omega arith in
     rw (le-ltb room (length text) (omega arith), same)

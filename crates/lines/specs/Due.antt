@@ -17,10 +17,11 @@ use Rattle.lines.specs.Lines.{Line, textOf, openingLine, captureLine, re
 abbrev pub openingIf : Bool → List Line
 openingIf on = pick on (openingLine ∷ []) []
 
--- the line of a capture in which packets were heard
+-- the open capture's line
 abbrev pub captureIn : Due → Line
 captureIn d = captureLine (record { bits = d .bits; pairs = d .pairs }) (d .divisor) (d .capture) (d .heard) (d .position)
 
+-- where packets were heard in it
 abbrev pub captureIf : Due → List Line
 captureIf d = pick (eqb (d .heard) 0) [] (captureIn d ∷ [])
 
@@ -38,17 +39,18 @@ sized d = leb (d .position) last && leb (d .pairs) 256 && leb (d .divisor) 625
 
 -- what writing answers, and the bytes that it writes at the start of the lent slice
 pub record Telling : Type 0 where
-  pub told : LinesAnswer
+  pub answer : LinesAnswer
   pub bytes : List ℕ
 
 -- nothing is written, with a code
 abbrev pub silentWith : ℕ → Telling
-silentWith code = record { told = record { code = code; wrote = 0 }; bytes = [] }
+silentWith code = record { answer = record { code = code; wrote = 0 }; bytes = [] }
 
--- a text is written whole, or not at all, with 20, where the slice is shorter
+-- 1: a text that is written whole
 abbrev pub saidWhole : List ℕ → Telling
-saidWhole text = record { told = record { code = Code.done; wrote = length text }; bytes = text }
+saidWhole text = record { answer = record { code = Code.done; wrote = length text }; bytes = text }
 
+-- whole, or not at all, with 20, where the slice is shorter
 abbrev pub telling : List ℕ → ℕ → Telling
 telling text room = pick (ltb room (length text)) (silentWith Code.noRoom) (saidWhole text)
 

@@ -102,7 +102,7 @@ fn is_sized(d: Due) -> bool
 // or a D that no capture has, and then with 20 a slice that has no room for all lines; nothing is written then.
 pub fn tell(d: Due, out: &mut [u8]) -> LinesAnswer
     ensures { λ r.
-        ⌜ (r ≡ tellingOf d (length (now (out .entry))) .told)
+        ⌜ (r ≡ tellingOf d (length (now (out .entry))) .answer)
         × (now (out .exit) ≡ sets (now (out .entry)) 0 (tellingOf d (length (now (out .entry))) .bytes)) ⌝ }
 {
     if !is_sized(d) {

@@ -73,6 +73,9 @@ row-agrees r h =
 
 -- ---- what a listed form satisfies
 
+pub same-self : (f : Form) → sameForm f f ≡ true
+same-self f = rw (eq-eqb (f .bits) (f .bits) refl, eq-eqb (f .pairs) (f .pairs) refl)
+
 pub same-is : (f g : Form) → sameForm f g ≡ true → f ≡ g
 same-is f g h =
     let b : f .bits ≡ g .bits = eqb-true _ _ (and-left (eqb (f .bits) (g .bits)) (eqb (f .pairs) (g .pairs)) h) in

@@ -8,6 +8,7 @@ use borrow.Author.Tests.{eq-eqb, ne-eqb, le-leb, le-ltb}
 use lib.Dec.{eqb}
 use Rattle.packets.specs.declared.Form.{Form}
 use Rattle.packets.specs.Forms.{listedForm, wholeOf, sameForm}
+use Rattle.packets.proofs.Forms.{same-self}
 use Rattle.packets.specs.Numbers.{numberAt, numberIn, stepOf, most, last}
 use Rattle.packets.proofs.Numbers.{number-zero}
 use Rattle.reader.specs.declared.Reader.{Reader}
@@ -26,9 +27,6 @@ pub record At (f : Form) (n : ℕ) (packet : List ℕ) : Type 0 where
 abbrev pub hasHeard : Form → ℕ → Reader
 hasHeard f n = record { heard = true; position = n; form = f }
 
-sameForm-refl : (f : Form) → sameForm f f ≡ true
-sameForm-refl f = rw (eq-eqb (f .bits) (f .bits) refl, eq-eqb (f .pairs) (f .pairs) refl)
-
 -- "Number 0 begins a new capture, at any moment."
 pub reads-first : (f : Form) (packet : List ℕ) (r : Reader) → At f 0 packet → sound r ≡ true → readingOf r packet ≡ heardAt 0 f
 reads-first f packet r a s =
@@ -43,7 +41,7 @@ reads-at : (f : Form) (packet : List ℕ) (m p n : ℕ) → At f p packet → 0 
 reads-at f packet m p n a above before within there =
     let later : eqb (numberIn packet) 0 ≡ false = ne-eqb (numberIn packet) 0 (λ z. omega (arith, number-zero p (sym (a .number) ∙ z))) in
     let leads : positionAfter (hasHeard f m) (numberIn packet) ≡ n = rw (later, a .number) there in
-    let same : sameForm (wholeOf packet) f ≡ true = rw (a .form) (sameForm-refl f) in
+    let same : sameForm (wholeOf packet) f ≡ true = rw (a .form) (same-self f) in
     packet-taken (hasHeard f m) packet (rw (le-leb m last before) (a .fine)) (rw (a .form) (a .fine)) (rw later) (rw (later, same))
     (rw leads (le-ltb last n within))
     ∙ rw (leads, a .form)

@@ -22,6 +22,7 @@ use Rattle.tuning.specs.Bands.{bands, rangeBytes}
 use Rattle.layouts.specs.declared.Layout.{Layout}
 use Rattle.layouts.specs.Layouts.{parametersOf, sizeOf, laid}
 use Rattle.layouts.proofs.Sizes.{length-laid}
+use Rattle.items.proofs.States.{status-bytes}
 use Rattle.items.specs.declared.Settings.{Settings}
 use Rattle.items.specs.Settings.{isMode, isSerialByte, allSerial, isSerial, inRange, freshOf, withFrequency}
 use Rattle.items.specs.Settings.{withClock, withDivisor, withRunning, withMode, withGain, withSize, withCount}
@@ -149,10 +150,6 @@ box-has P a b c d true m e = one-has (P true) m (0x80 ∷ 0x00 ∷ []) (c, (d, t
 
 state-bytes : (t : Bool) (m : ℕ) → isMode m ≡ true → 0x80 ∷ pick t run idle ∷ m ∷ 0x00 ∷ [] ≡ bytes 4 (stateOf t m)
 state-bytes = box-has (λ t m. 0x80 ∷ pick t run idle ∷ m ∷ 0x00 ∷ [] ≡ bytes 4 (stateOf t m)) refl refl refl refl
-
-status-bytes : (t : Bool) → pick t 0x0C 0x0B ∷ [] ≡ bytes 1 (pick t 0x0C 0x0B)
-status-bytes false = refl
-status-bytes true = refl
 
 rate-shown : (d : ℕ) → isD d ≡ true → bytes 4 (achievedRate d) ≡ bytes 4 (rateOf d)
 rate-shown d is = ap (bytes 4) (pick-true (isD d) (rateOf d) 0 is)

@@ -31,7 +31,8 @@ use Rattle.wishes.specs.declared.Wish.the-variants.{AskName, AskSerial, AskInte
 use Rattle.wishes.specs.declared.Wish.the-variants.{AskState, SetFrequency, AskFrequency, AskFrequencyRange, SetGain, AskGain}
 use Rattle.wishes.specs.declared.Wish.the-variants.{SetClock, AskClock, SetRate, AskRate, SetPacketSize, AskPacketSize}
 use Rattle.wishes.specs.Wishes.{allowedWish}
-use Rattle.wishes.proofs.Allowed.{state-has, bands-high, gain-below, value-fits}
+use Rattle.tuning.proofs.Covered.{bands-high}
+use Rattle.wishes.proofs.Allowed.{state-has, gain-below, value-fits}
 use Rattle.wire.proofs.Laws.{one-has}
 use Rattle.replies.specs.Awaited.{awaited, versionNumber, idleShown, runShown, stateShown, replyLayout, replyBytes, numberIn}
 use Rattle.replies.specs.Reading.{isNak, isReply, replyCode, replySays, replyReaderSays}

@@ -35,7 +35,7 @@ pieces [] = []
 pieces (p ∷ ps) = piece p ∷ pieces ps
 
 -- "The session program feeds standard input to a fresh box with serial MT123456": the box that pieces of an input have left,
--- so many bytes in all. The program counts what it reads, so a box that misses a piece is none.
+-- so many bytes in all. The program counts what it reads, so a box that misses a piece is not one of these.
 pub record ReadSoFar (s : Station) (read : ℕ) : Type 0 where
   pub parts : List (List ℕ)
   pub count : length (joined (pieces parts)) ≡ read

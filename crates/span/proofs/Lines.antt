@@ -33,10 +33,10 @@ lines-of-piece s piece l array r long is stored =
     let within = eating-within s piece 256 in
     stand (eatingOf s piece 256 .bytes) l array (r .wrote) (wrote ∙ within .counts) (omega (arith, within .wrote)) stored
 
-pub lines-of-end : (s : Span) (l array : List ℕ) (r : LinesAnswer) → length l ≡ 256 → r ≡ finishingOf s 256 .told
+pub lines-of-end : (s : Span) (l array : List ℕ) (r : LinesAnswer) → length l ≡ 256 → r ≡ finishingOf s 256 .answer
     → array ≡ sets l 0 (finishingOf s 256 .bytes)
     → Lines (finishingOf s 256 .bytes) (r .wrote) array
 lines-of-end s l array r long is stored =
-    let wrote : r .wrote ≡ finishingOf s 256 .told .wrote = ap (λ (t : LinesAnswer). t .wrote) is in
+    let wrote : r .wrote ≡ finishingOf s 256 .answer .wrote = ap (λ (t : LinesAnswer). t .wrote) is in
     let within = finishing-within s 256 in
     stand (finishingOf s 256 .bytes) l array (r .wrote) (wrote ∙ within .counts) (omega (arith, within .wrote)) stored

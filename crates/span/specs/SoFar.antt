@@ -16,7 +16,7 @@ use Rattle.spans.specs.Eating.{freshSpan, finishingOf}
 use Rattle.spans.specs.Pieces.{room, handedAll, printed}
 
 -- the span that pieces of an input have left, from the fresh one on, so many bytes in all. The program counts what it reads,
--- so a span that misses a piece is none.
+-- so a span that misses a piece is not one of these.
 pub record SpanSoFar (s : Span) (read : ℕ) : Type 0 where
   pub pieces : List (List ℕ)
   pub count : length (joined pieces) ≡ read

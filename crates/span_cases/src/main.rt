@@ -14,7 +14,7 @@ fn main() {
     let mut text = io::large_buffer();
     let n = io::read_full(STDIN_FILENO, &mut text);
     building::cases(&text[..n]);
-    // "position past 3,999,999,999": 61,036 full turns behind position 5,739 is the last one, and behind 5,740 one too many.
+    // "position past 3,999,999,999": 61,036 full turns past position 5,739 lies the last one, past 5,740 one too many.
     feeding::repeated(b"to position 3999999999", 5739, 61037);
     feeding::repeated(b"to position 4000000000", 5740, 61037);
 }

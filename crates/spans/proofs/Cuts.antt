@@ -353,7 +353,7 @@ module _ (s : Span) (used b : ℕ) (bs rest : List ℕ) (goes : s .stopped ≡ f
     read-going e =
         let one : eqb code 1 ≡ true = not-false (eqb code 1) e in
         let begins : s .tally .begins ≡ headLength = ap (λ (t : Tally). t .begins) (g .head few .1) in
-        let none : s .tally .come ≡ 0 = ap (λ (t : Tally). t .come) (g .head few .1) in
+        let none : s .tally .came ≡ 0 = ap (λ (t : Tally). t .came) (g .head few .1) in
         record {
           long = after-long;
           head = λ h. absurd (omega (arith, whole));

@@ -64,7 +64,7 @@ due-is p q s = (ap dueLines p ∙ q, ap sized p ∙ s)
 -- ---- what a call answers
 
 -- What `tell` answered for lines, in a slice with so much room: 20, or the lines' text.
-module _ (lines : List Line) (room : ℕ) (told : LinesAnswer) (is : told ≡ telling (textOf lines) room .told) where
+module _ (lines : List Line) (room : ℕ) (told : LinesAnswer) (is : told ≡ telling (textOf lines) room .answer) where
   short : told .code ≡ 20 → ltb room (length (textOf lines)) ≡ true
   short no-room = by (ltb room (length (textOf lines))) refl
     where
@@ -108,7 +108,7 @@ pub opening-by : (s : Span) (piece : List ℕ) (room : ℕ) (after : Span) → a
     → opening s piece room ≡ openingBy s room (after .came - s .came) after
 unfolding opening
 opening-by s piece room after is =
-    let come : after .came ≡ s .came + lacking s piece = ap (λ (x : Span). x .came) is in
+    let came : after .came ≡ s .came + lacking s piece = ap (λ (x : Span). x .came) is in
     let count : after .came - s .came ≡ lacking s piece = omega arith in
     ap (λ (x : Span). openingBy s room (lacking s piece) x) (sym is) ∙ ap (λ (n : ℕ). openingBy s room n after) (sym count)
 
@@ -139,7 +139,7 @@ pub record Tells (s next : Span) (n : ℕ) (lines : List Line) (out after : List
   pub due : Due
   pub are : dueLines due ≡ lines
   pub fit : sized due ≡ true
-  pub did : (told ≡ tellingOf due (length out) .told) × (after ≡ sets out 0 (tellingOf due (length out) .bytes))
+  pub did : (told ≡ tellingOf due (length out) .answer) × (after ≡ sets out 0 (tellingOf due (length out) .bytes))
   pub is : x ≡ saying s (length out) n lines next
 
 -- The two answers of such a call.
@@ -148,8 +148,8 @@ module _ {s next : Span} {n : ℕ} {lines : List Line} {out after : List ℕ} {t
   same-lines : tellingOf (t .due) (length out) ≡ telling (textOf lines) (length out)
   same-lines = telling-sized (t .due) (length out) (t .fit) ∙ ap (λ (ls : List Line). telling (textOf ls) (length out)) (t .are)
 
-  told-is : told ≡ telling (textOf lines) (length out) .told
-  told-is = t .did .0 ∙ ap (λ (y : Telling). y .told) same-lines
+  told-is : told ≡ telling (textOf lines) (length out) .answer
+  told-is = t .did .0 ∙ ap (λ (y : Telling). y .answer) same-lines
 
   after-is : after ≡ sets out 0 (telling (textOf lines) (length out) .bytes)
   after-is = t .did .1 ∙ ap (λ (y : Telling). sets out 0 (y .bytes)) same-lines
@@ -217,6 +217,6 @@ module _ (s : Span) (room′ : ℕ) where
 
 -- as `answers`, for the end
 pub finishes : {e : LinesAnswer} (out : List ℕ) {after : List ℕ} {x : Telling} (y : Telling) → x ≡ y
-    → (e ≡ y .told) × (after ≡ sets out 0 (y .bytes))
-    → (e ≡ x .told) × (after ≡ sets out 0 (x .bytes))
-finishes {e} out {after} y same did = subst (λ (z : Telling). (e ≡ z .told) × (after ≡ sets out 0 (z .bytes))) (sym same) did
+    → (e ≡ y .answer) × (after ≡ sets out 0 (y .bytes))
+    → (e ≡ x .answer) × (after ≡ sets out 0 (x .bytes))
+finishes {e} out {after} y same did = subst (λ (z : Telling). (e ≡ z .answer) × (after ≡ sets out 0 (z .bytes))) (sym same) did

@@ -37,7 +37,7 @@ pub record Counted (t : Tally) : Type 0 where
 pub record Going (s : Span) (used : ℕ) : Type 0 where
   pub long : length (s .head) ≡ 14
   pub head : s .came < headLength → (s .came ≡ used) × (s .tally ≡ freshTally)
-  pub packets : headLength ≤ s .came → (s .came ≡ headLength) × (headReadCode (s .head) ≡ 1) × (s .tally .begins + s .tally .come ≡ used)
+  pub packets : headLength ≤ s .came → (s .came ≡ headLength) × (headReadCode (s .head) ≡ 1) × (s .tally .begins + s .tally .came ≡ used)
   pub counted : Counted (s .tally)
 
 pub fresh-counted : Counted freshTally
@@ -47,22 +47,22 @@ pub fresh-going : Going freshSpan 0
 fresh-going = record { long = refl; head = λ h. (refl, refl); packets = λ h. absurd (omega arith); counted = fresh-counted }
 
 module _ (s : Span) (used : ℕ) (g : Going s used) (near : used ≤ farthest) where
-  near-end : s .tally .begins + s .tally .come ≤ farthest
+  near-end : s .tally .begins + s .tally .came ≤ farthest
   near-end = elim (decLt (s .came) headLength) [ yes h ↦ opened (g .head h .1) | no h ↦ omega (arith, g .packets (omega arith) .2) ]
     where
-      opened : s .tally ≡ freshTally → s .tally .begins + s .tally .come ≤ farthest
-      opened e = omega (arith, ap (λ (t : Tally). t .begins) e, ap (λ (t : Tally). t .come) e)
+      opened : s .tally ≡ freshTally → s .tally .begins + s .tally .came ≤ farthest
+      opened e = omega (arith, ap (λ (t : Tally). t .begins) e, ap (λ (t : Tally). t .came) e)
 
   going-range : tallyInRange (s .tally) ≡ true
   going-range =
       let c = g .counted in
-      range-by (s .tally) (le-leb (s .tally .begins + s .tally .come) farthest near-end)
+      range-by (s .tally) (le-leb (s .tally .begins + s .tally .came) farthest near-end)
       (le-leb _ _ (c .heard)) (le-leb _ _ (c .captures)) (le-leb _ _ (c .position))
 
   going-head : headOk s ≡ true
   going-head = elim (decLt (s .came) headLength) [ yes h ↦ or-left _ _ (lt-ltb _ _ h) | no h ↦ whole (g .packets (omega arith)) ]
     where
-      whole : (s .came ≡ headLength) × (headReadCode (s .head) ≡ 1) × (s .tally .begins + s .tally .come ≡ used) → headOk s ≡ true
+      whole : (s .came ≡ headLength) × (headReadCode (s .head) ≡ 1) × (s .tally .begins + s .tally .came ≡ used) → headOk s ≡ true
       whole p = or-right (ltb (s .came) headLength) _ (and-both _ _ (eq-eqb _ _ (p .0)) (eq-eqb _ _ (p .1)))
 
   pub going-valid : s .stopped ≡ false → validSpan s ≡ true
@@ -86,7 +86,7 @@ stopped-valid s e = valid-by s e refl refl
 
 -- the input bytes that a tally stands behind
 abbrev pub passedBy : Tally → ℕ
-passedBy t = t .begins + t .come
+passedBy t = t .begins + t .came
 
 passed-taking : (t : Tally) (b : ℕ) → passedBy (takingByte t b) ≡ passedBy t + 1
 unfolding takingByte

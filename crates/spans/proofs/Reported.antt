@@ -44,7 +44,7 @@ lastOf (p ∷ ps) = p
 
 -- The tally between two packets is what the report knows there.
 pub record Knows (t : Tally) (k : Known) : Type 0 where
-  pub come : t .come ≡ 0
+  pub came : t .came ≡ 0
   pub offset : t .begins ≡ k .offset
   pub captures : t .captures ≡ k .captures
   pub heard : t .heard ≡ length (k .accepted)
@@ -62,11 +62,11 @@ ended-same h t k m = line-by h (k .captures) (k .accepted) t (m .captures) (m .h
 
 -- ---- a packet that is cut off, or has no listed header
 
-header-kept : (t : Tally) (b : ℕ) → 2 ≤ t .come → takingByte t b .header ≡ t .header
+header-kept : (t : Tally) (b : ℕ) → 2 ≤ t .came → takingByte t b .header ≡ t .header
 unfolding takingByte
-header-kept t b some = rw (ne-eqb (t .come) 0 (λ e. omega arith), ne-eqb (t .come) (0 + 1) (λ e. omega arith))
+header-kept t b some = rw (ne-eqb (t .came) 0 (λ e. omega arith), ne-eqb (t .came) (0 + 1) (λ e. omega arith))
 
-one-more : (t : Tally) (b : ℕ) → takingByte t b .come ≡ t .come + 1
+one-more : (t : Tally) (b : ℕ) → takingByte t b .came ≡ t .came + 1
 unfolding takingByte
 one-more t b = refl
 
@@ -79,17 +79,17 @@ unfolding takingByte
 refused-taking h t b code = refl
 
 -- the input ends within a packet
-coming-within : (h : Head) (t : Tally) → 0 < t .come → comingBy h t [] ≡ refusedAt h t 30
+coming-within : (h : Head) (t : Tally) → 0 < t .came → comingBy h t [] ≡ refusedAt h t 30
 unfolding comingBy
-coming-within h t some = rw (ne-eqb (t .come) 0 (λ e. omega arith))
+coming-within h t some = rw (ne-eqb (t .came) 0 (λ e. omega arith))
 
 -- two bytes and more of a listed header, and the input ends before the packet does
-coming-cut : (bs : List ℕ) (h : Head) (t : Tally) → 2 ≤ t .come → listedForm (formComing t) ≡ true
-    → t .come + length bs < totalOf (formComing t) → comingBy h t bs ≡ refusedAt h t 30
+coming-cut : (bs : List ℕ) (h : Head) (t : Tally) → 2 ≤ t .came → listedForm (formComing t) ≡ true
+    → t .came + length bs < totalOf (formComing t) → comingBy h t bs ≡ refusedAt h t 30
 coming-cut [] h t some ok short = coming-within h t (omega arith)
 coming-cut (b ∷ bs) h t some ok short =
     let u : Tally = takingByte t b in
-    let more : u .come ≡ t .come + 1 = one-more t b in
+    let more : u .came ≡ t .came + 1 = one-more t b in
     let form : formComing u ≡ formComing t = ap formWithHeader (header-kept t b some) in
     let named : listedForm (formComing u) ≡ true = ap listedForm form ∙ ok in
     coming-wait h t b bs (heard-waits (formIn h) u (omega (arith, more)) named (omega (arith, more, ap totalOf form)))
@@ -115,7 +115,7 @@ abbrev pub NoPacket : List ℕ → Type 0
 NoPacket rest = listedForm (formAt rest) ≡ true → totalOf (formAt rest) ≤ length rest → ⊥
 
 -- the first two bytes of a packet
-module _ (t : Tally) (none : t .come ≡ 0) where
+module _ (t : Tally) (none : t .came ≡ 0) where
   abbrev starts : Tally
   starts = tallied t 0 (t .header) (t .number)
 
@@ -180,7 +180,7 @@ module _ (t : Tally) (none : t .come ≡ 0) where
 -- ---- a whole packet
 
 -- all bytes of a packet of n bytes
-reach-of : (f : Form) (t : Tally) (rest : List ℕ) (n header number : ℕ) → t .come ≡ 0 → 5 ≤ n → n ≤ length rest
+reach-of : (f : Form) (t : Tally) (rest : List ℕ) (n header number : ℕ) → t .came ≡ 0 → 5 ≤ n → n ≤ length rest
     → lowHigh (getD rest 0 0) (getD rest 1 0) ≡ header → lowHigh (getD rest 2 0) (getD rest 3 0) ≡ number
     → listedForm (formWithHeader header) ≡ true → n ≡ totalOf (formWithHeader header)
     → reaching 0 f t rest ≡ goesOn f (settled n f (tallied t n header number)) (drop n rest)
@@ -371,7 +371,7 @@ module _ (h : Head) (t : Tally) (k : Known) (m : Knows t k) (own : listedForm (f
   unfolding accepting
   knows-after one =
       record {
-        come = refl;
+        came = refl;
         offset = omega (arith, m .offset, packet-length rest ok room);
         captures =
             ap (λ (c : ℕ). pick (eqb number 0) (c + 1) c) (m .captures)
@@ -392,7 +392,7 @@ module _ (h : Head) (t : Tally) (k : Known) (m : Knows t k) (own : listedForm (f
 
 end-same : (h : Head) (t : Tally) (k : Known) → Knows t k → comingBy h t [] ≡ atEnd h k
 unfolding comingBy
-end-same h t k m = rw (m .come, ended-same h t k m, m .captures)
+end-same h t k m = rw (m .came, ended-same h t k m, m .captures)
 
 -- the report's lines of the bytes that are left
 abbrev pub linesLeft : ℕ → Head → Known → List ℕ → List Line
@@ -444,7 +444,7 @@ module _ (n : ℕ) (h : Head) (own : listedForm (formIn h) ≡ true) (t : Tally)
   none-lines : NoPacket rest → AgreesHere
   none-lines no-packet =
       let code = packet-code-by h k (packetIn rest) (not-whole rest no-packet) refl refl refl refl refl in
-      coming-no-packet t (m .come) h a bs small no-packet
+      coming-no-packet t (m .came) h a bs small no-packet
       ∙ refused-same h t k m 30
       ∙ sym (lines-refused n h k a bs 30 code (λ e. omega arith))
 
@@ -472,7 +472,7 @@ module _ (n : ℕ) (h : Head) (own : listedForm (formIn h) ≡ true) (t : Tally)
     reach =
         let two : lowHigh (getD rest 0 0) (getD rest 1 0) ≡ field 0 2 rest = omega (arith, field-two rest 0, byte-at rest small 0) in
         let four : lowHigh (getD rest 2 0) (getD rest 3 0) ≡ field 2 2 rest = omega (arith, field-two rest 2, byte-at rest small 2) in
-        reach-of f t rest long (field 0 2 rest) (field 2 2 rest) (m .come) (omega (arith, least)) room two four ok refl
+        reach-of f t rest long (field 0 2 rest) (field 2 2 rest) (m .came) (omega (arith, least)) room two four ok refl
 
     code : packetCode h k first ≡ heardCode f v
     code = code-same h t k m own rest ok room

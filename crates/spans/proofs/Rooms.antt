@@ -73,9 +73,9 @@ module _ (h : Head) (t : Tally) (s : Short h t) where
   pub end-room : length (textOf (endLines h t)) ≤ 256
   end-room =
       let end : List Line = endLine (t .captures) ∷ [] in
-      let rest : List Line = pick (eqb (t .come) 0) end (refusalLine 30 (t .begins) ∷ []) in
+      let rest : List Line = pick (eqb (t .came) 0) end (refusalLine 30 (t .begins) ∷ []) in
       let few : length (textOf rest) ≤ 44
-      = pick-keeps (λ (ls : List Line). length (textOf ls) ≤ 44) (eqb (t .come) 0) _ _
+      = pick-keeps (λ (ls : List Line). length (textOf ls) ≤ 44) (eqb (t .came) 0) _ _
       (λ e. omega (arith, end-length (t .captures) (s .captures)))
       (λ e. refusal-length 30 (t .begins) (omega arith) (s .begins)) in
       omega (arith, lines-length (endedNow h t) rest, ended-length, few)

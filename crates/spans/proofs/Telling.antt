@@ -25,7 +25,7 @@ use Rattle.hearing.proofs.Goings.{settled-due}
 
 -- the lines at the end of the input, with a tally
 abbrev pub endLines : Head → Tally → List Line
-endLines h t = endedNow h t ++ pick (eqb (t .come) 0) (endLine (t .captures) ∷ []) (refusalLine 30 (t .begins) ∷ [])
+endLines h t = endedNow h t ++ pick (eqb (t .came) 0) (endLine (t .captures) ∷ []) (refusalLine 30 (t .begins) ∷ [])
 
 -- lines that come only where a code is 1
 abbrev pub ifOne : ℕ → List Line → List Line

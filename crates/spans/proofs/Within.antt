@@ -73,8 +73,8 @@ module _ (s : Span) (piece : List ℕ) (room : ℕ) where
       (λ q. pick-keeps (Within piece room) (ltb (s .came) headLength) _ _ (λ h. opening-within) (λ h. listening-within)))
 
 pub record TellsWithin (room : ℕ) (t : Telling) : Type 0 where
-  pub wrote : t .told .wrote ≤ room
-  pub counts : t .told .wrote ≡ length (t .bytes)
+  pub wrote : t .answer .wrote ≤ room
+  pub counts : t .answer .wrote ≡ length (t .bytes)
 
 silent-within : (code room : ℕ) → TellsWithin room (silentWith code)
 silent-within code room = record { wrote = omega arith; counts = refl }

@@ -24,7 +24,7 @@ use Rattle.hearing.specs.Hearing.{tallyInRange, nextTally, reaching}
 
 -- nothing heard, after the head
 abbrev pub freshTally : Tally
-freshTally = record { begins = headLength; come = 0; header = 0; number = 0; captures = 0; heard = 0; position = 0 }
+freshTally = record { begins = headLength; came = 0; header = 0; number = 0; captures = 0; heard = 0; position = 0 }
 
 abbrev pub freshSpan : Span
 freshSpan = record { stopped = false; came = 0; head = replicate 14 0; tally = freshTally }
@@ -60,7 +60,7 @@ refused code s = record { eaten = record { code = code; consumed = 0; wrote = 0;
 abbrev pub silently : ℕ → ℕ → Span → Eating
 silently code n after = record { eaten = record { code = code; consumed = n; wrote = 0; span = after }; bytes = [] }
 
--- 1: lines are due after n bytes; 20 where the slice has no room for all of them
+-- 1: lines are due after n bytes
 abbrev pub sayingAll : ℕ → List Line → Span → Eating
 sayingAll n lines after =
     record {
@@ -68,6 +68,7 @@ sayingAll n lines after =
       bytes = textOf lines;
     }
 
+-- 20 where the slice has no room for all of them
 abbrev pub saying : Span → ℕ → ℕ → List Line → Span → Eating
 saying s room n lines after = pick (ltb room (length (textOf lines))) (refused Code.noRoom s) (sayingAll n lines after)
 
@@ -135,7 +136,7 @@ abbrev pub lastLines : Span → List Line
 lastLines s =
     pick (ltb (s .came) headLength) (openingLine ∷ refusalLine Code.notAHead 0 ∷ [])
     (endedNow (headOf s) (s .tally)
-    ++ pick (eqb (s .tally .come) 0) (endLine (s .tally .captures) ∷ []) (refusalLine Code.notAPacket (s .tally .begins) ∷ []))
+    ++ pick (eqb (s .tally .came) 0) (endLine (s .tally .captures) ∷ []) (refusalLine Code.notAPacket (s .tally .begins) ∷ []))
 
 -- 21 for a broken span, 2 for one that has stopped
 unfoldable pub finishingOf : Span → ℕ → Telling

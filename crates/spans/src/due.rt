@@ -87,7 +87,7 @@ pub(crate) fn last_due(s: Span) -> Due
     let head = s.head;
     let h = heads::head_in(&head);
     let t = s.tally;
-    if t.come == 0 {
+    if t.came == 0 {
         return ended_due(h, t, Ending::Captures(t.captures));
     }
     let refusal = Ending::Refusal {

@@ -30,7 +30,7 @@ pub fn fresh() -> Span
         head: [0; 14],
         tally: Tally {
             begins: 14,
-            come: 0,
+            came: 0,
             header: 0,
             number: 0,
             captures: 0,
@@ -179,7 +179,7 @@ pub fn eat(s: Span, piece: &[u8], out: &mut [u8]) -> Eaten
 // due. Nothing happens with 21, where the span is broken, and then with 20, where out has no room for the lines.
 pub fn finish(s: Span, out: &mut [u8]) -> LinesAnswer
     ensures { λ r.
-        ⌜ (r ≡ finishingOf s (length (now (out .entry))) .told)
+        ⌜ (r ≡ finishingOf s (length (now (out .entry))) .answer)
         × (now (out .exit) ≡ sets (now (out .entry)) 0 (finishingOf s (length (now (out .entry))) .bytes)) ⌝ }
 {
     if !is_valid(s) {

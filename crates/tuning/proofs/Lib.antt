@@ -1,1 +1,2 @@
+pub mod Covered
 pub mod Words

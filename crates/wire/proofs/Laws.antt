@@ -1,11 +1,12 @@
 -- What closes the returns of a function whose definition has its tests, and laws that take a test apart.
-use Prim.Native.Nat.{ℕ, _≤_, _<_}
+use Prim.Native.Nat.{ℕ, _≤_}
 use mathlib.Core.Path.{_≡_, refl, sym, ap, subst}
 use mathlib.Core.Bool.{Bool, true, false, _&&_, _||_}
 use native.Mathlib.Omega.{arith}
 use mathlib.Core.List.{List, [], _∷_}
 use mathlib.Core.Logic.{_⊎_, inl, inr}
 use lib.Dec.{T, eqb, leb}
+use mir.Val.{boolByte}
 use borrow.Author.Needs.{needs}
 use borrow.Author.Tests.{lt-ltb, le-ltb, le-leb, lt-leb, eq-eqb, ne-eqb, eqb-true, leb-true}
 use Rattle.wire.specs.Choice.{pick, oneOf, within}
@@ -132,3 +133,8 @@ within-high low high n e = leb-true n high (and-right (leb low n) (leb n high) e
 
 pub is-within : (low high n : ℕ) → low ≤ n → n ≤ high → within low high n ≡ true
 is-within low high n l h = and-both (leb low n) (leb n high) (le-leb low n l) (le-leb n high h)
+
+-- a flag as the code casts it to a byte
+pub flag-byte : (b : Bool) → boolByte b ≡ pick b 1 0
+flag-byte true = refl
+flag-byte false = refl

@@ -7,7 +7,7 @@ use native.Mathlib.Omega.{arith}
 use native.Mathlib.Decide.{decLt}
 use lib.ListN.{length, getD, set, take, drop, length-drop}
 use lib.Seq.{drop-cons, sets, take-length, getD-drop}
-use Rattle.wire.proofs.Stores.{sets-out, sets-taken}
+use Rattle.wire.proofs.Stores.{sets-out}
 use Rattle.wire.specs.Number.{number, bytes, field}
 
 -- a field is its first byte, and 256 times the field after it

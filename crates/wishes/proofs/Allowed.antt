@@ -1,5 +1,5 @@
 -- What is known of an allowed value: that it fits its field, and, of a state, which ones there are.
-use Prim.Native.Nat.{ℕ, suc, _-_, _≤_, _<_}
+use Prim.Native.Nat.{ℕ, suc, _-_, _<_}
 use mathlib.Core.Path.{_≡_, refl, sym, ap, subst, _∙_}
 use mathlib.Core.Bool.{true, false, _&&_}
 use mathlib.Core.List.{List, [], _∷_, map}
@@ -9,10 +9,10 @@ use lib.IntN.{ℤ, pos, negsuc}
 use lib.Signed.{mag}
 use denote.Enum.Declared.{tagOf}
 use borrow.Author.Tests.{eqb-true, eqb-false, eq-eqb, ne-eqb}
-use Rattle.wire.specs.Choice.{within, oneOf}
+use Rattle.wire.specs.Choice.{oneOf}
 use Rattle.wire.specs.Signed.{minus, coded, sameInteger}
 use Rattle.wire.proofs.Laws.{true-not-false, never, and-left, and-right, within-high, by-test, by-or, one-has}
-use Rattle.tuning.specs.Bands.{inBands}
+use Rattle.tuning.proofs.Covered.{bands-high}
 use Rattle.items.specs.Settings.{gains, isGain, isMode}
 use Rattle.wishes.proofs.Wish.{the-type}
 use Rattle.wishes.specs.declared.StateFields.{StateFields}
@@ -21,15 +21,6 @@ use Rattle.wishes.specs.declared.Wish.the-variants.{AskName, AskSerial, 
 use Rattle.wishes.specs.declared.Wish.the-variants.{AskState, SetFrequency, AskFrequency, AskFrequencyRange, SetGain, AskGain}
 use Rattle.wishes.specs.declared.Wish.the-variants.{SetClock, AskClock, SetRate, AskRate, SetPacketSize, AskPacketSize}
 use Rattle.wishes.specs.Wishes.{Fits, allowedWish}
-
-pub bands-high : (hz : ℕ) → inBands hz ≡ true → hz ≤ 150_000_000
-bands-high hz = by-or (within 100_000 34_000_000 hz) _ first (by-or (within 140_000_000 150_000_000 hz) false second never)
-  where
-    first : within 100_000 34_000_000 hz ≡ true → hz ≤ 150_000_000
-    first is = omega (arith, within-high 100_000 34_000_000 hz is)
-
-    second : within 140_000_000 150_000_000 hz ≡ true → hz ≤ 150_000_000
-    second = within-high 140_000_000 150_000_000 hz
 
 pub gain-below : (n : ℕ) → isGain n ≡ true → n < 256
 gain-below n = one-has (λ m. m < 256) n (map (coded 8) gains) (omega arith, (omega arith, (omega arith, (omega arith, tt))))

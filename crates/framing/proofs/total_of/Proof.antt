@@ -18,7 +18,7 @@ returns-4 : tie.Need-returns-4
 returns-4 c =
     let a = c .before .args in
     let rest = c .match .rest in
-    omega (arith, rest .0 .1, rest .1, total-length (a .kind) (a .length) (omega (arith, rest .0 .1)))
+    omega (arith, rest .0 .1, rest .1, total-length (a .kind) (a .size) (omega (arith, rest .0 .1)))
 
 pub total-of-spec : {M : Type 1} → statement M
 total-of-spec = tie.close (tie.spec returns returns-2 returns-3 returns-4)

@@ -1,5 +1,5 @@
 -- The lines lie within the lent bytes, and the part that is written is the span's lines.
-use mathlib.Core.Path.{_≡_, sym, ap, _∙_}
+use mathlib.Core.Path.{sym, ap, _∙_}
 use lib.ListN.{length}
 use lib.Seq.{length-take-le, length-sets}
 use borrow.Author.Needs.{needs}

@@ -53,8 +53,8 @@ turn : (c : tie.After-eat-some Inv-loop μ-loop) → c .eat-some .result .writte
     (c .before .before .before .before .loop .at)
     (c .eat-some .result .eaten)
 turn c w =
-    let head = c .before .before .before in
-    turns _ _ _ _ (head .before .loop .inv .0) (head .loop-test .taken) _ (c .eat-some .ensures .0 w)
+    let held = c .before .before .before in
+    turns _ _ _ _ (held .before .loop .inv .0) (held .loop-test .taken) _ (c .eat-some .ensures .0 w)
 
 -- where the call was made, of a turn whose lines were written
 abbrev ate : tie.After-struct-known2 Inv-loop μ-loop → tie.After-eat-some Inv-loop μ-loop

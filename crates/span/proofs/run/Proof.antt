@@ -4,7 +4,7 @@ use Prim.Native.Nat.{_+_, _-_, _≤_}
 use native.Mathlib.Omega.{arith}
 use mathlib.Core.Path.{_≡_, refl, sym, _∙_}
 use mathlib.Core.Bool.{true≢false}
-use mathlib.Core.Logic.{_⊎_, inl, inr}
+use mathlib.Core.Logic.{inl, inr}
 use lib.ListN.{length}
 use borrow.Author.Needs.{needs}
 use borrow.Author.Tests.{not-true, not-false}
@@ -38,8 +38,8 @@ same-length-2 c = search needs
 
 returns : tie.Need-returns Inv-loop μ-loop
 returns c =
-    let head = c .before .before .before .before .before .before .before .loop .inv in
-    (λ w. (head .2, inr (no-more (toZ w64 (ofZ w64 (c .before .before .before .read .result))) (c .if2 .taken))), head .1)
+    let held = c .before .before .before .before .before .before .before .loop .inv in
+    (λ w. (held .2, inr (no-more (toZ w64 (ofZ w64 (c .before .before .before .read .result))) (c .if2 .taken))), held .1)
 
 -- the loop's turn in which a read was made, and the read of a piece that is counted
 abbrev looped : tie.After-buf Inv-loop μ-loop → tie.At-loop Inv-loop μ-loop

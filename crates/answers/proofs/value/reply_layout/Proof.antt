@@ -8,7 +8,8 @@ use Rattle.layouts.specs.Layouts.{laid}
 use Rattle.items.specs.Items.{echoes, rowOf}
 use Rattle.items.specs.Answer.{framed, replyBody}
 use Rattle.answers.specs.Inside.{plainly, echoing}
-use Rattle.answers.proofs.Shown.{shows-plainly, shows-echoing, status-bytes, no-row}
+use Rattle.items.proofs.States.{status-bytes}
+use Rattle.answers.proofs.Shown.{shows-plainly, shows-echoing, no-row}
 use borrow.Author.Needs.{needs}
 use Rattle.answers.proofs.value.reply_layout.Statement.{statement}
 use Rattle.answers.proofs.value.reply_layout.Tie as tie

@@ -15,7 +15,7 @@ use Rattle.hearing.proofs.coming.code_of.Tie as tie
 
 -- ---- what each call answers, and what is known past each test
 
-enough : (c : tie.Else1) → ltb (c .before .before .args .t .come) 2 ≡ false
+enough : (c : tie.Else1) → ltb (c .before .before .args .t .came) 2 ≡ false
 enough c = le-ltb _ _ (c .if1 .left)
 
 abbrev first : tie.After-is-listed → tie.Else1
@@ -36,7 +36,7 @@ total c = total-is _ _ _ (c .total-of .ensures) (c .before .before .before .form
 abbrev second : tie.Else3 → tie.Else2
 second c = c .before .before .before
 
-whole : (c : tie.Else3) → (let t = tally (second c .before) in ltb (t .come) (totalOf (formComing t)) ≡ false)
+whole : (c : tie.Else3) → (let t = tally (second c .before) in ltb (t .came) (totalOf (formComing t)) ≡ false)
 whole c = le-ltb _ _ (rw (total (c .before .before)) at (c .if3 .left))
 
 abbrev listing : tie.After-same-form → tie.After-is-listed

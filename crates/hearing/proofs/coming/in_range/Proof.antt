@@ -17,10 +17,10 @@ use Rattle.hearing.proofs.coming.in_range.Tie as tie
 abbrev tally : tie.Else2 → Tally
 tally c = c .before .before .before .before .before .args .t
 
-near : (c : tie.Else2) → leb (tally c .begins + tally c .come) farthest ≡ true
+near : (c : tie.Else2) → leb (tally c .begins + tally c .came) farthest ≡ true
 near c =
     let t = tally c in
-    le-leb (t .begins + t .come) farthest (omega arith)
+    le-leb (t .begins + t .came) farthest (omega arith)
 
 -- no more packets are heard than bytes
 abbrev reached : tie.Else3 → tie.Else2
@@ -39,12 +39,12 @@ fewer c = le-leb _ _ (c .if4 .left)
 returns : tie.Need-returns
 returns c =
     let t = c .before .before .args .t in
-    sym (range-by t (lt-leb (t .begins + t .come) farthest (omega arith)) refl refl refl)
+    sym (range-by t (lt-leb (t .begins + t .came) farthest (omega arith)) refl refl refl)
 
 returns-2 : tie.Need-returns-2
 returns-2 c =
     let t = c .before .before .before .before .before .args .t in
-    sym (range-by t (lt-leb (t .begins + t .come) farthest (omega arith)) refl refl refl)
+    sym (range-by t (lt-leb (t .begins + t .came) farthest (omega arith)) refl refl refl)
 
 returns-3 : tie.Need-returns-3
 returns-3 c =

@@ -23,11 +23,11 @@ start c = c .before .before .before .before .before
 abbrev unskipped : tie.After-take-byte → tie.After-skippable
 unskipped c = c .before .before .before
 
-come : (c : tie.After-take-byte) → 0 < c .take-byte .result .come
+came : (c : tie.After-take-byte) → 0 < c .take-byte .result .came
 unfolding takingByte
-come c =
+came c =
     let t = start (unskipped c) .args .t in
-    let one : c .take-byte .result .come ≡ t .come + 1 = ap (λ (u : Tally). u .come) (c .take-byte .ensures) in
+    let one : c .take-byte .result .came ≡ t .came + 1 = ap (λ (u : Tally). u .came) (c .take-byte .ensures) in
     omega (arith, one)
 
 whole-packets-requires : tie.Need-whole-packets-requires
@@ -74,7 +74,7 @@ settle-requires : tie.Need-settle-requires
 settle-requires c κs =
     let s = start (unskipped c) in
     let a = s .args in
-    (subst (Sane 0) (sym (c .take-byte .ensures)) (sane-taking 0 (a .t) _ (sane-less 1 (omega arith) (s .pre .2))), come c)
+    (subst (Sane 0) (sym (c .take-byte .ensures)) (sane-taking 0 (a .t) _ (sane-less 1 (omega arith) (s .pre .2))), came c)
 
 returns-3 : tie.Need-returns-3
 returns-3 c =

@@ -19,7 +19,7 @@ returns-4 c =
     let third = c .before in
     let second = third .before .before in
     let first = second .before .before in
-    λ e. record { come = first .if1 .left; header = second .if2 .left; number = third .if3 .left; heard = not-none _ e }
+    λ e. record { came = first .if1 .left; header = second .if2 .left; number = third .if3 .left; heard = not-none _ e }
 
 pub is-between-spec : {M : Type 1} → statement M
 is-between-spec = tie.close (tie.spec returns returns-2 returns-3 returns-4)

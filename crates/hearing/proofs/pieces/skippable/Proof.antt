@@ -17,7 +17,7 @@ totalled c = c .before .before
 abbrev tally : tie.Else2 → Tally
 tally c = totalled c .before .before .before .before .args .t
 
-within : (c : tie.Else2) (k : ℕ) → tally c .come + k < totalled c .total-of .result → Samples (tally c) k
+within : (c : tie.Else2) (k : ℕ) → tally c .came + k < totalled c .total-of .result → Samples (tally c) k
 within c k short =
     let total = totalled c in
     let some = total-some (total .before .form-of-header .result) (total .total-of .result) (total .total-of .ensures) (omega arith) in

@@ -13,7 +13,7 @@ returns-2 c = rw (c .match .keys2) refl
 returns-3 : tie.Need-returns-3
 returns-3 c =
     let s = c .before .args in
-    set-or-asked-else (s .kind) (s .set) (s .request) (c .match .rest .0 .1) (c .match .rest .1)
+    set-or-asked-else (s .kind) (s .setting) (s .request) (c .match .rest .0 .1) (c .match .rest .1)
 
 pub set-or-asked-spec : {M : Type 1} → statement M
 set-or-asked-spec = tie.close (tie.spec returns returns-2 returns-3)

@@ -44,11 +44,11 @@ coded c = c .before .before .before
 abbrev code : tie.After-tell → ℕ
 code c = coded c .head-code .result
 
-abbrev come : tie.After-tell → tie.After-take-head
-come c = coded c .before .before .before .before .before .before .before
+abbrev came : tie.After-tell → tie.After-take-head
+came c = coded c .before .before .before .before .before .before .before
 
 tells : (c : tie.After-tell)
-    → (let t = come c in
+    → (let t = came c in
     Tells (given t) (headRead (code c) (after t)) (count t) (headLines (code c)) (out t) (c .tell .last .1 .0) (c .tell .result)
     (opening (given t) (piece t) (length (out t))))
 tells c =
@@ -58,7 +58,7 @@ tells c =
       are = d .head-due .ensures .0;
       fit = d .head-due .ensures .1;
       did = c .tell .ensures;
-      is = opens (come c) ∙ opening-says _ _ _ _ _ (coded c .before .before .before .if1 .left) (coded c .head-code .ensures);
+      is = opens (came c) ∙ opening-says _ _ _ _ _ (coded c .before .before .before .if1 .left) (coded c .head-code .ensures);
     }
 
 take-head-requires : tie.Need-take-head-requires
@@ -105,7 +105,7 @@ returns-3 : tie.Need-returns-3
 returns-3 c =
     let tested = c .before in
     let told = tested .before .before .before .before in
-    let n = count (come told) in
+    let n = count (came told) in
     let wrote = told .tell .result .wrote in
     room (tells told) _
     (ap (λ (x : Span). record { code = 1; consumed = n; wrote = wrote; span = x }) (c .after-head .ensures)) (tested .if2 .left)
