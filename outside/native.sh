@@ -74,7 +74,7 @@ fi
 quietly "$clang" --target="$machine-unknown-linux-gnu" -O3 -fPIC -ffunction-sections -Wno-override-module \
     -c -x ir "$shadow/module.bc" -o "$shadow/module.o"
 if [ $kind = program ]; then
-    quietly cc -o "$out/$name" "$shadow/module.o"
+    quietly cc -O2 -o "$out/$name" "$shadow/module.o" outside/c/os.c
 else
     rm -f "$out/lib$name.a"
     quietly "$kit/$tools/bin/llvm-ar" rcs "$out/lib$name.a" "$shadow/module.o"
