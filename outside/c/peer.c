@@ -401,7 +401,8 @@ static enum code cut(struct station *s, const int32_t *samples, size_t n, uint8_
         }
     } else {
         for (size_t i = 0; i < n; i++) {
-            int16_t x = samples[i] >> 8;
+            int32_t q = (samples[i] + 128) >> 8;
+            int16_t x = q > 32767 ? 32767 : q < -32768 ? -32768 : q;
             memcpy(at + 2 * i, &x, 2);
         }
     }

@@ -1,6 +1,7 @@
-//! Document 01 in plain safe Rust: the box, the harvester and the span text.
+//! Document 01, as the requests of document 02 that have landed change it, in plain safe Rust: the box, the harvester and the
+//! span text.
 //!
-//! Written from the document alone, without a look at the proved crates' rules (names of codes apart), so that a
+//! Written from the documents alone, without a look at the proved crates' rules (names of codes apart), so that a
 //! difference between the two says that one of them misread it. It is also the peer that the benchmarks time: iterators
 //! over exact chunks, state behind `&mut self`, nothing copied that can be borrowed.
 

@@ -77,6 +77,11 @@ pub fn samples_fit(samples: &[i32]) -> bool {
     !samples.iter().fold(false, |bad, x| bad | !(-8_388_608..=8_388_607).contains(x))
 }
 
+/// What is sent of a sample at 16 bits: a 256th of it to the nearest whole number, halves up, but none above 32,767.
+pub fn to_sixteen(sample: i32) -> i16 {
+    ((sample + 128) >> 8).clamp(-32_768, 32_767) as i16
+}
+
 /// Writes a packet into a slice of exactly the form's length.
 pub fn write(form: Form, position: u64, samples: &[i32], packet: &mut [u8]) {
     packet[..2].copy_from_slice(&form.header());
@@ -89,7 +94,7 @@ pub fn write(form: Form, position: u64, samples: &[i32], packet: &mut [u8]) {
         }
     } else {
         for (place, sample) in body.as_chunks_mut::<2>().0.iter_mut().zip(samples) {
-            *place = ((sample >> 8) as i16).to_le_bytes();
+            *place = to_sixteen(*sample).to_le_bytes();
         }
     }
 }

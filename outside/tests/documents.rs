@@ -1,6 +1,6 @@
-//! The examples of document 01, and those that source document 003 prints.
+//! The examples of documents 01 and 02, and those that source document 003 prints.
 
-use outside::packet::{number_at, sample_bytes, samples_fit};
+use outside::packet::{number_at, sample_bytes, samples_fit, to_sixteen};
 use outside::reader::unpack;
 use outside::wish::StateWish;
 use outside::{reply, span, Code, Form, Head, Reader, Reply, Station, Wish};
@@ -244,14 +244,14 @@ fn minus_257_and_every_form_cut_and_unpacked() {
         if mode == 0x80 {
             assert_eq!(packet[4..7], [0xFF, 0xFE, 0xFF]);
         } else {
-            assert_eq!(packet[4..6], [0xFE, 0xFF]);
+            assert_eq!(packet[4..8], [0xFF, 0xFF, 0xFF, 0x7F]);
         }
         assert_eq!(sample_bytes(packet), &packet[4..]);
         assert!(sample_bytes(&packet[1..]).is_empty());
         let mut numbers = vec![0; form.samples()];
         assert_eq!(unpack(packet, &mut numbers), Ok(form.samples()));
-        let shift = 24 - form.bits;
-        assert!(numbers.iter().zip(&samples).all(|(n, s)| *n == s >> shift));
+        let sent = |s: i32| if mode == 0x80 { s } else { to_sixteen(s).into() };
+        assert!(numbers.iter().zip(&samples).all(|(n, s)| *n == sent(*s)));
         assert_eq!(unpack(packet, &mut numbers[1..]), Err(Code::NoRoom));
         assert_eq!(unpack(&packet[1..], &mut []), Err(Code::NotAPacket));
         samples[3] = 8_388_608;
@@ -263,6 +263,24 @@ fn minus_257_and_every_form_cut_and_unpacked() {
         assert_eq!(station.cut(&samples[1..], &mut []).code, Code::WhileIdle);
         station.settings.count = 4_000_000_001;
         assert_eq!(station.cut(&samples[1..], &mut []).code, Code::Broken);
+    }
+}
+
+/// Document 02, No. 3, by what it says of the result and not by how it is worked out.
+#[test]
+fn sixteen_bits_do_not_lean() {
+    for (sample, sent) in
+        [(127, 0), (128, 1), (-128, 0), (-129, -1), (-257, -1), (8_388_607, 32_767), (-8_388_608, -32_768)]
+    {
+        assert_eq!(to_sixteen(sample), sent);
+    }
+    let error = |sample: i32| 256 * i32::from(to_sixteen(sample)) - sample;
+    assert!((-8_388_608..8_388_480).all(|sample| (-127..=128).contains(&error(sample))));
+    assert!(
+        (8_388_480..=8_388_607).all(|sample| to_sixteen(sample) == 32_767 && (-255..=-128).contains(&error(sample)))
+    );
+    for first in [-8_388_608, -300, -129, 0, 77, 8_388_224] {
+        assert_eq!((first..first + 256).map(error).sum::<i32>(), 128);
     }
 }
 

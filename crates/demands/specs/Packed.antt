@@ -11,7 +11,7 @@ use Rattle.cutting.specs.Cutting.{formNow, cuttingOf}
 use Rattle.reader.specs.Reading.{unpackCode, numbersWritten}
 
 -- A packet that the box cut, in any of the four forms, unpacked into a slice with room for its numbers: each sample as it
--- is at the width sent (`narrowed`: itself at 24 bits, divided by 256 towards minus infinity at 16).
+-- is at the width sent (`narrowed`: itself at 24 bits; at 16 with 128 added, divided by 256 rounding down, held at 32,767).
 pub record Unpacks (s : Station) (samples : List ℤ) (room out : ℕ) : Type 0 where
   pub code : unpackCode (cuttingOf s samples room .bytes) out ≡ Code.done
   pub numbers : numbersWritten (cuttingOf s samples room .bytes) out ≡ map (narrowed (formNow (s .settings) .bits)) samples

@@ -1,10 +1,10 @@
--- The judged examples of document 01 that are marked to be proved, as one table in the page's order. What a message does
--- is asked of a fresh box, fed in one call with 64 bytes of room.
+-- The judged examples of document 01 that are marked to be proved, as one table in the page's order, and behind them those that
+-- document 02 gives with a request. What a message does is asked of a fresh box, fed in one call with 64 bytes of room.
 use Prim.Native.Nat.{ℕ}
 use mathlib.Core.Bool.{Bool, true, _&&_}
 use mathlib.Core.List.{List, [], _∷_}
 use lib.Dec.{eqb}
-use lib.IntN.{ℤ}
+use lib.IntN.{ℤ, pos}
 use lib.ListN.{replicate}
 use Rattle.wire.specs.Number.{field}
 use Rattle.wire.specs.Header.{nak}
@@ -94,7 +94,13 @@ starred =
     ∷ steps 7 7 65_535
     ∷ steps 65_535 1 1
     ∷ packs 24 (minus 257) (0xFF ∷ 0xFE ∷ 0xFF ∷ [])
-    ∷ packs 16 (minus 257) (0xFE ∷ 0xFF ∷ [])
+    ∷ packs 16 (minus 257) (0xFF ∷ 0xFF ∷ [])
+    -- 02, No. 3: 127 gives 0, 128 gives 1, -128 gives 0, -129 gives -1 and 8,388,607 gives 32,767
+    ∷ packs 16 (pos 127) (0x00 ∷ 0x00 ∷ [])
+    ∷ packs 16 (pos 128) (0x01 ∷ 0x00 ∷ [])
+    ∷ packs 16 (minus 128) (0x00 ∷ 0x00 ∷ [])
+    ∷ packs 16 (minus 129) (0xFF ∷ 0xFF ∷ [])
+    ∷ packs 16 (pos 8_388_607) (0xFF ∷ 0x7F ∷ [])
     ∷ []
 
 abbrev pub allHold : List Example → Bool

@@ -83,6 +83,24 @@ pub(crate) fn counts() {
     cut(b"24 before 20", last, 128, 8_388_608, 0);
 }
 
+// 16 bits, small: "add 128, divide by 256 rounding down, and hold at 32,767".
+pub(crate) fn sixteen_bits() {
+    let small_16 = made(true, 0x00, 1, 1);
+    cut(b"of 127", small_16, 256, 127, 516);
+    cut(b"of 128", small_16, 256, 128, 516);
+    cut(b"of 383", small_16, 256, 383, 516);
+    cut(b"of 384", small_16, 256, 384, 516);
+    cut(b"of -128", small_16, 256, -128, 516);
+    cut(b"of -129", small_16, 256, -129, 516);
+    cut(b"of 8388223", small_16, 256, 8_388_223, 516);
+    cut(b"of 8388224", small_16, 256, 8_388_224, 516);
+    cut(b"of 8388480", small_16, 256, 8_388_480, 516);
+    cut(b"of 8388607", small_16, 256, 8_388_607, 516);
+    cut(b"of -8388480", small_16, 256, -8_388_480, 516);
+    cut(b"of -8388481", small_16, 256, -8_388_481, 516);
+    cut(b"of -8388608", small_16, 256, -8_388_608, 516);
+}
+
 // Feeds a message with so much room for the reply.
 fn feed(words: &[u8], s: Station, message: &[u8], room: usize) {
     let mut reply = [0u8; 64];

@@ -1,6 +1,7 @@
-// Runs document 01's examples and edges, and the examples that source document 003 prints. What is printed is compared, a line
-// for each call: what it was, its code, and its bytes or numbers. A constant of 01 that is wrong in its definition and in the code
-// alike is proved all the same: here it shows, since what is taken stands beside what lies next to it.
+// Runs the examples and edges of document 01, as the requests of document 02 that have landed change them, and the examples that
+// source document 003 prints. What is printed is compared, a line for each call: what it was, its code, and its bytes or numbers.
+// A constant of 01 that is wrong in its definition and in the code alike is proved all the same: here it shows, since what is
+// taken stands beside what lies next to it.
 mod boxes; // boxes.rt: the box at edges that no message of the script reaches
 mod harvest; // harvest.rt: the harvester's calls at their edges
 mod script; // script.rt: the messages on standard input, fed to boxes
@@ -28,4 +29,6 @@ fn main() {
     harvest::replies_read();
     telling::say(b"\n# Heads written\n");
     harvest::heads_written();
+    telling::say(b"\n# Packets of 16 bits: code, and the packet's first ten bytes\n");
+    boxes::sixteen_bits();
 }

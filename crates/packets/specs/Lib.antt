@@ -1,3 +1,4 @@
 pub mod Forms
 pub mod Numbers
 pub mod Samples
+pub mod Rounding

@@ -1,8 +1,8 @@
 -- Samples: whole numbers from -8,388,608 to 8,388,607, and their bytes in a packet.
-use Prim.Native.Nat.{ℕ, zero, suc, _+_, _*_, _-_, _/_, _^_}
+use Prim.Native.Nat.{ℕ, zero, suc, _+_, _*_, _-_, _/_, _^_, min}
 use mathlib.Core.Bool.{Bool, true, _&&_}
 use mathlib.Core.List.{List, [], _∷_, _++_}
-use lib.IntN.{ℤ, pos}
+use lib.IntN.{ℤ, pos, negsuc, _+ℤ_}
 use lib.Signed.{leZ, shrZ}
 use Rattle.wire.specs.Number.{bytes, field}
 use Rattle.wire.specs.Signed.{minus, coded, signed}
@@ -15,10 +15,32 @@ abbrev pub allSamples : List ℤ → Bool
 allSamples [] = true
 allSamples (z ∷ zs) = isSample z && allSamples zs
 
--- What is sent of a sample at a width: at 24 bits itself; at 16 "the value divided by 256, rounded towards minus infinity".
--- In one rule: divided by 2 ^ (24 - bits), rounded down. (`shrZ` is the quotient rounded towards minus infinity.)
+-- what one of a width's numbers counts in samples: 256 at 16 bits, 1 at 24
+abbrev pub scaleAt : ℕ → ℕ
+scaleAt bits = 2 ^ (24 - bits)
+
+-- half of that: 128 at 16 bits, 0 at 24
+abbrev pub halfAt : ℕ → ℕ
+halfAt bits = scaleAt bits / 2
+
+-- the greatest number of a width: 32,767 at 16 bits
+abbrev pub topAt : ℕ → ℕ
+topAt bits = 2 ^ (bits - 1) - 1
+
+-- "add 128, divide by 256 rounding down" (`shrZ` is the quotient rounded down, towards minus infinity)
+abbrev pub rounded : ℕ → ℤ → ℤ
+rounded bits z = shrZ (z +ℤ pos (halfAt bits)) (scaleAt bits)
+
+-- a number held at m: m where it is greater
+abbrev pub atMost : ℕ → ℤ → ℤ
+atMost m (pos n) = pos (min n m)
+atMost m (negsuc n) = negsuc n
+
+-- What is sent of a sample at a width: at 24 bits itself; at 16 "add 128, divide by 256 rounding down, and hold at 32,767"
+-- (document 02, No. 3). In one rule over the width: half the scale is added, the sum divided by the scale, rounding down, and the
+-- quotient held at the width's greatest number.
 abbrev pub narrowed : ℕ → ℤ → ℤ
-narrowed bits z = shrZ z (2 ^ (24 - bits))
+narrowed bits z = atMost (topAt bits) (rounded bits z)
 
 -- the bytes of a sample at a width
 abbrev pub sampleBytes : ℕ → ℤ → List ℕ

@@ -3,20 +3,21 @@
 -- Assumes nothing.
 use Prim.Native.Nat.{ℕ, zero, suc, _+_, _-_, _%_, _^_, _≤_, _<_}
 use mathlib.Core.Path.{_≡_, refl, ap, _∙_}
-use mathlib.Core.Bool.{true}
-use native.Mathlib.Nat.{div-one, add-mod-right, mod-eq-of-lt, mod-eq-sub-mod}
+use mathlib.Core.Bool.{true, false}
+use native.Mathlib.Nat.{add-mod-right, mod-eq-of-lt, mod-eq-sub-mod}
 use native.Mathlib.Decide.{decLt}
 use native.Mathlib.Omega.{arith}
 use lib.IntN.{ℤ, pos, negsuc, subℕ, _+ℤ_, _-ℤ_}
-use lib.Signed.{mag, quotZ}
+use lib.Signed.{mag, leZ, ltZ, mag-shr}
 use mir.Syntax.{Width, w32}
 use mir.Val.{SFits, toZ, ofZ}
 use mir.Facts.{toZ-ofZ, toZ-pos}
-use borrow.Author.Tests.{leb-true, lt-ltb, le-ltb}
-use lib.Dec.{leb}
-use Rattle.wire.proofs.Laws.{and-left}
+use borrow.Author.Tests.{leb-true, ltb-true, ltb-false, lt-ltb, le-ltb, le-leb}
 use Rattle.wire.specs.Signed.{minus, coded, signed}
-use Rattle.packets.specs.Samples.{isSample, narrowed}
+use Rattle.wire.proofs.Laws.{never}
+use Rattle.packets.specs.Samples.{isSample, atMost, rounded, narrowed}
+use Rattle.packets.proofs.Quotients.{by-sum}
+use Rattle.packets.proofs.Narrowed.{sample-small, narrowed-small}
 
 -- z lifted by h, which is more than -z
 abbrev pub lifted : ℕ → ℤ → ℕ
@@ -63,26 +64,45 @@ turned k h e (negsuc n) l =
     let low : h - suc n + h < h + h = omega arith in
     mod-eq-of-lt low ∙ rw e (omega arith)
 
--- at 24 bits a sample is sent as it is
-pub narrowed-24 : (z : ℤ) → narrowed 24 z ≡ z
-narrowed-24 (pos n) = ap pos (div-one n)
-narrowed-24 (negsuc n) = ap negsuc (div-one n)
+-- ---- what is sent at 16 bits, on the way to it
 
--- a sample is below half a turn of 24 bits, whichever its sign
-pub sample-small : (z : ℤ) → isSample z ≡ true → mag z < 8_388_608
-sample-small (pos n) s = omega (arith, leb-true n 8_388_607 s)
-sample-small (negsuc n) s = omega (arith, leb-true n 8_388_607 (and-left (leb n 8_388_607) true s))
+raise-mag : (h : ℕ) (z : ℤ) → mag (z +ℤ pos h) ≤ mag z + h
+raise-mag h (pos n) = omega arith
+raise-mag h (negsuc n) = by-sum (λ y. mag y ≤ n + h) h n (λ l. omega arith) (λ l. omega arith)
 
--- and divided by 256 below half a turn of 16
-pub sixteen-small : (z : ℤ) → isSample z ≡ true → mag (narrowed 16 z) < 32_768
-sixteen-small (pos n) s = omega (arith, sample-small (pos n) s)
-sixteen-small (negsuc n) s = omega (arith, sample-small (negsuc n) s)
+module _ (z : ℤ) (s : isSample z ≡ true) where
+  -- a sample and 128, and a 256th of that, fit 32 bits
+  pub raised-fits : SFits w32 (z +ℤ pos 128)
+  raised-fits = record { sfits = omega (arith, raise-mag 128 z, sample-small z s) }
 
--- "Dividing towards zero for 16 bits" gives others: -257 would be sent as FF FF.
-pub towards-zero-fails : ((z : ℤ) → isSample z ≡ true → coded 16 (quotZ z (pos 256)) ≡ coded 16 (narrowed 16 z)) → ⊥
-towards-zero-fails same =
-    let wrong : _≡_ {A = ℕ} 0xFFFF 0xFFFE = same (minus 257) refl in
-    omega arith
+  pub rounded-fits : SFits w32 (rounded 16 z)
+  rounded-fits = record { sfits = omega (arith, mag-shr (z +ℤ pos 128) 256, raise-mag 128 z, sample-small z s) }
+
+  pub sixteen-small : mag (narrowed 16 z) < 32_768
+  sixteen-small = narrowed-small 16 (omega arith) (omega arith) z s
+
+  -- the quotient is not below what is held
+  pub rounded-low : leZ (minus 32_768) (rounded 16 z) ≡ true
+  rounded-low = go (rounded 16 z) sixteen-small
+    where
+      go : (q : ℤ) → mag (atMost 32_767 q) < 32_768 → leZ (minus 32_768) q ≡ true
+      go (pos n) l = refl
+      go (negsuc n) l = le-leb n 32_767 (omega arith)
+
+-- ---- held, by the tests
+
+pub hold-high : (m : ℕ) (q : ℤ) → ltZ (pos m) q ≡ true → pos m ≡ atMost m q
+hold-high m (pos n) h = ap pos (omega (arith, ltb-true m n h))
+hold-high m (negsuc n) h = never h
+
+pub hold-between : (m : ℕ) (q : ℤ) → ltZ (pos m) q ≡ false → q ≡ atMost m q
+hold-between m (pos n) h = ap pos (omega (arith, ltb-false m n h))
+hold-between m (negsuc n) h = refl
+
+-- a number that is not below the least of the width
+pub not-below : {X : Type 0} (m : ℕ) (q : ℤ) → leZ (negsuc m) q ≡ true → ltZ q (negsuc m) ≡ true → X
+not-below m (pos n) l h = never h
+not-below m (negsuc n) l h = absurd (omega (arith, leb-true n m l, ltb-true m n h))
 
 -- ---- and back: a code lifted by half a turn, the whole turns taken off, and the half turn taken off again
 

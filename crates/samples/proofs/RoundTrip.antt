@@ -1,19 +1,16 @@
--- What was packed is unpacked: at every width of whole bytes, the samples that come back are those that went in, divided by
--- 2 ^ (24 - bits) and rounded towards minus infinity; at 24 bits the samples themselves. Assumes nothing.
-use Prim.Native.Nat.{ℕ, suc, _+_, _*_, _-_, _/_, _%_, _^_, _≤_, _<_}
+-- What was packed is unpacked: at every width of whole bytes, what comes back is what was sent of the samples that went in
+-- (`narrowed`). Assumes nothing.
+use Prim.Native.Nat.{ℕ, _+_, _*_, _-_, _/_, _^_, _≤_, _<_}
 use mathlib.Core.Path.{_≡_, refl, sym, ap, _∙_}
 use mathlib.Core.Bool.{true}
 use mathlib.Core.List.{List, [], _∷_, _++_, map, append-assoc}
-use native.Mathlib.Nat.{div-lt-iff-lt-mul, div-add-mod', mod-lt, mul-suc, mul-zero, suc-mul}
+use native.Mathlib.Nat.{mul-suc, mul-zero}
 use native.Mathlib.Numerals.{add-one}
 use native.Mathlib.Omega.{arith}
-use lib.IntN.{ℤ, pos, negsuc, _+ℤ_, _*ℤ_}
+use lib.IntN.{ℤ}
 use lib.ListN.{length, length-append}
-use lib.Pow.{pow-pos, pow-add}
 use lib.Seq.{take-at, drop-at}
-use lib.Signed.{mag, shrZ}
-use borrow.Author.Tests.{lt-ltb}
-use Rattle.samples.proofs.Codes.{sample-small}
+use lib.Signed.{mag}
 use Rattle.wire.specs.Signed.{coded}
 use Rattle.wire.proofs.Laws.{and-left, and-right}
 use Rattle.wire.proofs.Numbers.{length-bytes, number-bytes}
@@ -22,20 +19,9 @@ use Rattle.packets.specs.declared.Form.{Form}
 use Rattle.packets.specs.Forms.{listedForm}
 use Rattle.packets.specs.Samples.{isSample, allSamples, narrowed, sampleBytes, samplesBytes, sampleAt, samplesFrom}
 use Rattle.packets.proofs.Forms.{is-listed-form}
-
-mag-shift : (z : ℤ) (m : ℕ) → mag (shrZ z m) ≡ mag z / m
-mag-shift (pos n) m = refl
-mag-shift (negsuc n) m = refl
+use Rattle.packets.proofs.Narrowed.{narrowed-small}
 
 module _ (bits : ℕ) (some : 1 ≤ bits) (most : bits ≤ 24) where
-  -- what is sent of a sample fits the width
-  pub narrowed-small : (z : ℤ) → isSample z ≡ true → mag (narrowed bits z) < 2 ^ (bits - 1)
-  narrowed-small z s =
-      let all : (bits - 1) + (24 - bits) ≡ 23 = omega arith in
-      let power : 2 ^ (bits - 1) * 2 ^ (24 - bits) ≡ 8_388_608 = sym (pow-add 2 (bits - 1) (24 - bits)) ∙ ap (λ (n : ℕ). 2 ^ n) all in
-      let h : mag z < 2 ^ (bits - 1) * 2 ^ (24 - bits) = rw power (sample-small z s) in
-      rw (mag-shift z (2 ^ (24 - bits))) (div-lt-iff-lt-mul (pow-pos (24 - bits)) .1 h)
-
   module _ (whole : 2 ^ bits ≡ 256 ^ (bits / 8)) where
     -- a sample's bytes are read as what was sent of it, whatever stands before and after them
     pub sample-back : (before after : List ℕ) (i : ℕ) (z : ℤ) → length before ≡ bits / 8 * i → isSample z ≡ true
@@ -43,7 +29,7 @@ module _ (bits : ℕ) (some : 1 ≤ bits) (most : bits ≤ 24) where
     sample-back before after i z long s =
         let n = bits / 8 in
         let code = coded bits (narrowed bits z) in
-        let small : mag (narrowed bits z) < 2 ^ (bits - 1) = narrowed-small z s in
+        let small : mag (narrowed bits z) < 2 ^ (bits - 1) = narrowed-small bits some most z s in
         let below : code < 256 ^ (bits / 8) = rw (← whole) (coded-below bits (narrowed bits z) some small) in
         let its = sampleBytes bits z in
         rw (drop-at before (its ++ after) (n * i) long, take-at its after n (length-bytes n code), number-bytes n code below)
@@ -68,21 +54,3 @@ module _ (bits : ℕ) (some : 1 ≤ bits) (most : bits ≤ 24) where
 pub round-trip-form : (f : Form) → listedForm f ≡ true → (zs : List ℤ) → allSamples zs ≡ true
     → samplesFrom (f .bits) (samplesBytes (f .bits) zs) 0 (length zs) ≡ map (narrowed (f .bits)) zs
 round-trip-form f l = let g = is-listed-form f l in round-trip (f .bits) (omega arith) (g .narrow) (g .bytewise)
-
--- "divided by 256, rounded towards minus infinity": at each width what is sent is the quotient by 2 ^ (24 - bits) whose
--- remainder is not negative and below the divisor.
-floor : (m : ℕ) → 0 < m → (z : ℤ) → (r : ℕ) × ((r < m) × (z ≡ shrZ z m *ℤ pos m +ℤ pos r))
-floor m some (pos n) = (n % m, (mod-lt n some, ap pos (sym (div-add-mod' n m))))
-floor m some (negsuc n) =
-    let low : n % m < m = mod-lt n some in
-    let parts : n / m * m + n % m ≡ n = div-add-mod' n m in
-    let turn : suc (n / m) * m ≡ suc (n / m * m + (m - 1)) = suc-mul (n / m) m ∙ omega arith in (
-      m - suc (n % m),
-      (omega arith, sym (rw (turn, lt-ltb (m - suc (n % m)) (suc (n / m * m + (m - 1))) (omega arith)) (ap negsuc (omega arith)))),
-    )
-
-pub narrowed-floor : (bits : ℕ) (z : ℤ) → (r : ℕ) × ((r < 2 ^ (24 - bits)) × (z ≡ narrowed bits z *ℤ pos (2 ^ (24 - bits)) +ℤ pos r))
-narrowed-floor bits z = floor (2 ^ (24 - bits)) (pow-pos (24 - bits)) z
-
-pub narrowed-16 : (z : ℤ) → (r : ℕ) × ((r < 256) × (z ≡ narrowed 16 z *ℤ pos 256 +ℤ pos r))
-narrowed-16 z = narrowed-floor 16 z

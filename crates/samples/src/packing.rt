@@ -7,10 +7,11 @@ ghost use mathlib.Core.List.{_++_};
 ghost use Prim.Native.Nat.{_+_, _*_, _≤_, _<_};
 ghost use lib.IntN.{pos};
 ghost use lib.ListN.{length, getD, take, drop};
+ghost use lib.Signed.{leZ};
 ghost use lib.Seq.{sets};
 ghost use Rattle.wire.specs.Number.{bytes};
-ghost use Rattle.wire.specs.Signed.{coded};
-ghost use Rattle.packets.specs.Samples.{allSamples, narrowed, samplesBytes};
+ghost use Rattle.wire.specs.Signed.{minus, coded};
+ghost use Rattle.packets.specs.Samples.{allSamples, atMost, narrowed, samplesBytes};
 ghost use Rattle.samples.specs.Packing.{mayPack, packedOf};
 
 // Writes a word at a place that the slice has: stores of one number side by side are one of the processor's. (`wire::put` looks
@@ -54,13 +55,28 @@ fn code24(samples: &[i32], at: usize) -> u32
     (above + 8388608) % 16777216
 }
 
-// What is sent of it at 16 bits: "16-bit form (house): the value divided by 256, rounded towards minus infinity", as a shift
-// rounds.
+// "hold at 32,767": a number above it becomes 32,767. Of a sample nothing comes below -32,768, so that the second test never
+// holds; but a number that is held at both ends is narrowed by one instruction of the processor's, many at once.
+fn hold16(q: i32) -> i32
+    requires { ⌜ leZ (minus 32768) q ≡ true ⌝ }
+    ensures { λ r. ⌜ r ≡ atMost 32767 q ⌝ }
+{
+    if 32767 < q {
+        return 32767;
+    }
+    if q < -32768 {
+        return -32768;
+    }
+    q
+}
+
+// What is sent of it at 16 bits: "add 128, divide by 256 rounding down, and hold at 32,767". A shift rounds down.
 fn code16(samples: &[i32], at: usize) -> u16
     requires { ⌜ (allSamples (now samples) ≡ true) × (at < length (now samples)) ⌝ }
     ensures { λ r. ⌜ r ≡ coded 16 (narrowed 16 (getD (now (samples .entry)) at (pos 0))) ⌝ }
 {
-    let above = ((samples[at] >> 8) + 32768) as u32;
+    let sent = hold16((samples[at] + 128) >> 8);
+    let above = (sent + 32768) as u32;
     ((above + 32768) % 65536) as u16
 }
 

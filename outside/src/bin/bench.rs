@@ -246,7 +246,7 @@ fn main() {
     let rounds = if quick { 200 } else { 4000 };
     head("message or packet");
     feed(&frequencies(), rounds, Some(1.0));
-    for ((what, form, mode, size), wanted) in FORMS.into_iter().zip([Some(0.8), None, Some(1.25), None]) {
+    for ((what, form, mode, size), wanted) in FORMS.into_iter().zip([Some(0.8), None, Some(0.8), Some(0.8)]) {
         cut(what, form, mode, size, rounds, wanted);
     }
     for (what, form, ..) in FORMS {

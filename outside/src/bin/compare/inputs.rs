@@ -302,8 +302,13 @@ pub fn cutting_state(r: &mut Random) -> Vec<u8> {
 }
 
 pub fn sample(r: &mut Random) -> i32 {
-    match r.below(4) {
+    match r.below(8) {
         0 => r.of(&[-8_388_608, -8_388_607, -65_537, -257, -256, -255, -1, 0, 1, 255, 256, 257, 8_388_606, 8_388_607]),
+        // where 16 bits step from one number to the next, and from where on they are held
+        1 => r.of(&[
+            -8_388_481, -8_388_480, -385, -384, -129, -128, 127, 128, 383, 384, 8_388_223, 8_388_224, 8_388_479,
+            8_388_480,
+        ]),
         _ => (r.any() as i32) >> 8,
     }
 }

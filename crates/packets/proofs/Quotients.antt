@@ -1,0 +1,68 @@
+-- Whole numbers of either sign, and their quotients rounded down. Assumes nothing.
+use Prim.Native.Nat.{ℕ, zero, suc, _+_, _*_, _-_, _/_, _%_, _≤_, _<_}
+use mathlib.Core.Path.{_≡_, refl, sym, ap, subst, _∙_}
+use native.Mathlib.Nat.{div-add-mod', div-eq-of-lt, div-eq-sub-div, add-div-right, mod-lt, suc-mul}
+use native.Mathlib.Numerals.{add-one}
+use native.Mathlib.Decide.{decLt}
+use native.Mathlib.Omega.{arith}
+use lib.IntN.{ℤ, pos, negsuc, negℤ, sucℤ, _+ℤ_, _-ℤ_, _*ℤ_, +ℤ-assoc, +ℤ-comm, +ℤ-negℤ-cancel}
+use lib.Signed.{shrZ}
+use borrow.Author.Tests.{lt-ltb, le-ltb}
+
+-- ---- h added to a number below zero, which stays below it or not
+
+raise-low : (h n : ℕ) → h ≤ n → negsuc n +ℤ pos h ≡ negsuc (n - h)
+raise-low h n l = rw (lt-ltb h (suc n) (omega arith)) (ap negsuc (omega arith))
+
+raise-high : (h n : ℕ) → n < h → negsuc n +ℤ pos h ≡ pos (h - suc n)
+raise-high h n l = rw (le-ltb h (suc n) l)
+
+pub by-sum : (P : ℤ → Type 0) (h n : ℕ) → (h ≤ n → P (negsuc (n - h))) → (n < h → P (pos (h - suc n))) → P (negsuc n +ℤ pos h)
+by-sum P h n low high =
+    elim (decLt n h) [
+      | yes l ↦ subst P (sym (raise-high h n l)) (high l)
+      | no l ↦ let few : h ≤ n = omega arith in subst P (sym (raise-low h n few)) (low few)
+    ]
+
+-- ---- one number less another
+
+pub less-low : (a b : ℕ) → b ≤ a → pos a -ℤ pos b ≡ pos (a - b)
+less-low a zero l = ap pos (omega arith)
+less-low a (suc b) l = rw (le-ltb a (suc b) l)
+
+pub less-high : (a b : ℕ) → a < b → pos a -ℤ pos b ≡ negsuc (b - suc a)
+less-high a zero l = absurd (omega arith)
+less-high a (suc b) l = rw (lt-ltb a (suc b) l)
+
+-- what two equal sums have in common is taken from both
+pub balance : (q z h r : ℤ) → z +ℤ h ≡ q +ℤ r → q -ℤ z ≡ h -ℤ r
+balance q z h r e =
+    let moved : q ≡ (h -ℤ r) +ℤ z
+    = sym (+ℤ-negℤ-cancel q r) ∙ ap (λ (x : ℤ). x -ℤ r) (sym e) ∙ +ℤ-assoc z h (negℤ r) ∙ +ℤ-comm z (h -ℤ r) in
+    ap (λ (x : ℤ). x -ℤ z) moved ∙ +ℤ-negℤ-cancel (h -ℤ r) z
+
+-- ---- the quotient rounded down
+
+module _ (m : ℕ) (some : 0 < m) where
+  -- its remainder is not negative, and below the divisor
+  pub floor : (z : ℤ) → (r : ℕ) × ((r < m) × (z ≡ shrZ z m *ℤ pos m +ℤ pos r))
+  floor (pos n) = (n % m, (mod-lt n some, ap pos (sym (div-add-mod' n m))))
+  floor (negsuc n) =
+      let low : n % m < m = mod-lt n some in
+      let parts : n / m * m + n % m ≡ n = div-add-mod' n m in
+      let turn : suc (n / m) * m ≡ suc (n / m * m + (m - 1)) = suc-mul (n / m) m ∙ omega arith in (
+        m - suc (n % m),
+        (omega arith, sym (rw (turn, lt-ltb (m - suc (n % m)) (suc (n / m * m + (m - 1))) (omega arith)) (ap negsuc (omega arith)))),
+      )
+
+  -- a divisor more is one more
+  pub shift-on : (z : ℤ) → shrZ (z +ℤ pos m) m ≡ sucℤ (shrZ z m)
+  shift-on (pos n) = ap pos (add-div-right n some ∙ add-one (n / m))
+  shift-on (negsuc n) =
+      by-sum (λ y. shrZ y m ≡ sucℤ (negsuc (n / m))) m n low high
+    where
+      low : m ≤ n → negsuc ((n - m) / m) ≡ sucℤ (negsuc (n / m))
+      low l = rw (div-eq-sub-div some l, add-one ((n - m) / m))
+
+      high : n < m → pos ((m - suc n) / m) ≡ sucℤ (negsuc (n / m))
+      high l = rw (div-eq-of-lt l, div-eq-of-lt {n = m - suc n} {m = m} (omega arith))
