@@ -1,4 +1,4 @@
--- Document 01's starred examples hold of the definitions, all of them by one computation over the table.
+-- Document 01's starred examples, and 02's, hold of the definitions, all of them by one computation over the table.
 -- Assumes nothing.
 use lib.Dec.{T}
 use Rattle.rates.specs.Rate.{rateOf, nearestUpTo}

@@ -94,6 +94,7 @@ starred =
     ∷ steps 7 7 65_535
     ∷ steps 65_535 1 1
     ∷ packs 24 (minus 257) (0xFF ∷ 0xFE ∷ 0xFF ∷ [])
+    -- "The marked example -257 now gives FF FF in 16 bits." (02, No. 3)
     ∷ packs 16 (minus 257) (0xFF ∷ 0xFF ∷ [])
     -- 02, No. 3: 127 gives 0, 128 gives 1, -128 gives 0, -129 gives -1 and 8,388,607 gives 32,767
     ∷ packs 16 (pos 127) (0x00 ∷ 0x00 ∷ [])

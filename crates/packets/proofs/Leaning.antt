@@ -45,16 +45,16 @@ module _ (f : ℤ → ℤ) (n : ℕ) (period : (z : ℤ) → f (z +ℤ pos n) �
 
 -- ---- the errors of a quotient rounded down, which have the divisor's period, whatever is added before
 
-abbrev quotient : ℕ → ℕ → ℤ → ℤ
-quotient m a z = shrZ (z +ℤ pos a) m
+abbrev floorOf : ℕ → ℕ → ℤ → ℤ
+floorOf m a z = shrZ (z +ℤ pos a) m
 
-repeats : (m a : ℕ) → 0 < m → (z : ℤ) → errorOf m (quotient m a) (z +ℤ pos m) ≡ errorOf m (quotient m a) z
+repeats : (m a : ℕ) → 0 < m → (z : ℤ) → errorOf m (floorOf m a) (z +ℤ pos m) ≡ errorOf m (floorOf m a) z
 repeats m a some z =
-    let q = quotient m a z in
+    let q = floorOf m a z in
     let swap : z +ℤ pos m +ℤ pos a ≡ z +ℤ pos a +ℤ pos m
     = +ℤ-assoc z (pos m) (pos a) ∙ ap (λ (x : ℤ). z +ℤ x) (+ℤ-comm (pos m) (pos a)) ∙ sym (+ℤ-assoc z (pos a) (pos m)) in
-    let next : quotient m a (z +ℤ pos m) ≡ sucℤ q = ap (λ (x : ℤ). shrZ x m) swap ∙ shift-on m some (z +ℤ pos a) in
-    let scaled : quotient m a (z +ℤ pos m) *ℤ pos m ≡ q *ℤ pos m +ℤ pos m
+    let next : floorOf m a (z +ℤ pos m) ≡ sucℤ q = ap (λ (x : ℤ). shrZ x m) swap ∙ shift-on m some (z +ℤ pos a) in
+    let scaled : floorOf m a (z +ℤ pos m) *ℤ pos m ≡ q *ℤ pos m +ℤ pos m
     = ap (λ (x : ℤ). x *ℤ pos m) next ∙ sucℤ-*ℤ q (pos m) in
     let level : z +ℤ pos m +ℤ q *ℤ pos m ≡ q *ℤ pos m +ℤ pos m +ℤ z
     = +ℤ-comm (z +ℤ pos m) (q *ℤ pos m) ∙ ap (λ (x : ℤ). q *ℤ pos m +ℤ x) (+ℤ-comm z (pos m))
@@ -81,7 +81,7 @@ unheld-errors (suc n) z l =
 down-repeats : (z : ℤ) → errorOf 256 roundedDown (z +ℤ pos 256) ≡ errorOf 256 roundedDown z
 down-repeats z = same (z +ℤ pos 256) ∙ repeats 256 0 (omega arith) z ∙ sym (same z)
   where
-    same : (y : ℤ) → errorOf 256 roundedDown y ≡ errorOf 256 (quotient 256 0) y
+    same : (y : ℤ) → errorOf 256 roundedDown y ≡ errorOf 256 (floorOf 256 0) y
     same y = ap (λ (x : ℤ). shrZ x 256 *ℤ pos 256 -ℤ y) (sym (+ℤ-idr y))
 
 pub no-lean : NoLean

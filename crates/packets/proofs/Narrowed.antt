@@ -1,12 +1,12 @@
 -- What is sent of a sample at a width: it fits the width, at 24 bits it is the sample, and below the hold it is the quotient.
 -- Assumes nothing.
-use Prim.Native.Nat.{ℕ, zero, suc, _+_, _*_, _-_, _/_, _^_, _≤_, _<_, min}
+use Prim.Native.Nat.{ℕ, suc, _+_, _*_, _-_, _/_, _^_, _≤_, _<_, min}
 use mathlib.Core.Path.{_≡_, refl, sym, ap, _∙_}
 use mathlib.Core.Bool.{true}
 use native.Mathlib.Nat.{div-lt-iff-lt-mul, le-div-iff-mul-le, lt-of-le-of-lt, sub-le, min-eq-left, min-eq-right}
 use native.Mathlib.Omega.{arith}
 use lib.Dec.{leb}
-use lib.IntN.{ℤ, pos, negsuc, _+ℤ_}
+use lib.IntN.{ℤ, pos, negsuc}
 use lib.Pow.{pow-pos, pow-mono, pow-add}
 use lib.Signed.{mag, leZ, ltZ, shrZ}
 use borrow.Author.Tests.{leb-true, ltb-true}
@@ -23,11 +23,11 @@ sample-small (negsuc n) s = omega (arith, leb-true n 8_388_607 (and-left (leb n 
 -- ---- a quotient by m, held at t - 1
 
 module _ (m t : ℕ) (some : 0 < m) where
-  pub kept : (n : ℕ) → n < t * m → min (n / m) (t - 1) ≡ n / m
-  kept n l = let low : n / m < t = div-lt-iff-lt-mul some .1 l in min-eq-left (omega arith)
+  min-kept : (n : ℕ) → n < t * m → min (n / m) (t - 1) ≡ n / m
+  min-kept n l = let low : n / m < t = div-lt-iff-lt-mul some .1 l in min-eq-left (omega arith)
 
-  pub full : (n : ℕ) → t * m ≤ n → min (n / m) (t - 1) ≡ t - 1
-  full n l = let high : t ≤ n / m = le-div-iff-mul-le some .1 l in min-eq-right (omega arith)
+  min-full : (n : ℕ) → t * m ≤ n → min (n / m) (t - 1) ≡ t - 1
+  min-full n l = let high : t ≤ n / m = le-div-iff-mul-le some .1 l in min-eq-right (omega arith)
 
 -- ---- at every width
 
@@ -67,21 +67,21 @@ module _ (bits : ℕ) (some : 1 ≤ bits) (most : bits ≤ 24) where
   unheld (pos n) b =
       let low : n + halfAt bits < 2 ^ (bits - 1) * scaleAt bits
       = rw scaled-top (below-sum n (halfAt bits) 8_388_608 (ltb-true n (heldFrom bits) b)) in
-      ap pos (kept (scaleAt bits) (2 ^ (bits - 1)) (pow-pos (24 - bits)) (n + halfAt bits) low)
+      ap pos (min-kept (scaleAt bits) (2 ^ (bits - 1)) (pow-pos (24 - bits)) (n + halfAt bits) low)
   unheld (negsuc n) b = by-sum (λ y. atMost (topAt bits) (shrZ y (scaleAt bits)) ≡ shrZ y (scaleAt bits)) (halfAt bits) n (λ l. refl) high
     where
       high : n < halfAt bits → pos (min ((halfAt bits - suc n) / scaleAt bits) (topAt bits)) ≡ pos ((halfAt bits - suc n) / scaleAt bits)
       high l =
           let low : halfAt bits - suc n < 2 ^ (bits - 1) * scaleAt bits
           = rw scaled-top (half-left n (scaleAt bits) 8_388_608 l scale-most) in
-          ap pos (kept (scaleAt bits) (2 ^ (bits - 1)) (pow-pos (24 - bits)) (halfAt bits - suc n) low)
+          ap pos (min-kept (scaleAt bits) (2 ^ (bits - 1)) (pow-pos (24 - bits)) (halfAt bits - suc n) low)
 
   -- from there on it is the greatest number
   pub held-top : (z : ℤ) → leZ (pos (heldFrom bits)) z ≡ true → narrowed bits z ≡ pos (topAt bits)
   held-top (pos n) a =
       let high : 2 ^ (bits - 1) * scaleAt bits ≤ n + halfAt bits
       = rw scaled-top (above-sum n (halfAt bits) 8_388_608 (leb-true (heldFrom bits) n a)) in
-      ap pos (full (scaleAt bits) (2 ^ (bits - 1)) (pow-pos (24 - bits)) (n + halfAt bits) high)
+      ap pos (min-full (scaleAt bits) (2 ^ (bits - 1)) (pow-pos (24 - bits)) (n + halfAt bits) high)
   held-top (negsuc n) a = never a
 
 -- at 24 bits a sample is sent as it is

@@ -1,38 +1,38 @@
 -- Whole numbers of either sign, and their quotients rounded down. Assumes nothing.
 use Prim.Native.Nat.{ℕ, zero, suc, _+_, _*_, _-_, _/_, _%_, _≤_, _<_}
-use mathlib.Core.Path.{_≡_, refl, sym, ap, subst, _∙_}
-use native.Mathlib.Nat.{div-add-mod', div-eq-of-lt, div-eq-sub-div, add-div-right, mod-lt, suc-mul}
+use mathlib.Core.Path.{_≡_, sym, ap, subst, _∙_}
+use native.Mathlib.Nat.{add-zero, suc-mul, mod-lt, div-add-mod'}
+use native.Mathlib.Nat.{div-eq-of-lt, div-eq-of-lt-le, div-eq-sub-div, add-div-right, mul-add-div-right}
 use native.Mathlib.Numerals.{add-one}
 use native.Mathlib.Decide.{decLt}
 use native.Mathlib.Omega.{arith}
-use lib.IntN.{ℤ, pos, negsuc, negℤ, sucℤ, _+ℤ_, _-ℤ_, _*ℤ_, +ℤ-assoc, +ℤ-comm, +ℤ-negℤ-cancel}
+use lib.IntN.{ℤ, pos, negsuc, negℤ, sucℤ, subℕ, _+ℤ_, _-ℤ_, _*ℤ_, +ℤ-assoc, +ℤ-comm, +ℤ-negℤ-cancel}
 use lib.Signed.{shrZ}
 use borrow.Author.Tests.{lt-ltb, le-ltb}
 
--- ---- h added to a number below zero, which stays below it or not
+-- ---- a less b, both not negative
 
-raise-low : (h n : ℕ) → h ≤ n → negsuc n +ℤ pos h ≡ negsuc (n - h)
-raise-low h n l = rw (lt-ltb h (suc n) (omega arith)) (ap negsuc (omega arith))
+pub sub-high : (a b : ℕ) → a < b → subℕ a b ≡ negsuc (b - suc a)
+sub-high a b l = rw (lt-ltb a b l)
 
-raise-high : (h n : ℕ) → n < h → negsuc n +ℤ pos h ≡ pos (h - suc n)
-raise-high h n l = rw (le-ltb h (suc n) l)
-
-pub by-sum : (P : ℤ → Type 0) (h n : ℕ) → (h ≤ n → P (negsuc (n - h))) → (n < h → P (pos (h - suc n))) → P (negsuc n +ℤ pos h)
-by-sum P h n low high =
-    elim (decLt n h) [
-      | yes l ↦ subst P (sym (raise-high h n l)) (high l)
-      | no l ↦ let few : h ≤ n = omega arith in subst P (sym (raise-low h n few)) (low few)
-    ]
-
--- ---- one number less another
-
-pub less-low : (a b : ℕ) → b ≤ a → pos a -ℤ pos b ≡ pos (a - b)
-less-low a zero l = ap pos (omega arith)
-less-low a (suc b) l = rw (le-ltb a (suc b) l)
+pub sub-low : (a b : ℕ) → b ≤ a → subℕ a b ≡ pos (a - b)
+sub-low a b l = rw (le-ltb a b l)
 
 pub less-high : (a b : ℕ) → a < b → pos a -ℤ pos b ≡ negsuc (b - suc a)
 less-high a zero l = absurd (omega arith)
-less-high a (suc b) l = rw (lt-ltb a (suc b) l)
+less-high a (suc b) l = sub-high a (suc b) l
+
+pub less-low : (a b : ℕ) → b ≤ a → pos a -ℤ pos b ≡ pos (a - b)
+less-low a zero l = ap pos (omega arith)
+less-low a (suc b) l = sub-low a (suc b) l
+
+-- h added to a number below zero, which stays below it or not
+pub by-sum : (P : ℤ → Type 0) (h n : ℕ) → (h ≤ n → P (negsuc (n - h))) → (n < h → P (pos (h - suc n))) → P (negsuc n +ℤ pos h)
+by-sum P h n low high =
+    elim (decLt n h) [
+      | yes l ↦ subst P (sym (sub-low h (suc n) l)) (high l)
+      | no l ↦ subst P (sym (sub-high h (suc n) (omega arith) ∙ ap negsuc (omega arith))) (low (omega arith))
+    ]
 
 -- what two equal sums have in common is taken from both
 pub balance : (q z h r : ℤ) → z +ℤ h ≡ q +ℤ r → q -ℤ z ≡ h -ℤ r
@@ -66,3 +66,17 @@ module _ (m : ℕ) (some : 0 < m) where
 
       high : n < m → pos ((m - suc n) / m) ≡ sucℤ (negsuc (n / m))
       high l = rw (div-eq-of-lt l, div-eq-of-lt {n = m - suc n} {m = m} (omega arith))
+
+  -- it is the only one: the quotient of a multiple and a number below the divisor
+  pub floor-one : (q : ℤ) (r : ℕ) → r < m → shrZ (q *ℤ pos m +ℤ pos r) m ≡ q
+  floor-one (pos n) r l = ap pos (mul-add-div-right some n r ∙ rw (div-eq-of-lt l) (add-zero n))
+  floor-one (negsuc n) r l =
+      let more : suc n * m ≡ n * m + m = suc-mul n m in
+      let up : (n + 1) * m ≡ n * m + m = rw (add-one n) more in
+      let low : (suc n * m - 1 - r) / m ≡ n = div-eq-of-lt-le m (omega arith) (omega arith) in
+      ap (λ (y : ℤ). shrZ (y +ℤ pos r) m) (below-zero (suc n * m) (omega arith))
+      ∙ by-sum (λ y. shrZ y m ≡ negsuc n) r (suc n * m - 1) (λ _. ap negsuc low) (λ h. absurd (omega arith))
+    where
+      below-zero : (p : ℕ) → 0 < p → negℤ (pos p) ≡ negsuc (p - 1)
+      below-zero zero h = absurd (omega arith)
+      below-zero (suc p) h = ap negsuc (omega arith)

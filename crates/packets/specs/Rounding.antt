@@ -1,16 +1,16 @@
 -- Request No. 3 of document 02, "Sixteen-bit captures lean downward": how far what is sent of a sample lies from it, that samples
 -- in a row no longer lean, and the rules that one might take for this one.
-use Prim.Native.Nat.{ℕ, zero, suc, _-_}
+use Prim.Native.Nat.{ℕ, zero, suc, _+_, _-_, _/_}
 use mathlib.Core.Path.{_≡_}
 use mathlib.Core.Bool.{Bool, true, _&&_, not}
 use mathlib.Core.List.{List, [], _∷_, map}
 use lib.Dec.{eqb}
-use lib.IntN.{ℤ, pos, _+ℤ_, _-ℤ_, _*ℤ_}
+use lib.IntN.{ℤ, pos, negsuc, negℤ, _+ℤ_, _-ℤ_, _*ℤ_}
 use lib.Signed.{leZ, ltZ, shrZ, quotZ}
 use Rattle.wire.specs.Signed.{minus, coded}
 use Rattle.packets.specs.Samples.{isSample, scaleAt, halfAt, topAt, rounded, atMost, narrowed}
 
--- "256 times the result", less the sample: how far above a sample that lies which a rule sends of it
+-- "256 times the result" less the sample: how far above the sample what a rule sends of it lies, scaled
 abbrev pub errorOf : ℕ → (ℤ → ℤ) → ℤ → ℤ
 errorOf scale rule z = rule z *ℤ pos scale -ℤ z
 
@@ -26,11 +26,14 @@ abbrev pub heldFrom : ℕ → ℕ
 heldFrom bits = 8_388_608 - halfAt bits
 
 -- "256 times the result lies within 128 of the sample, except for samples of 8,388,480 and more, where it lies below by 128 to
--- 255." Over the width: at 16 bits from -127 to 128; at 24, where the scale is 1 and half of it 0, it is the sample itself.
+-- 255." Over the width: at 16 bits from -127 to 128; at 24, where the scale is 1 and half of it 0, it is the sample itself. No
+-- other number lies so near.
 pub record LiesNear (bits : ℕ) : Type 0 where
-  pub near : (z : ℤ) → ltZ z (pos (heldFrom bits)) ≡ true
+  pub nearby : (z : ℤ) → ltZ z (pos (heldFrom bits)) ≡ true
       → liesIn (minus (halfAt bits - 1)) (pos (halfAt bits)) (errorAt bits z) ≡ true
-  pub held : (z : ℤ) → isSample z ≡ true → leZ (pos (heldFrom bits)) z ≡ true
+  pub only : (z r : ℤ) → ltZ z (pos (heldFrom bits)) ≡ true
+      → liesIn (minus (halfAt bits - 1)) (pos (halfAt bits)) (r *ℤ pos (scaleAt bits) -ℤ z) ≡ true → r ≡ narrowed bits z
+  pub atTheTop : (z : ℤ) → isSample z ≡ true → leZ (pos (heldFrom bits)) z ≡ true
       → (narrowed bits z ≡ pos (topAt bits))
       × (liesIn (minus (scaleAt bits - 1)) (minus (scaleAt bits - halfAt bits)) (errorAt bits z) ≡ true)
 
@@ -66,6 +69,11 @@ pub record WrongRule : Type 0 where
 abbrev wrong : ℕ → (ℤ → ℤ) → ℤ → WrongRule
 wrong bits rule witness = record { bits = bits; rule = rule; witness = witness }
 
+-- halves away from zero
+abbrev halvesAway : ℤ → ℤ
+halvesAway (pos n) = pos ((n + 128) / 256)
+halvesAway (negsuc n) = minus ((suc n + 128) / 256)
+
 abbrev pub differs : WrongRule → Bool
 differs w =
     isSample (w .witness)
@@ -85,6 +93,9 @@ wrongRules =
     -- 127 for 128; 128 added after dividing
     ∷ wrong 16 (λ z. atMost 32_767 (shrZ (z +ℤ pos 127) 256)) (pos 128)
     ∷ wrong 16 (λ z. atMost 32_767 (shrZ z 256 +ℤ pos 128)) (pos 0)
+    -- halves away from zero; halves down
+    ∷ wrong 16 halvesAway (minus 128)
+    ∷ wrong 16 (λ z. negℤ (shrZ (negℤ z +ℤ pos 128) 256)) (pos 128)
     -- not held: 32,768 is the bits of -32,768; held one too low
     ∷ wrong 16 (rounded 16) (pos 8_388_480)
     ∷ wrong 16 (λ z. atMost 32_766 (rounded 16 z)) (pos 8_388_607)

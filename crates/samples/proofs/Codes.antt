@@ -1,5 +1,5 @@
 -- Two's complement without a branch: a number lifted by half a turn, which makes it whole, and by half a turn more. (Joined
--- lifts by more.)
+-- lifts by more.) What is sent at 16 bits on the way there: it fits, and is held by two tests.
 -- Assumes nothing.
 use Prim.Native.Nat.{ℕ, zero, suc, _+_, _-_, _%_, _^_, _≤_, _<_}
 use mathlib.Core.Path.{_≡_, refl, ap, _∙_}
@@ -16,7 +16,7 @@ use borrow.Author.Tests.{leb-true, ltb-true, ltb-false, lt-ltb, le-ltb, le-leb}
 use Rattle.wire.specs.Signed.{minus, coded, signed}
 use Rattle.wire.proofs.Laws.{never}
 use Rattle.packets.specs.Samples.{isSample, atMost, rounded, narrowed}
-use Rattle.packets.proofs.Quotients.{by-sum}
+use Rattle.packets.proofs.Quotients.{sub-high, sub-low, by-sum}
 use Rattle.packets.proofs.Narrowed.{sample-small, narrowed-small}
 
 -- z lifted by h, which is more than -z
@@ -26,7 +26,7 @@ lifted h (negsuc n) = h - suc n
 
 lift : (h : ℕ) (z : ℤ) → mag z < h → z +ℤ pos h ≡ pos (lifted h z)
 lift h (pos n) l = refl
-lift h (negsuc n) l = simp (le-ltb h (suc n) l)
+lift h (negsuc n) l = sub-low h (suc n) l
 
 pub lifted-below : (h : ℕ) (z : ℤ) → mag z < h → lifted h z < h + h
 lifted-below h (pos n) l = omega arith
@@ -95,9 +95,9 @@ pub hold-high : (m : ℕ) (q : ℤ) → ltZ (pos m) q ≡ true → pos m ≡ atM
 hold-high m (pos n) h = ap pos (omega (arith, ltb-true m n h))
 hold-high m (negsuc n) h = never h
 
-pub hold-between : (m : ℕ) (q : ℤ) → ltZ (pos m) q ≡ false → q ≡ atMost m q
-hold-between m (pos n) h = ap pos (omega (arith, ltb-false m n h))
-hold-between m (negsuc n) h = refl
+pub hold-not-above : (m : ℕ) (q : ℤ) → ltZ (pos m) q ≡ false → q ≡ atMost m q
+hold-not-above m (pos n) h = ap pos (omega (arith, ltb-false m n h))
+hold-not-above m (negsuc n) h = refl
 
 -- a number that is not below the least of the width
 pub not-below : {X : Type 0} (m : ℕ) (q : ℤ) → leZ (negsuc m) q ≡ true → ltZ q (negsuc m) ≡ true → X
@@ -111,7 +111,7 @@ drop-half u zero l = absurd (omega arith)
 drop-half u (suc h) l = refl
 
 half-small : (u h : ℕ) → u < h + h → mag (subℕ u h) ≤ h
-half-small u h l = elim (decLt u h) [ yes b ↦ rw (lt-ltb u h b) (omega arith) | no b ↦ rw (le-ltb u h (omega arith)) (omega arith) ]
+half-small u h l = elim (decLt u h) [ yes b ↦ rw (sub-high u h b) (omega arith) | no b ↦ rw (sub-low u h (omega arith)) (omega arith) ]
 
 module _ (h u : ℕ) (some : 0 < h) (small : h ≤ 8_388_608) (l : u < h + h) where
   read-half : toZ w32 u -ℤ pos h ≡ subℕ u h

@@ -38,13 +38,14 @@ divided : (c : tie.After-hold16-arg)
     → toZ w32 (ofZ w32 (shrZ (toZ w32 (ofZ w32 (toZ w32 (ofZ w32 (sample c)) +ℤ pos 128))) 256)) ≡ rounded 16 (sample c)
 divided c = rw (raised c) (toZ-ofZ (rounded-fits (sample c) (is-sample c)))
 
--- what is held is what is sent, lifted
+-- what `hold16` gives is what is sent of the sample
 sent-is : (c : tie.After-hold16) → c .hold16 .result ≡ narrowed 16 (sample (c .before))
 sent-is c = c .hold16 .ensures ∙ ap (atMost 32_767) (divided (c .before))
 
 small : (c : tie.After-hold16) → mag (c .hold16 .result) < 32_768
 small c = rw (sent-is c) (sixteen-small (sample (c .before)) (is-sample (c .before)))
 
+-- and lifted by half a turn
 above : (c : tie.After-hold16)
     → toZ w32 (ofZ w32 (toZ w32 (ofZ w32 (c .hold16 .result)) +ℤ pos 32_768)) ≡ pos (lifted 32_768 (c .hold16 .result))
 above c = half-is 32_768 (c .hold16 .result) (small c) (omega arith)
