@@ -12,8 +12,8 @@ use lib.Signed.{leZ, ltZ, shrZ}
 use borrow.Author.Tests.{leb-true, le-leb}
 use Rattle.wire.specs.Signed.{minus}
 use Rattle.wire.proofs.Laws.{and-both, and-left, and-right, never}
-use Rattle.packets.specs.Samples.{isSample, scaleAt, halfAt, topAt, rounded, narrowed}
-use Rattle.packets.specs.Rounding.{errorOf, errorAt, liesIn, heldFrom, LiesNear, wrongRules, allDiffer}
+use Rattle.packets.specs.Samples.{liesIn, isSample, scaleAt, halfAt, topAt, rounded, narrowed}
+use Rattle.packets.specs.Rounding.{errorOf, errorAt, heldFrom, LiesNear, wrongRules, allDiffer}
 use Rattle.packets.proofs.Quotients.{sub-low, less-low, less-high, balance, floor, floor-one}
 use Rattle.packets.proofs.Narrowed.{sample-small, scaled-top, scale-most, unheld, held-top}
 

@@ -8,7 +8,7 @@ use lib.Dec.{eqb}
 use lib.IntN.{ℤ, pos, negsuc, negℤ, _+ℤ_, _-ℤ_, _*ℤ_}
 use lib.Signed.{leZ, ltZ, shrZ, quotZ}
 use Rattle.wire.specs.Signed.{minus, coded}
-use Rattle.packets.specs.Samples.{isSample, scaleAt, halfAt, topAt, rounded, atMost, narrowed}
+use Rattle.packets.specs.Samples.{liesIn, isSample, scaleAt, halfAt, topAt, rounded, atMost, narrowed}
 
 -- "256 times the result" less the sample: how far above the sample what a rule sends of it lies, scaled
 abbrev pub errorOf : ℕ → (ℤ → ℤ) → ℤ → ℤ
@@ -16,10 +16,6 @@ errorOf scale rule z = rule z *ℤ pos scale -ℤ z
 
 abbrev pub errorAt : ℕ → ℤ → ℤ
 errorAt bits = errorOf (scaleAt bits) (narrowed bits)
-
--- low ≤ z ≤ high
-abbrev pub liesIn : ℤ → ℤ → ℤ → Bool
-liesIn low high z = leZ low z && leZ z high
 
 -- the least sample that is held: "samples of 8,388,480 and more" at 16 bits; at 24 there is none
 abbrev pub heldFrom : ℕ → ℕ

@@ -7,9 +7,13 @@ use lib.Signed.{leZ, shrZ}
 use Rattle.wire.specs.Number.{bytes, field}
 use Rattle.wire.specs.Signed.{minus, coded, signed}
 
+-- low ≤ z ≤ high
+abbrev pub liesIn : ℤ → ℤ → ℤ → Bool
+liesIn low high z = leZ low z && leZ z high
+
 -- -8,388,608 ≤ z ≤ 8,388,607
 abbrev pub isSample : ℤ → Bool
-isSample z = leZ (minus 8_388_608) z && leZ z (pos 8_388_607)
+isSample z = liesIn (minus 8_388_608) (pos 8_388_607) z
 
 abbrev pub allSamples : List ℤ → Bool
 allSamples [] = true
