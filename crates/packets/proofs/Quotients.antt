@@ -1,6 +1,6 @@
 -- Whole numbers of either sign, and their quotients rounded down. Assumes nothing.
 use Prim.Native.Nat.{ℕ, zero, suc, _+_, _*_, _-_, _/_, _%_, _≤_, _<_}
-use mathlib.Core.Path.{_≡_, sym, ap, subst, _∙_}
+use mathlib.Core.Path.{_≡_, refl, sym, ap, subst, _∙_}
 use native.Mathlib.Nat.{add-zero, suc-mul, mod-lt, div-add-mod'}
 use native.Mathlib.Nat.{div-eq-of-lt, div-eq-of-lt-le, div-eq-sub-div, add-div-right, mul-add-div-right}
 use native.Mathlib.Numerals.{add-one}
@@ -18,13 +18,9 @@ sub-high a b l = rw (lt-ltb a b l)
 pub sub-low : (a b : ℕ) → b ≤ a → subℕ a b ≡ pos (a - b)
 sub-low a b l = rw (le-ltb a b l)
 
-pub less-high : (a b : ℕ) → a < b → pos a -ℤ pos b ≡ negsuc (b - suc a)
-less-high a zero l = absurd (omega arith)
-less-high a (suc b) l = sub-high a (suc b) l
-
-pub less-low : (a b : ℕ) → b ≤ a → pos a -ℤ pos b ≡ pos (a - b)
-less-low a zero l = ap pos (omega arith)
-less-low a (suc b) l = sub-low a (suc b) l
+pub less-sub : (a b : ℕ) → pos a -ℤ pos b ≡ subℕ a b
+less-sub a zero = ap pos (omega arith) ∙ sym (sub-low a 0 (omega arith))
+less-sub a (suc b) = refl
 
 -- h added to a number below zero, which stays below it or not
 pub by-sum : (P : ℤ → Type 0) (h n : ℕ) → (h ≤ n → P (negsuc (n - h))) → (n < h → P (pos (h - suc n))) → P (negsuc n +ℤ pos h)

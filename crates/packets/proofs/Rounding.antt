@@ -14,7 +14,7 @@ use Rattle.wire.specs.Signed.{minus}
 use Rattle.wire.proofs.Laws.{and-both, and-left, and-right, never}
 use Rattle.packets.specs.Samples.{liesIn, isSample, scaleAt, halfAt, topAt, rounded, narrowed}
 use Rattle.packets.specs.Rounding.{errorOf, errorAt, heldFrom, LiesNear, wrongRules, allDiffer}
-use Rattle.packets.proofs.Quotients.{sub-low, less-low, less-high, balance, floor, floor-one}
+use Rattle.packets.proofs.Quotients.{sub-high, sub-low, less-sub, balance, floor, floor-one}
 use Rattle.packets.proofs.Narrowed.{sample-small, scaled-top, scale-most, unheld, held-top}
 
 -- ---- which side of -k a number lies
@@ -40,8 +40,8 @@ below-minus (suc k) n l = le-leb k n (omega arith)
 near-half : (h r : ℕ) → r ≤ h + (h - 1) → liesIn (minus (h - 1)) (pos h) (pos h -ℤ pos r) ≡ true
 near-half h r l =
     elim (decLt h r) [
-      | yes more ↦ rw (less-high h r more) (and-both _ _ (minus-below (h - 1) (r - suc h) (omega arith)) refl)
-      | no less ↦ rw (less-low h r (omega arith)) (and-both _ _ (minus-above (h - 1) (h - r)) (le-leb (h - r) h (omega arith)))
+      | yes more ↦ rw (less-sub h r, sub-high h r more) (and-both _ _ (minus-below (h - 1) (r - suc h) (omega arith)) refl)
+      | no less ↦ rw (less-sub h r, sub-low h r (omega arith)) (and-both _ _ (minus-above (h - 1) (h - r)) (le-leb (h - r) h (omega arith)))
     ]
 
 -- twice half the scale is the scale, but where the scale is 1
@@ -101,7 +101,7 @@ held-error : (m n : ℕ) → m ≤ 8_388_608 → 0 < m → 8_388_608 - m / 2 ≤
     → liesIn (minus (m - 1)) (minus (m - m / 2)) (pos (8_388_608 - m) -ℤ pos n) ≡ true
 held-error m n few some low high =
     let k = n - suc (8_388_608 - m) in
-    rw (less-high (8_388_608 - m) n (omega arith))
+    rw (less-sub (8_388_608 - m) n, sub-high (8_388_608 - m) n (omega arith))
     (and-both _ _ (minus-below (m - 1) k (omega arith)) (below-minus (m - m / 2) k (omega arith)))
 
 module _ (bits : ℕ) (some : 1 ≤ bits) (most : bits ≤ 24) where

@@ -1,7 +1,7 @@
 -- Two's complement without a branch: a number lifted by half a turn, which makes it whole, and by half a turn more. (Joined
 -- lifts by more.) What is sent at 16 bits on the way there: it fits, and is held by two tests.
 -- Assumes nothing.
-use Prim.Native.Nat.{ℕ, zero, suc, _+_, _-_, _%_, _^_, _≤_, _<_}
+use Prim.Native.Nat.{ℕ, suc, _+_, _-_, _%_, _^_, _≤_, _<_}
 use mathlib.Core.Path.{_≡_, refl, ap, _∙_}
 use mathlib.Core.Bool.{true, false}
 use native.Mathlib.Nat.{add-mod-right, mod-eq-of-lt, mod-eq-sub-mod}
@@ -16,7 +16,7 @@ use borrow.Author.Tests.{leb-true, ltb-true, ltb-false, lt-ltb, le-ltb, le-leb}
 use Rattle.wire.specs.Signed.{minus, coded, signed}
 use Rattle.wire.proofs.Laws.{never}
 use Rattle.packets.specs.Samples.{isSample, atMost, rounded, narrowed}
-use Rattle.packets.proofs.Quotients.{sub-high, sub-low, by-sum}
+use Rattle.packets.proofs.Quotients.{sub-high, sub-low, less-sub, by-sum}
 use Rattle.packets.proofs.Narrowed.{sample-small, narrowed-small}
 
 -- z lifted by h, which is more than -z
@@ -106,16 +106,12 @@ not-below m (negsuc n) l h = absurd (omega (arith, leb-true n m l, ltb-true m n 
 
 -- ---- and back: a code lifted by half a turn, the whole turns taken off, and the half turn taken off again
 
-drop-half : (u h : ℕ) → 0 < h → pos u -ℤ pos h ≡ subℕ u h
-drop-half u zero l = absurd (omega arith)
-drop-half u (suc h) l = refl
-
 half-small : (u h : ℕ) → u < h + h → mag (subℕ u h) ≤ h
 half-small u h l = elim (decLt u h) [ yes b ↦ rw (sub-high u h b) (omega arith) | no b ↦ rw (sub-low u h (omega arith)) (omega arith) ]
 
-module _ (h u : ℕ) (some : 0 < h) (small : h ≤ 8_388_608) (l : u < h + h) where
+module _ (h u : ℕ) (small : h ≤ 8_388_608) (l : u < h + h) where
   read-half : toZ w32 u -ℤ pos h ≡ subℕ u h
-  read-half = rw (toZ-pos w32 {n = u} (omega arith)) (drop-half u h some)
+  read-half = rw (toZ-pos w32 {n = u} (omega arith)) (less-sub u h)
 
   pub drop-fits : SFits w32 (toZ w32 u -ℤ pos h)
   drop-fits = rw read-half (record { sfits = omega (arith, half-small u h l) })

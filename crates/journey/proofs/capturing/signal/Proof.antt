@@ -19,7 +19,7 @@ cast-result : tie.Need-cast-result
 cast-result c = search needs
 
 sub-result : tie.Need-sub-result
-sub-result c = drop-fits 8_388_608 ((c .args .i * 7_919 + c .args .p * 5_000_011) % 16_777_216) (omega arith) (omega arith) (omega arith)
+sub-result c = drop-fits 8_388_608 ((c .args .i * 7_919 + c .args .p * 5_000_011) % 16_777_216) (omega arith) (omega arith)
 
 returns : tie.Need-returns
 returns c = search needs

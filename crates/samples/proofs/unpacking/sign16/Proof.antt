@@ -14,11 +14,11 @@ cast-result : tie.Need-cast-result
 cast-result c = search needs
 
 sub-result : tie.Need-sub-result
-sub-result c = drop-fits 32_768 ((c .args .v + 32_768) % 65_536) (omega arith) (omega arith) (omega arith)
+sub-result c = drop-fits 32_768 ((c .args .v + 32_768) % 65_536) (omega arith) (omega arith)
 
 returns : tie.Need-returns
 returns c =
-    drop-is 32_768 ((c .args .v + 32_768) % 65_536) (omega arith) (omega arith) (omega arith)
+    drop-is 32_768 ((c .args .v + 32_768) % 65_536) (omega arith) (omega arith)
     ∙ unturned 16 32_768 (c .args .v) refl refl (omega arith)
 
 pub sign16-spec : {M : Type 1} → statement M

@@ -14,11 +14,11 @@ cast-result : tie.Need-cast-result
 cast-result c = search needs
 
 sub-result : tie.Need-sub-result
-sub-result c = drop-fits 8_388_608 ((c .args .v + 8_388_608) % 16_777_216) (omega arith) (omega arith) (omega arith)
+sub-result c = drop-fits 8_388_608 ((c .args .v + 8_388_608) % 16_777_216) (omega arith) (omega arith)
 
 returns : tie.Need-returns
 returns c =
-    drop-is 8_388_608 ((c .args .v + 8_388_608) % 16_777_216) (omega arith) (omega arith) (omega arith)
+    drop-is 8_388_608 ((c .args .v + 8_388_608) % 16_777_216) (omega arith) (omega arith)
     ∙ unturned 24 8_388_608 (c .args .v) refl refl (omega arith)
 
 pub sign24-spec : {M : Type 1} → statement M
