@@ -30,7 +30,7 @@ by-sum P h n low high =
       | no l ↦ subst P (sym (sub-high h (suc n) (omega arith) ∙ ap negsuc (omega arith))) (low (omega arith))
     ]
 
--- what two equal sums have in common is taken from both
+-- from z + h = q + r: q - z is h - r
 pub balance : (q z h r : ℤ) → z +ℤ h ≡ q +ℤ r → q -ℤ z ≡ h -ℤ r
 balance q z h r e =
     let moved : q ≡ (h -ℤ r) +ℤ z
@@ -63,7 +63,7 @@ module _ (m : ℕ) (some : 0 < m) where
       high : n < m → pos ((m - suc n) / m) ≡ sucℤ (negsuc (n / m))
       high l = rw (div-eq-of-lt l, div-eq-of-lt {n = m - suc n} {m = m} (omega arith))
 
-  -- it is the only one: the quotient of a multiple and a number below the divisor
+  -- the only one: a multiple of the divisor, and less than a divisor more, gives it back
   pub floor-one : (q : ℤ) (r : ℕ) → r < m → shrZ (q *ℤ pos m +ℤ pos r) m ≡ q
   floor-one (pos n) r l = ap pos (mul-add-div-right some n r ∙ rw (div-eq-of-lt l) (add-zero n))
   floor-one (negsuc n) r l =

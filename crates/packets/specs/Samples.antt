@@ -19,7 +19,7 @@ abbrev pub allSamples : List ℤ → Bool
 allSamples [] = true
 allSamples (z ∷ zs) = isSample z && allSamples zs
 
--- what one of a width's numbers counts in samples: 256 at 16 bits, 1 at 24
+-- how many steps of 24 bits one step of a width is: 256 at 16 bits, 1 at 24
 abbrev pub scaleAt : ℕ → ℕ
 scaleAt bits = 2 ^ (24 - bits)
 

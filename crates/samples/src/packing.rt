@@ -70,7 +70,8 @@ fn hold16(q: i32) -> i32
     q
 }
 
-// What is sent of it at 16 bits: "add 128, divide by 256 rounding down, and hold at 32,767". A shift rounds down.
+// What is sent of the sample at a place at 16 bits: "add 128, divide by 256 rounding down, and hold at 32,767". A shift rounds
+// down.
 fn code16(samples: &[i32], at: usize) -> u16
     requires { ⌜ (allSamples (now samples) ≡ true) × (at < length (now samples)) ⌝ }
     ensures { λ r. ⌜ r ≡ coded 16 (narrowed 16 (getD (now (samples .entry)) at (pos 0))) ⌝ }
