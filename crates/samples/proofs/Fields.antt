@@ -46,10 +46,6 @@ bytes-join (suc m) n a b h =
     let small : a / 256 < 256 ^ m = omega arith in
     rw (suc-add m n, low, rest) (ap (λ (l : List ℕ). a % 256 ∷ l) (bytes-join m n (a / 256) b small))
 
--- two numbers of 16 bits in a word
-pub bytes-pair : (a b : ℕ) → a < 65_536 → bytes 4 (a + 65_536 * b) ≡ bytes 2 a ++ bytes 2 b
-bytes-pair a b h = bytes-join 2 2 a b h
-
 second-byte : (c : ℕ) → c % 65_536 / 256 % 256 ≡ c / 256 % 256
 second-byte c =
     let low : c % 65_536 ≡ c % 256 + 256 * (c / 256 % 256) = omega arith in

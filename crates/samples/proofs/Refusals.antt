@@ -32,9 +32,9 @@ whole-blocks f l w =
     let none-left : eqb (f .pairs % 32) 0 ≡ true = rw w at (of-listed (λ g. eqb (g .bits) 24 || eqb (g .pairs % 32) 0) refl f l) in
     omega (arith, eqb-true (f .pairs % 32) 0 none-left)
 
--- in every form the pairs are a multiple of eight: its samples are whole fours and whole sixteens
-pub eight-pairs : (f : Form) → listedForm f ≡ true → f .pairs % 8 ≡ 0
-eight-pairs f l = eqb-true (f .pairs % 8) 0 (of-listed (λ g. eqb (g .pairs % 8) 0) refl f l)
+-- in every form the pairs are even: its samples are whole fours
+pub even-pairs : (f : Form) → listedForm f ≡ true → f .pairs % 2 ≡ 0
+even-pairs f l = eqb-true (f .pairs % 2) 0 (of-listed (λ g. eqb (g .pairs % 2) 0) refl f l)
 
 -- ---- packing
 

@@ -2,19 +2,18 @@
 use Prim.Native.Nat.{ℕ, zero, suc, _+_, _*_, _/_, _≤_, _<_}
 use mathlib.Core.Path.{_≡_, refl, sym, ap, _∙_}
 use mathlib.Core.Bool.{true}
-use mathlib.Core.List.{List, [], _∷_, _++_, append-assoc}
+use mathlib.Core.List.{List, [], _∷_, _++_, append-assoc, append-nil}
 use native.Mathlib.Nat.{mul-add, mul-suc, mul-zero}
 use native.Mathlib.Numerals.{add-one}
 use native.Mathlib.Omega.{arith}
 use lib.IntN.{ℤ, pos}
 use lib.ListN.{length, getD, take, drop, length-append, length-take, length-drop, drop-of-length-le}
-use lib.Seq.{sets, drop-cons, drop-drop, getD-take, getD-drop}
+use lib.Seq.{sets, drop-cons, drop-drop}
 use Rattle.wire.specs.Number.{bytes}
 use Rattle.wire.specs.Signed.{coded}
 use Rattle.wire.proofs.Laws.{and-left, and-right}
 use Rattle.wire.proofs.Stores.{sets-append}
 use Rattle.wire.proofs.Numbers.{length-bytes}
-use Rattle.samples.proofs.Held.{Held}
 use Rattle.packets.specs.Samples.{isSample, allSamples, narrowed, sampleBytes, samplesBytes}
 
 -- each of them is a sample
@@ -84,6 +83,15 @@ part-sent bits zs (v ∷ vs) i h all =
     let later = part-sent bits zs vs (i + 1) (omega arith) (all .1) in
     rw (from-here zs i (omega arith), all .0) (ap (λ (l : List ℕ). sampleBytes bits (getD zs i (pos 0)) ++ l) later)
 
+-- one is stored
+pub pack-one : (bits at i v : ℕ) (zs : List ℤ) (l whole : List ℕ) → i < length zs → Sent bits zs i v
+    → sets l (at + bits / 8 * i) (samplesBytes bits (drop i zs)) ≡ whole
+    → sets (sets l (at + bits / 8 * i) (bytes (bits / 8) v)) (at + bits / 8 * (i + 1)) (samplesBytes bits (drop (i + 1) zs)) ≡ whole
+pack-one bits at i v zs l whole h is done =
+    let one = part-sent bits zs (v ∷ []) i (omega arith) (is, tt) ∙ append-nil (bytes (bits / 8) v) in
+    ap (λ (bs : List ℕ). sets (sets l (at + bits / 8 * i) bs) (at + bits / 8 * (i + 1)) (samplesBytes bits (drop (i + 1) zs))) (sym one)
+    ∙ pack-part bits at 1 i zs l whole (omega arith) done
+
 -- four of 24 bits are stored
 pub pack-four : (zs : List ℤ) (l whole : List ℕ) (i a b c d : ℕ) → 4 * (i + 1) ≤ length zs
     → Sent 24 zs (4 * i) a → Sent 24 zs (4 * i + 1) b → Sent 24 zs (4 * i + 2) c → Sent 24 zs (4 * i + 3) d
@@ -99,23 +107,3 @@ pack-four zs l whole i a b c d h isA isB isC isD done =
     let four = part-sent 24 zs (a ∷ b ∷ c ∷ d ∷ []) (4 * i) (omega arith) (isA, (isB, (rw third at isC, (rw fourth at isD, tt)))) in
     ap (λ (bs : List ℕ). sets (sets l (4 + 12 * i) bs) (4 + 3 * (4 * (i + 1))) (samplesBytes 24 (drop (4 * (i + 1)) zs))) (sym four)
     ∙ rw (here, next) (pack-part 24 4 4 (4 * i) zs l whole (omega arith) done)
-
--- ---- a block, whose samples are a part of the whole
-
--- the place of a part is a place of the whole
-pub part-at : (zs : List ℤ) (first k j : ℕ) → j < k → getD (take k (drop first zs)) j (pos 0) ≡ getD zs (first + j) (pos 0)
-part-at zs first k j h = getD-take k (drop first zs) j (pos 0) h ∙ getD-drop first zs j (pos 0)
-
--- a pair of held numbers is stored as one word r
-pub pack-pair : (ws : List ℤ) (at : ℕ) (l whole held : List ℕ) (k r : ℕ) → 2 * (k + 1) ≤ length ws
-    → bytes 4 r ≡ bytes 2 (getD held (2 * k) 0) ++ bytes 2 (getD held (2 * k + 1) 0) → Held (Sent 16 ws) held (length ws)
-    → sets l (at + 2 * (2 * k)) (samplesBytes 16 (drop (2 * k) ws)) ≡ whole
-    → sets (sets l (at + 2 * (2 * k)) (bytes 4 r)) (at + 2 * (2 * (k + 1))) (samplesBytes 16 (drop (2 * (k + 1)) ws)) ≡ whole
-pack-pair ws at l whole held k r h word known done =
-    let next : 2 * (k + 1) ≡ 2 * k + 2 = omega arith in
-    let pair = getD held (2 * k) 0 ∷ getD held (2 * k + 1) 0 ∷ [] in
-    let sent : AllSent 16 ws (2 * k) pair = (known (2 * k) (omega arith), (known (2 * k + 1) (omega arith), tt)) in
-    let both : bytes 4 r ≡ samplesBytes 16 (take 2 (drop (2 * k) ws))
-    = word ∙ sym (part-sent 16 ws pair (2 * k) (omega arith) sent) in
-    ap (λ (bs : List ℕ). sets (sets l (at + 2 * (2 * k)) bs) (at + 2 * (2 * (k + 1))) (samplesBytes 16 (drop (2 * (k + 1)) ws))) both
-    ∙ rw next (pack-part 16 at 2 (2 * k) ws l whole (omega arith) done)

@@ -6,7 +6,7 @@ ghost use mathlib.Core.Bool.{true};
 ghost use mathlib.Core.List.{_++_};
 ghost use Prim.Native.Nat.{_+_, _*_, _≤_, _<_};
 ghost use lib.IntN.{pos};
-ghost use lib.ListN.{length, getD, take, drop};
+ghost use lib.ListN.{length, getD};
 ghost use lib.Signed.{leZ};
 ghost use lib.Seq.{sets};
 ghost use Rattle.wire.specs.Number.{bytes};
@@ -24,13 +24,6 @@ fn put_word(dst: &mut [u8], at: usize, v: u32)
     dst[at + 1] = (v / 256 % 256) as u8;
     dst[at + 2] = (v / 65536 % 256) as u8;
     dst[at + 3] = (v / 16777216 % 256) as u8;
-}
-
-// The word whose four bytes are the two of each of two numbers.
-fn pair(first: u16, second: u16) -> u32
-    ensures { λ r. ⌜ bytes 4 r ≡ bytes 2 first ++ bytes 2 second ⌝ }
-{
-    first as u32 + 65536 * (second as u32)
 }
 
 // Writes four numbers of 24 bits at a place that the slice has: twelve bytes, in three words.
@@ -100,45 +93,16 @@ fn pack24(samples: &[i32], packet: &mut [u8], fours: usize)
     }
 }
 
-// Writes 16 samples from the first on, in two bytes each. They go by way of an array of 16-bit numbers: the compiler narrows
-// them in the first loop, makes a plain copy of the second, and no array is left.
-fn block16(samples: &[i32], packet: &mut [u8], first: usize)
-    requires { ⌜
-        (allSamples (now samples) ≡ true)
-        × (first + 16 ≤ length (now samples))
-        × (4 + 2 * (first + 16) ≤ length (now packet)) ⌝ }
-    ensures { λ r.
-        ⌜ now (packet .exit)
-        ≡ sets (now (packet .entry)) (4 + 2 * first) (samplesBytes 16 (take 16 (drop first (now (samples .entry))))) ⌝ }
-{
-    let mut held = [0u16; 16];
-    let mut i = 0;
-    while i < 16 {
-        held[i] = code16(samples, first + i);
-        i += 1;
-    }
-    let mut k = 0;
-    while k < 8 {
-        put_word(
-            packet,
-            4 + 2 * (first + 2 * k),
-            pair(held[2 * k], held[2 * k + 1]),
-        );
-        k += 1;
-    }
-}
-
-// Writes samples in two bytes each, in blocks of 16.
-fn pack16(samples: &[i32], packet: &mut [u8], blocks: usize)
-    requires { ⌜
-        (allSamples (now samples) ≡ true)
-        × (length (now samples) ≡ 16 * blocks)
-        × (4 + 32 * blocks ≤ length (now packet)) ⌝ }
+// Writes samples in two bytes each, the least significant first.
+fn pack16(samples: &[i32], packet: &mut [u8])
+    requires { ⌜ (allSamples (now samples) ≡ true) × (4 + 2 * length (now samples) ≤ length (now packet)) ⌝ }
     ensures { λ r. ⌜ now (packet .exit) ≡ sets (now (packet .entry)) 4 (samplesBytes 16 (now (samples .entry))) ⌝ }
 {
     let mut i = 0;
-    while i < blocks {
-        block16(samples, packet, 16 * i);
+    while i < samples.len() {
+        let v = code16(samples, i);
+        packet[4 + 2 * i] = (v % 256) as u8;
+        packet[5 + 2 * i] = (v / 256) as u8;
         i += 1;
     }
 }
@@ -163,11 +127,11 @@ pub fn pack(f: Form, samples: &[i32], packet: &mut [u8]) -> bool
     if !all_fit(samples) {
         return false;
     }
-    // In every listed form the pairs are a multiple of eight: the samples are whole fours, and whole sixteens.
+    // In every listed form the pairs are even: the samples are whole fours.
     if f.bits == 24 {
         pack24(samples, packet, samples.len() / 4);
         return true;
     }
-    pack16(samples, packet, samples.len() / 16);
+    pack16(samples, packet);
     true
 }

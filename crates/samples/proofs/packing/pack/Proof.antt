@@ -10,7 +10,7 @@ use lib.ListN.{length}
 use Rattle.packets.specs.Forms.{listedForm, totalOf}
 use Rattle.packets.specs.Samples.{allSamples}
 use Rattle.packets.proofs.Forms.{is-listed-form}
-use Rattle.samples.proofs.Refusals.{other-width, room-for, eight-pairs}
+use Rattle.samples.proofs.Refusals.{other-width, room-for, even-pairs}
 use Rattle.samples.proofs.Refusals.{pack-unlisted, pack-count, pack-room, pack-outside, pack-done}
 use Rattle.samples.proofs.packing.pack.Statement.{statement}
 use Rattle.samples.proofs.packing.pack.Tie as tie
@@ -83,7 +83,7 @@ returns-4 c =
 all : (c : tie.Else4) → allSamples (now (start (past-form (past-count (past-room c))) .args .samples)) ≡ true
 all c = sym (c .before .all-fit .ensures) ∙ not-false _ (c .if4 .left)
 
--- the samples of a form are whole fours and whole sixteens, and in the packet there is room for them
+-- the samples of a form are whole fours, and in the packet there is room for them
 pack24-requires : tie.Need-pack24-requires
 pack24-requires c κs =
     let q = c .before .before .before in
@@ -94,7 +94,7 @@ pack24-requires c κs =
     let n = length (now (start e .args .samples)) in
     let fit : 4 + 3 * n ≤ length (now (start e .args .packet))
     = room-for f 3 n _ (ap (λ (b : ℕ). b / 8) (c .before .if5 .taken)) (u .if2 .left) (room r) in
-    (all q, omega (arith, eight-pairs f (form e)), omega (arith, eight-pairs f (form e)))
+    (all q, omega (arith, even-pairs f (form e)), omega (arith, even-pairs f (form e)))
 
 same-length : tie.Need-same-length
 same-length c = search needs
@@ -119,9 +119,7 @@ pack16-requires c κs =
     let f = start e .args .f in
     let n = length (now (start e .args .samples)) in
     let width = other-width f (form e) (c .before .if5 .left) in
-    let fit : 4 + 2 * n ≤ length (now (start e .args .packet))
-    = room-for f 2 n _ (ap (λ (b : ℕ). b / 8) width) (u .if2 .left) (room r) in
-    (all q, omega (arith, eight-pairs f (form e)), omega (arith, eight-pairs f (form e)))
+    (all q, room-for f 2 n _ (ap (λ (b : ℕ). b / 8) width) (u .if2 .left) (room r))
 
 same-length-2 : tie.Need-same-length-2
 same-length-2 c = search needs
