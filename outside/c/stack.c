@@ -1,0 +1,268 @@
+/* stack.c: packets cut on a stack of their own, to see how much of it is used (stack.sh builds and runs it).
+ *
+ *     stack painted      each call on a painted stack: prints the most that one of a kind used, and the most of all
+ *     stack ROOM         each call with ROOM bytes of stack above a page that is not mapped: a call that uses more ends it
+ *
+ * Every call is made a first time on the ordinary stack, and has to do the same again. It has no C library, so that it runs
+ * wherever the archives do. What is measured is a call of `cut_now` or `run_now`, below: their own frames are counted too. */
+typedef unsigned char byte;
+typedef __INT32_TYPE__ number;
+typedef __SIZE_TYPE__ size;
+
+byte skvornela_fresh(const byte *serial, size, byte *state, size);
+byte skvornela_feed(byte *state, size, const byte *host, size, byte *reply, size, size *consumed, size *wrote);
+byte skvornela_cut(byte *state, size, const number *samples, size, byte *packet, size, size *wrote);
+size skvornela_cut_run(byte mode, byte packet_size, size n, size total, const number *samples, size, byte *out, size);
+
+/* ---- the system, and a stack of our own */
+#if defined __x86_64__
+enum { MMAP = 9, MPROTECT = 10, WRITE = 1, EXIT = 60 };
+static long ask(long what, long a, long b, long c, long d, long e, long f) {
+    register long r10 __asm__("r10") = d, r8 __asm__("r8") = e, r9 __asm__("r9") = f;
+    __asm__ volatile("syscall"
+                     : "+a"(what)
+                     : "D"(a), "S"(b), "d"(c), "r"(r10), "r"(r8), "r"(r9)
+                     : "rcx", "r11", "memory");
+    return what;
+}
+static void on(byte *top, void (*go)(void *), void *call) {
+    __asm__ volatile("movq %%rsp, %%rbx\n\tmovq %[top], %%rsp\n\tcallq *%[go]\n\tmovq %%rbx, %%rsp"
+                     : "+D"(call)
+                     : [top] "r"(top), [go] "r"(go)
+                     : "rbx", "rax", "rcx", "rdx", "rsi", "r8", "r9", "r10", "r11", "memory", "cc", "xmm0", "xmm1",
+                       "xmm2", "xmm3", "xmm4", "xmm5", "xmm6", "xmm7", "xmm8", "xmm9", "xmm10", "xmm11", "xmm12",
+                       "xmm13", "xmm14", "xmm15");
+}
+__asm__(".globl _start\n_start: movq %rsp, %rdi\n\tandq $-16, %rsp\n\tcallq begin\n");
+#elif defined __aarch64__
+enum { MMAP = 222, MPROTECT = 226, WRITE = 64, EXIT = 93 };
+static long ask(long what, long a, long b, long c, long d, long e, long f) {
+    register long x8 __asm__("x8") = what, x0 __asm__("x0") = a, x1 __asm__("x1") = b, x2 __asm__("x2") = c,
+                      x3 __asm__("x3") = d, x4 __asm__("x4") = e, x5 __asm__("x5") = f;
+    __asm__ volatile("svc 0" : "+r"(x0) : "r"(x8), "r"(x1), "r"(x2), "r"(x3), "r"(x4), "r"(x5) : "memory");
+    return x0;
+}
+static void on(byte *top, void (*go)(void *), void *call) {
+    register void *x0 __asm__("x0") = call;
+    __asm__ volatile("mov x19, sp\n\tmov sp, %[top]\n\tblr %[go]\n\tmov sp, x19"
+                     : "+r"(x0)
+                     : [top] "r"(top), [go] "r"(go)
+                     : "x1", "x2", "x3", "x4", "x5", "x6", "x7", "x8", "x9", "x10", "x11", "x12", "x13", "x14", "x15",
+                       "x16", "x17", "x19", "x30", "memory", "cc", "v0", "v1", "v2", "v3", "v4", "v5", "v6", "v7", "v8",
+                       "v9", "v10", "v11", "v12", "v13", "v14", "v15", "v16", "v17", "v18", "v19", "v20", "v21", "v22",
+                       "v23", "v24", "v25", "v26", "v27", "v28", "v29", "v30", "v31");
+}
+__asm__(".globl _start\n_start: mov x0, sp\n\tbl begin\n");
+#endif
+
+/* what a compiler that optimises nothing may call for a copy */
+void *memmove(void *to, const void *from, size n) {
+    byte *t = to;
+    const byte *f = from;
+    if (t < f)
+        for (size i = 0; i < n; i++) t[i] = f[i];
+    else
+        while (n--) t[n] = f[n];
+    return to;
+}
+
+static void end(int code) {
+    for (;;) ask(EXIT, code, 0, 0, 0, 0, 0);
+}
+static void say(const char *text) {
+    size n = 0;
+    while (text[n]) n++;
+    if (ask(WRITE, 1, (long)text, (long)n, 0, 0, 0) != (long)n) end(3);
+}
+static void say_number(size n) {
+    char digits[24], *at = digits + sizeof digits - 1;
+    *at = 0;
+    do *--at = (char)('0' + n % 10);
+    while (n /= 10);
+    say(at);
+}
+
+enum { PAGE = 65536, AREA = 2 * PAGE }; /* a page of Linux on any of the two machines, or many of them */
+static byte *area;                      /* AREA bytes above PAGE bytes that are not mapped */
+static size room;                       /* how much of it is lent, 0 where it is painted */
+static size most;                       /* and how much was used */
+
+static size used_with(byte paint, void (*go)(void *), void *call) {
+    size k = 0;
+    for (size i = 0; i < AREA; i++) area[i] = paint;
+    on(area + AREA, go, call);
+    while (k < AREA && area[k] == paint) k++;
+    return AREA - k;
+}
+
+/* ---- the calls */
+struct cut {
+    byte *state, *packet;
+    const number *samples;
+    size bytes, count, packet_bytes, wrote;
+    byte code;
+};
+void cut_now(void *call) {
+    struct cut *c = call;
+    c->code = skvornela_cut(c->state, c->bytes, c->samples, c->count, c->packet, c->packet_bytes, &c->wrote);
+}
+struct run {
+    byte mode, size;
+    size n, total, count, bytes, answer;
+    const number *samples;
+    byte *out;
+};
+void run_now(void *call) {
+    struct run *r = call;
+    r->answer = skvornela_cut_run(r->mode, r->size, r->n, r->total, r->samples, r->count, r->out, r->bytes);
+}
+
+enum { STATE = 108, PACKETS = 3, LARGEST = 1444 };
+static const size pairs[4] = {240, 64, 256, 128}, totals[4] = {1444, 388, 1028, 516};
+static byte lent[STATE], lent_out[PACKETS * LARGEST]; /* what a call is lent */
+static byte state[STATE], out[PACKETS * LARGEST];     /* what it has to leave */
+static number samples[PACKETS * 512];
+
+static void copy(byte *to, const byte *from, size n) {
+    for (size i = 0; i < n; i++) ((volatile byte *)to)[i] = from[i];
+}
+static int alike(const byte *a, const byte *b, size n) {
+    for (size i = 0; i < n; i++)
+        if (a[i] != b[i]) return 0;
+    return 1;
+}
+static void clear(void) {
+    for (size i = 0; i < sizeof lent_out; i++) ((volatile byte *)lent_out)[i] = 0xEE;
+}
+static void must(int holds, const char *what) {
+    if (holds) return;
+    say("WRONG: ");
+    say(what);
+    say("\n");
+    end(1);
+}
+
+/* The call again, from what was lent at first; it must do as it did on the ordinary stack. */
+static size again(void (*go)(void *), void *call, const byte *given, byte paint, const char *what) {
+    size used = 0;
+    copy(lent, given, STATE);
+    clear();
+    if (room) on(area + room, go, call);
+    else used = used_with(paint, go, call);
+    must(alike(lent, state, STATE) && alike(lent_out, out, sizeof out), what);
+    return used;
+}
+static size measured(void (*go)(void *), void *call, const char *what) {
+    static byte given[STATE];
+    size light, dark;
+    copy(given, lent, STATE);
+    clear();
+    go(call);
+    copy(state, lent, STATE);
+    copy(out, lent_out, sizeof out);
+    light = again(go, call, given, 0xA5, what);
+    dark = again(go, call, given, 0x5A, what);
+    if (light < dark) light = dark;
+    if (most < light) most = light;
+    return light;
+}
+
+static void feed(const byte *message, size n) {
+    byte reply[64];
+    size consumed, wrote;
+    skvornela_feed(lent, STATE, message, n, reply, sizeof reply, &consumed, &wrote);
+    must(consumed == n && wrote == n, "a message was not obeyed");
+}
+static void started(int form) {
+    const byte packet_size[5] = {5, 0, 0xC4, 0, (byte)(form % 2)};
+    const byte run[8] = {8, 0, 0x18, 0, 0x80, 2, form < 2 ? 0x80 : 0, 0};
+    must(skvornela_fresh((const byte *)"MT123456", 8, lent, STATE) == 1, "no fresh box");
+    feed(packet_size, sizeof packet_size);
+    feed(run, sizeof run);
+    for (size i = 0; i < sizeof samples / sizeof *samples; i++)
+        samples[i] = (number)((i * 2654435761u >> 8) % 16777216) - 8388608;
+}
+static void put_count(size count) {
+    for (int i = 0; i < 8; i++) lent[8 + i] = (byte)(count >> (8 * i));
+}
+
+enum { DONE = 1, NO_ROOM = 20, BROKEN, IDLE, WRONG_COUNT, NOT_A_SAMPLE, FULL };
+static const struct {
+    const char *what;
+    byte code;
+} kinds[] = {
+    {"cut", DONE},
+    {"cut, the last of a capture", DONE},
+    {"no room", NO_ROOM},
+    {"no room, and not a sample", NOT_A_SAMPLE},
+    {"a box of another length", BROKEN},
+    {"a box that is broken", BROKEN},
+    {"a box that is idle", IDLE},
+    {"a sample too few", WRONG_COUNT},
+    {"not a sample", NOT_A_SAMPLE},
+    {"a capture that is full", FULL},
+    {"three packets in a run", 3},
+    {"a run to the first that is refused", 2},
+};
+enum { KINDS = sizeof kinds / sizeof *kinds, RUN = KINDS - 2 };
+
+static size cut(int form, int kind) {
+    struct cut c = {lent, lent_out, samples, STATE, 2 * pairs[form], sizeof lent_out, 99, 99};
+    size used;
+    started(form);
+    switch (kind) {
+    case 1: put_count(3999999999); break;
+    case 2: c.packet_bytes = totals[form] - 1; break;
+    case 3: c.packet_bytes = totals[form] - 1, samples[2 * pairs[form] - 1] = 8388608; break;
+    case 4: c.bytes = STATE - 1; break;
+    case 5: lent[25] ^= 1; break;
+    case 6: lent[24] = 0; break;
+    case 7: c.count--; break;
+    case 8: samples[2 * pairs[form] - 1] = -8388609; break;
+    case 9: put_count(4000000000); break;
+    }
+    used = measured(cut_now, &c, kinds[kind].what);
+    must(c.code == kinds[kind].code && c.wrote == (c.code == DONE ? totals[form] : 0), kinds[kind].what);
+    return used;
+}
+static size cut_run(int form, int kind) {
+    struct run r = {form < 2 ? 0x80 : 0, (byte)(form % 2), 2 * pairs[form], totals[form], PACKETS * 2 * pairs[form],
+                    sizeof lent_out,     99,               samples,         lent_out};
+    size used;
+    started(form);
+    if (kind != RUN) samples[5 * pairs[form]] = 8388608;
+    used = measured(run_now, &r, kinds[kind].what);
+    must(r.answer == kinds[kind].code, kinds[kind].what);
+    return used;
+}
+
+void begin(long *given) {
+    const char *word = given[0] == 2 ? (const char *)given[2] : "";
+    byte *m = (byte *)ask(MMAP, 0, PAGE + AREA, 3, 0x22, -1, 0);
+    if ((long)m < 0 || ask(MPROTECT, (long)m, PAGE, 0, 0, 0, 0) != 0) end(3);
+    area = m + PAGE;
+    if (word[0] != 'p') {
+        for (; '0' <= *word && *word <= '9'; word++) room = 10 * room + (size)(*word - '0');
+        if (*word || room == 0 || room % 16 || AREA < room) end(2);
+    }
+    for (int kind = 0; kind < KINDS; kind++) {
+        size used = 0;
+        for (int form = 0; form < 4; form++) {
+            size its = kind < RUN ? cut(form, kind) : cut_run(form, kind);
+            if (used < its) used = its;
+        }
+        if (room) continue;
+        say("  ");
+        say(kinds[kind].what);
+        say(": ");
+        say_number(used);
+        say("\n");
+        if (kind + 1 == RUN || kind + 1 == KINDS) {
+            say(kind < RUN ? "skvornela_cut " : "skvornela_cut_run ");
+            say_number(most);
+            say("\n");
+            most = 0;
+        }
+    }
+    end(0);
+}

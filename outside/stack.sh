@@ -1,0 +1,164 @@
+#!/bin/sh
+# stack.sh: how much stack it takes to cut a packet. Document 02 leaves the packet task one kilobyte, and no contract speaks of
+# the stack; so it is counted and measured here, on the archive that rt delivers.
+#
+#     outside/stack.sh
+#
+# For x86-64, for which rt builds, and for the machine at hand where it is another one:
+#   counted   the worst path through the machine code of each call that cuts a packet (src/bin/stack), under 1,000 bytes: the
+#             doors as delivered, and the functions that a Rattle program calls, compiled by the same words as the doors
+#   counted   the same of the functions inside where the optimiser does nothing (-O0)
+#   painted   each call, in all four forms, accepted and by every refusal, on a painted stack (c/stack.c): never more than was
+#             counted
+#   walled    the same calls in 1,024 bytes above a page that is not mapped; they also run in the bytes that were painted, and
+#             not in 16 less
+#   planted   a packet's copy, planted in the library: each of the three has to notice
+# It ends with 0 if all of this holds. It needs a disassembler that knows both machines: Debian's llvm has one.
+set -eu
+cd "$(dirname "$0")"
+export CARGO_TARGET_DIR="$PWD/target"
+room=$(mktemp -d)
+trap 'rm -rf "$room"' EXIT
+most=1000 kilobyte=1024
+wrong=0
+fails() {
+    echo "FAILS: $*"
+    wrong=1
+}
+
+./module.sh boxdoor "$room/boxdoor"
+./module.sh runs "$room/runs"
+cargo build --quiet --release --offline --bin stack
+tools=$room/boxdoor/bin
+
+# a module as rt has it compiled, but for the processor and how much is optimised
+compile() { # CRATE SOURCE OBJECT MACHINE LEVEL
+    crate=$1 source=$2 object=$3 machine=$4 level=$5
+    set -- -Wno-override-module
+    while read -r word; do
+        case $word in
+        *.bc) word=$source ;;
+        *.o) word=$object ;;
+        -O3) word=-O$level ;;
+        --target=*) word=--target=$machine-unknown-linux-gnu ;;
+        -march=*) [ "$machine" = x86_64 ] || continue ;;
+        --sysroot=* | -Werror) continue ;;
+        esac
+        set -- "$@" "$word"
+    done <"$room/$crate/words"
+    "$tools/clang" "$@" 2>"$room/said" || { cat "$room/said" >&2; exit 1; }
+}
+text_of() { # CRATE: its module as text, nothing optimised
+    "$tools/clang" --target=x86_64-unknown-linux-gnu -Xclang -disable-llvm-passes -S -emit-llvm -x ir \
+        "$room/$1/module.bc" -o "$room/$1/module.ll"
+}
+
+listing() { # OBJECT...: by the first disassembler that knows its machine
+    for by in llvm-objdump objdump "$machine-linux-gnu-objdump"; do
+        if "$by" -dr --no-show-raw-insn "$@" >"$room/listing" 2>"$room/said" && grep -q '^ .*ret' "$room/listing"; then
+            cat "$room/listing"
+            return
+        fi
+    done
+    echo "stack.sh: no disassembler here knows $machine; Debian's package llvm has one" >&2
+    exit 1
+}
+count() { # WORDS... -- OBJECT...
+    words=
+    while [ "$1" != -- ]; do words="$words $1" && shift; done
+    shift
+    listing "$@" | target/release/stack $words # no name has a blank in it
+}
+
+run() { # PROGRAM WORD: on this machine, or as this machine would if it were an x86-64; quietly where it is killed
+    if [ "$machine" = "$(uname -m)" ]; then "$@"; else "$tools/qemu-$machine" "$@"; fi 2>"$room/said"
+}
+painted() { # PROGRAM NAME: the most that calls of a door used
+    run "$1" painted | sed -n "s/^$2 //p"
+}
+
+inside='cutting::cut_held samples::packing::pack'
+for name in $inside cutting::cut_packet; do
+    printf '%s\n' "s/^define internal \(.*@\"$name\"\)/define \1/"
+done >"$room/visible"
+text_of boxdoor
+text_of runs
+sed -f "$room/visible" "$room/runs/module.ll" >"$room/visible.ll"
+cat >"$room/plant" <<'END'
+/^define .*@"samples::packing::pack"/,/^}/ {
+    /^start:/ a\
+  %planted = alloca [1444 x i8], align 1\
+  store volatile i8 1, ptr %planted, align 1\
+  call void asm sideeffect "", "r,~{memory}"(ptr %planted)
+}
+END
+sed -f "$room/plant" "$room/boxdoor/module.ll" >"$room/planted.ll"
+
+objects() { # for $machine: both archives, a planted copy, what is inside at -O3 and -O0, and the calls
+    for crate in boxdoor runs; do
+        compile $crate "$room/$crate/module.bc" "$room/$crate.o" "$machine" 3
+        "$tools/llvm-ar" rcs "$room/$crate.a" "$room/$crate.o"
+    done
+    # what is counted is what is delivered
+    if [ "$machine" = x86_64 ]; then
+        for crate in boxdoor runs; do
+            "$tools/llvm-ar" p "../target/staticlib/lib$crate.a" >"$room/delivered.o"
+            cmp "$room/$crate.o" "$room/delivered.o" || fails "the archive of $crate is not what its module gives"
+            cp "../target/staticlib/lib$crate.a" "$room/$crate.a"
+        done
+    fi
+    compile boxdoor "$room/planted.ll" "$room/planted.o" "$machine" 3
+    compile runs "$room/visible.ll" "$room/inside.o" "$machine" 3
+    compile runs "$room/visible.ll" "$room/inside0.o" "$machine" 0
+    case $machine in x86_64) red=-mno-red-zone ;; *) red= ;; esac
+    "$tools/clang" --target="$machine-unknown-linux-gnu" -O2 -ffreestanding -fno-stack-protector $red \
+        -c c/stack.c -o "$room/calls.o"
+    "$tools/ld.lld" -o "$room/calls" "$room/calls.o" "$room/boxdoor.a" "$room/runs.a"
+    "$tools/ld.lld" -o "$room/planted" "$room/calls.o" "$room/planted.o" "$room/runs.a"
+}
+
+check_machine() {
+    objects
+    echo "- counted, as delivered (-O3):"
+    count $most skvornela_cut -- "$room/boxdoor.a" || fails "the box's door"
+    count $most skvornela_cut_run -- "$room/runs.a" || fails "a run of packets"
+    count $most $inside cutting::cut_packet -- "$room/inside.o" || fails "a function that a Rattle program calls"
+    echo "- counted, where the optimiser does nothing (-O0):"
+    # (on Arm with a call of memmove, here the one of c/stack.c)
+    count $most $inside -- "$room/inside0.o" "$room/calls.o" || fails "the path inside at -O0"
+
+    echo "- painted, with the frame of the caller in c/stack.c:"
+    run "$room/calls" painted | sed -n 's/^  /  /p' || fails "a call on a painted stack"
+    for door in skvornela_cut:cut_now skvornela_cut_run:run_now; do
+        used=$(painted "$room/calls" "${door%:*}")
+        count $most "${door#*:}" -- "$room/calls.o" "$room/boxdoor.a" "$room/runs.a" >"$room/counted" || fails "its caller"
+        counted=$(sed -n 's/^[a-z_]*: \([0-9]*\) bytes.*/\1/p' "$room/counted")
+        echo "${door%:*}: painted ${used:-nothing}, counted ${counted:-nothing}"
+        { [ "${used:-0}" -gt 0 ] && [ "$used" -le "${counted:-0}" ]; } || fails "what was painted and what was counted disagree"
+        widest=${widest-0}
+        [ "${used:-0}" -le "$widest" ] || widest=$used
+    done
+    up=$(((widest + 15) / 16 * 16))
+    run "$room/calls" $kilobyte || fails "a call in $kilobyte bytes of stack"
+    run "$room/calls" $up || fails "a call in the $up bytes that were painted"
+    if run "$room/calls" $((up - 16)); then fails "the calls also run in $((up - 16)) bytes: paint and wall disagree"; fi
+    echo "- walled: all calls run in $kilobyte bytes and in $up, and not in $((up - 16))"
+    unset widest
+
+    # a check that cannot fail is none
+    if count $most skvornela_cut -- "$room/planted.o" >"$room/counted"; then fails "the count missed a planted copy"; fi
+    grep -q 'TOO MUCH$' "$room/counted" || fails "the count refused a planted copy for another reason"
+    used=$(painted "$room/planted" skvornela_cut)
+    [ "${used:-0}" -ge $most ] || fails "the paint missed a planted copy"
+    if run "$room/planted" $kilobyte; then fails "a planted copy ran in $kilobyte bytes"; fi
+    echo "- planted: noticed by the count ($(sed 's/^[^:]*: \([0-9]*\) .*/\1/' "$room/counted")), by the paint ($used), at the wall"
+    echo "- feeding, for comparison: $(count --tables 1000000 skvornela_feed -- "$room/boxdoor.a" | sed 's/ (.*//')"
+}
+
+for machine in x86_64 $(uname -m | grep -v x86_64); do
+    echo "$machine"
+    check_machine
+    echo
+done
+[ $wrong -eq 0 ] && echo "stack.sh: every call that cuts a packet keeps under $most bytes of stack" || echo "stack.sh: FAILED"
+exit $wrong
