@@ -1,19 +1,18 @@
 #!/bin/sh
 # stack.sh: how much stack it takes to cut a packet. Document 02 leaves the packet task one kilobyte, and no contract speaks of
-# the stack; so it is counted and measured here, on the archive that rt delivers.
+# the stack; so it is counted and measured here, on the archives that rt delivers.
 #
 #     outside/stack.sh
 #
-# For x86-64, for which rt builds, and for the machine at hand where it is another one:
-#   counted   the worst path through the machine code of each call that cuts a packet (src/bin/stack), under 1,000 bytes: the
-#             doors as delivered, and the functions that a Rattle program calls, compiled by the same words as the doors
-#   counted   the same of the functions inside where the optimiser does nothing (-O0)
-#   painted   each call, in all four forms, accepted and by every refusal, on a painted stack (c/stack.c): never more than was
-#             counted
-#   walled    the same calls in 1,024 bytes above a page that is not mapped; they also run in the bytes that were painted, and
-#             not in 16 less
-#   planted   a packet's copy, planted in the library: each of the three has to notice
-# It ends with 0 if all of this holds. It needs a disassembler that knows both machines: Debian's llvm has one.
+# For x86-64, for which rt builds, and for the machine at hand where it is another one, under 1,000 bytes each:
+#   counted   the worst path through the machine code (src/bin/stack) of each door that cuts packets, as delivered; of the
+#             functions that a Rattle program calls, compiled by the same words; and of these where the optimiser does nothing
+#   painted   each call of a door, in all four forms, accepted and by every refusal, on a painted stack (c/stack.c): never more
+#             than was counted
+#   walled    the same calls in 1,024 bytes above a page that is not mapped, and in the bytes that were painted, but not in 16 less
+#   planted   a copy of the packet, planted in the library: count, paint and wall have to notice
+# Feeding is another task's, and is held to the same. It ends with 0 if all of this holds. It needs a disassembler that knows the
+# machine: objdump knows its own, Debian's llvm has one for both.
 set -eu
 cd "$(dirname "$0")"
 export CARGO_TARGET_DIR="$PWD/target"
@@ -70,11 +69,8 @@ count() { # WORDS... -- OBJECT...
     listing "$@" | target/release/stack $words # no name has a blank in it
 }
 
-run() { # PROGRAM WORD: on this machine, or as this machine would if it were an x86-64; quietly where it is killed
+run() { # PROGRAM WORDS...: on this machine, or as this machine would if it were an x86-64; quietly where it is killed
     if [ "$machine" = "$(uname -m)" ]; then "$@"; else "$tools/qemu-$machine" "$@"; fi 2>"$room/said"
-}
-painted() { # PROGRAM NAME: the most that calls of a door used
-    run "$1" painted | sed -n "s/^$2 //p"
 }
 
 inside='cutting::cut_held samples::packing::pack'
@@ -117,48 +113,46 @@ objects() { # for $machine: both archives, a planted copy, what is inside at -O3
     "$tools/ld.lld" -o "$room/planted" "$room/calls.o" "$room/planted.o" "$room/runs.a"
 }
 
-check_machine() {
-    objects
-    echo "- counted, as delivered (-O3):"
-    count $most skvornela_cut -- "$room/boxdoor.a" || fails "the box's door"
-    count $most skvornela_cut_run -- "$room/runs.a" || fails "a run of packets"
-    count $most $inside cutting::cut_packet -- "$room/inside.o" || fails "a function that a Rattle program calls"
-    echo "- counted, where the optimiser does nothing (-O0):"
-    # (on Arm with a call of memmove, here the one of c/stack.c)
-    count $most $inside -- "$room/inside0.o" "$room/calls.o" || fails "the path inside at -O0"
+# a door: counted alone and with its caller in c/stack.c, painted and walled by that program's calls of it
+measure() { # CRATE DOOR CALLER CALLS [--tables]
+    archive=$room/$1.a door=$2 caller=$3 calls=$4 tables=${5-}
+    count $tables $most "$door" -- "$archive" || fails "$door, counted"
+    count $tables $most "$caller" -- "$room/calls.o" "$archive" >"$room/counted" || fails "$caller, counted"
+    counted=$(sed -n 's/^[a-z_]*: \([0-9]*\) bytes.*/\1/p' "$room/counted")
+    run "$room/calls" "$calls" painted >"$room/painted" || fails "$door on a painted stack"
+    sed -n 's/^  /    /p' "$room/painted"
+    used=$(sed -n 's/^most //p' "$room/painted")
+    { [ "${used:-0}" -gt 0 ] && [ "$used" -le "${counted:-0}" ]; } || fails "$door: more was painted than counted"
+    up=$(((${used:-0} + 15) / 16 * 16))
+    run "$room/calls" "$calls" $kilobyte || fails "$door in $kilobyte bytes of stack"
+    run "$room/calls" "$calls" $up || fails "$door in the $up bytes that were painted"
+    if run "$room/calls" "$calls" $((up - 16)); then fails "$door also runs in $((up - 16)) bytes: paint and wall disagree"; fi
+    echo "    with its caller: counted ${counted:-nothing}, painted ${used:-nothing}; runs in $kilobyte and in $up, not in $((up - 16))"
+}
 
-    echo "- painted, with the frame of the caller in c/stack.c:"
-    run "$room/calls" painted | sed -n 's/^  /  /p' || fails "a call on a painted stack"
-    for door in skvornela_cut:cut_now skvornela_cut_run:run_now; do
-        used=$(painted "$room/calls" "${door%:*}")
-        count $most "${door#*:}" -- "$room/calls.o" "$room/boxdoor.a" "$room/runs.a" >"$room/counted" || fails "its caller"
-        counted=$(sed -n 's/^[a-z_]*: \([0-9]*\) bytes.*/\1/p' "$room/counted")
-        echo "${door%:*}: painted ${used:-nothing}, counted ${counted:-nothing}"
-        { [ "${used:-0}" -gt 0 ] && [ "$used" -le "${counted:-0}" ]; } || fails "what was painted and what was counted disagree"
-        widest=${widest-0}
-        [ "${used:-0}" -le "$widest" ] || widest=$used
-    done
-    up=$(((widest + 15) / 16 * 16))
-    run "$room/calls" $kilobyte || fails "a call in $kilobyte bytes of stack"
-    run "$room/calls" $up || fails "a call in the $up bytes that were painted"
-    if run "$room/calls" $((up - 16)); then fails "the calls also run in $((up - 16)) bytes: paint and wall disagree"; fi
-    echo "- walled: all calls run in $kilobyte bytes and in $up, and not in $((up - 16))"
-    unset widest
-
-    # a check that cannot fail is none
+# a check that cannot fail is none
+planted() {
     if count $most skvornela_cut -- "$room/planted.o" >"$room/counted"; then fails "the count missed a planted copy"; fi
     grep -q 'TOO MUCH$' "$room/counted" || fails "the count refused a planted copy for another reason"
-    used=$(painted "$room/planted" skvornela_cut)
+    used=$(run "$room/planted" cut painted | sed -n 's/^most //p')
     [ "${used:-0}" -ge $most ] || fails "the paint missed a planted copy"
-    if run "$room/planted" $kilobyte; then fails "a planted copy ran in $kilobyte bytes"; fi
-    echo "- planted: noticed by the count ($(sed 's/^[^:]*: \([0-9]*\) .*/\1/' "$room/counted")), by the paint ($used), at the wall"
-    echo "- feeding, for comparison: $(count --tables 1000000 skvornela_feed -- "$room/boxdoor.a" | sed 's/ (.*//')"
+    if run "$room/planted" cut $kilobyte; then fails "a planted copy ran in $kilobyte bytes"; fi
+    echo "a planted copy of the packet: counted $(sed 's/^[^:]*: \([0-9]*\) .*/\1/' "$room/counted"), painted $used, not past the wall"
 }
 
 for machine in x86_64 $(uname -m | grep -v x86_64); do
-    echo "$machine"
-    check_machine
+    objects
+    case $machine in x86_64) what='as delivered' ;; *) what='the same modules' ;; esac
+    echo "$machine, $what (-O3):"
+    measure boxdoor skvornela_cut cut_now cut
+    measure runs skvornela_cut_run run_now run
+    measure boxdoor skvornela_feed feed_now feed --tables
+    planted
+    echo "$machine, what a Rattle program calls:"
+    count $most $inside cutting::cut_packet -- "$room/inside.o" || fails "a function that a Rattle program calls"
+    echo "$machine, the same where the optimiser does nothing (-O0):" # on Arm with a call of memmove, the one of c/stack.c
+    count $most $inside -- "$room/inside0.o" "$room/calls.o" || fails "the path inside at -O0"
     echo
 done
-[ $wrong -eq 0 ] && echo "stack.sh: every call that cuts a packet keeps under $most bytes of stack" || echo "stack.sh: FAILED"
-exit $wrong
+[ $wrong -eq 0 ] || { echo "stack.sh: FAILED"; exit 1; }
+echo "stack.sh: all keep under $most bytes of stack"

@@ -1,10 +1,10 @@
-/* stack.c: packets cut on a stack of their own, to see how much of it is used (stack.sh builds and runs it).
+/* stack.c: packets cut, and messages fed, on a stack of their own, to see how much of it is used (stack.sh builds and runs it).
  *
- *     stack painted      each call on a painted stack: prints the most that one of a kind used, and the most of all
- *     stack ROOM         each call with ROOM bytes of stack above a page that is not mapped: a call that uses more ends it
+ *     stack cut|run|feed painted      each call on a painted stack: prints the most that one of a kind used, and the most of all
+ *     stack cut|run|feed ROOM         each with ROOM bytes of stack above a page that is not mapped: one that uses more ends it
  *
  * Every call is made a first time on the ordinary stack, and has to do the same again. It has no C library, so that it runs
- * wherever the archives do. What is measured is a call of `cut_now` or `run_now`, below: their own frames are counted too. */
+ * wherever the archives do. What is measured is a call of `cut_now`, `run_now` or `feed_now`: their own frames are counted too. */
 typedef unsigned char byte;
 typedef __INT32_TYPE__ number;
 typedef __SIZE_TYPE__ size;
@@ -117,6 +117,17 @@ void run_now(void *call) {
     r->answer = skvornela_cut_run(r->mode, r->size, r->n, r->total, r->samples, r->count, r->out, r->bytes);
 }
 
+struct feed {
+    const byte *host;
+    size bytes, consumed, wrote;
+    byte *state, *reply;
+    byte code;
+};
+void feed_now(void *call) {
+    struct feed *f = call;
+    f->code = skvornela_feed(f->state, 108, f->host, f->bytes, f->reply, 64, &f->consumed, &f->wrote);
+}
+
 enum { STATE = 108, PACKETS = 3, LARGEST = 1444 };
 static const size pairs[4] = {240, 64, 256, 128}, totals[4] = {1444, 388, 1028, 516};
 static byte lent[STATE], lent_out[PACKETS * LARGEST]; /* what a call is lent */
@@ -203,8 +214,10 @@ static const struct {
     {"a capture that is full", FULL},
     {"three packets in a run", 3},
     {"a run to the first that is refused", 2},
+    {"messages fed whole", 0},
+    {"messages fed byte by byte", 0},
 };
-enum { KINDS = sizeof kinds / sizeof *kinds, RUN = KINDS - 2 };
+enum { KINDS = sizeof kinds / sizeof *kinds, FEED = KINDS - 2, RUN = FEED - 2 };
 
 static size cut(int form, int kind) {
     struct cut c = {lent, lent_out, samples, STATE, 2 * pairs[form], sizeof lent_out, 99, 99};
@@ -236,8 +249,54 @@ static size cut_run(int form, int kind) {
     return used;
 }
 
+/* every item is asked for and set, rates of the table's both ends and its midst among them; the last six are refused */
+static const byte messages[][10] = {
+    {4, 0x20, 1, 0},
+    {4, 0x20, 2, 0},
+    {4, 0x20, 3, 0},
+    {5, 0x20, 4, 0, 3},
+    {4, 0x20, 5, 0},
+    {10, 0, 0x20, 0, 0, 0x90, 0xC6, 0xD5, 0, 0},
+    {5, 0x20, 0x20, 0, 0},
+    {5, 0x40, 0x20, 0, 0},
+    {6, 0, 0x38, 0, 0, 0xEC},
+    {5, 0x20, 0x38, 0, 0},
+    {9, 0, 0xB0, 0, 0, 0x7B, 0xB4, 0xC4, 4},
+    {5, 0x20, 0xB0, 0, 0},
+    {9, 0, 0xB8, 0, 0, 0x80, 0x84, 0x1E, 0},
+    {9, 0, 0xB8, 0, 0, 0x20, 0xA1, 7, 0},
+    {9, 0, 0xB8, 0, 0, 0, 0x7D, 0, 0},
+    {5, 0x20, 0xB8, 0, 0},
+    {5, 0, 0xC4, 0, 1},
+    {5, 0x20, 0xC4, 0, 0},
+    {8, 0, 0x18, 0, 0x80, 2, 0x80, 0},
+    {4, 0x20, 0x18, 0},
+    {9, 0, 0xB8, 0, 0, 0, 0x7D, 0, 0},
+    {4, 0x20, 0x99, 0},
+    {4, 0xE0, 1, 0},
+    {5, 0x20, 1, 0, 0},
+    {6, 0, 0x38, 0, 0, 0xED},
+    {10, 0, 0x20, 0, 2, 0x90, 0xC6, 0xD5, 0, 0},
+};
+
+static size feed_all(int kind) {
+    size used = 0;
+    must(skvornela_fresh((const byte *)"MT123456", 8, lent, STATE) == 1, "no fresh box");
+    for (size m = 0; m < sizeof messages / sizeof *messages; m++) {
+        size piece = kind == FEED ? messages[m][0] : 1;
+        for (size at = 0; at < messages[m][0]; at += piece) {
+            struct feed f = {messages[m] + at, piece, 99, 99, lent, lent_out, 99};
+            size its = measured(feed_now, &f, kinds[kind].what);
+            must(f.consumed == piece && f.code < NO_ROOM, kinds[kind].what);
+            if (used < its) used = its;
+        }
+    }
+    return used;
+}
+
 void begin(long *given) {
-    const char *word = given[0] == 2 ? (const char *)given[2] : "";
+    const char *which = given[0] == 3 ? (const char *)given[2] : "", *word = given[0] == 3 ? (const char *)given[3] : "";
+    int from = which[0] == 'c' ? 0 : which[0] == 'r' ? RUN : FEED, to = from == 0 ? RUN : from == RUN ? FEED : KINDS;
     byte *m = (byte *)ask(MMAP, 0, PAGE + AREA, 3, 0x22, -1, 0);
     if ((long)m < 0 || ask(MPROTECT, (long)m, PAGE, 0, 0, 0, 0) != 0) end(3);
     area = m + PAGE;
@@ -245,9 +304,9 @@ void begin(long *given) {
         for (; '0' <= *word && *word <= '9'; word++) room = 10 * room + (size)(*word - '0');
         if (*word || room == 0 || room % 16 || AREA < room) end(2);
     }
-    for (int kind = 0; kind < KINDS; kind++) {
-        size used = 0;
-        for (int form = 0; form < 4; form++) {
+    for (int kind = from; kind < to; kind++) {
+        size used = kind < FEED ? 0 : feed_all(kind);
+        for (int form = 0; form < 4 && kind < FEED; form++) {
             size its = kind < RUN ? cut(form, kind) : cut_run(form, kind);
             if (used < its) used = its;
         }
@@ -257,12 +316,11 @@ void begin(long *given) {
         say(": ");
         say_number(used);
         say("\n");
-        if (kind + 1 == RUN || kind + 1 == KINDS) {
-            say(kind < RUN ? "skvornela_cut " : "skvornela_cut_run ");
-            say_number(most);
-            say("\n");
-            most = 0;
-        }
+    }
+    if (!room) {
+        say("most ");
+        say_number(most);
+        say("\n");
     }
     end(0);
 }

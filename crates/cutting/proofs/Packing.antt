@@ -1,4 +1,4 @@
--- What packing and the two leading fields leave in the lent packet.
+-- What packing and the four leading bytes leave in the lent packet.
 -- Assumes nothing.
 use Prim.Native.Nat.{ℕ, _*_, _≤_}
 use mathlib.Core.Path.{_≡_, refl, ap, _∙_}
@@ -29,14 +29,12 @@ module _ (f : Form) (samples : List ℤ) (room : ℕ) (l : listedForm f ≡ true
   packed-all : allSamples samples ≡ true → packedOf f samples room ≡ samplesBytes (f .bits) samples
   packed-all a = rw (may-pack ∙ a)
 
-  pub packet-stored : (lent l₁ l₂ l₃ : List ℕ) (position total header number : ℕ) → allSamples samples ≡ true
-      → total ≡ totalOf f → header ≡ headerOf typeData total → number ≡ numberAt position
-      → l₁ ≡ sets lent 4 (packedOf f samples room) → l₂ ≡ sets l₁ 0 (bytes 2 header) → l₃ ≡ sets l₂ 2 (bytes 2 number)
-      → l₃ ≡ sets lent 0 (packetOf f position samples)
-  packet-stored lent l₁ l₂ l₃ position total header number a t h k e₁ e₂ e₃ =
-      e₃
-      ∙ ap (λ (m : List ℕ). sets m 2 (bytes 2 number)) e₂
-      ∙ ap (λ (m : List ℕ). sets (sets m 0 (bytes 2 header)) 2 (bytes 2 number)) (e₁ ∙ ap (sets lent 4) (packed-all a))
-      ∙ laid lent (bytes 2 header) (bytes 2 number) (samplesBytes (f .bits) samples) refl refl
-      ∙ ap (λ (m : ℕ). sets lent 0 (bytes 2 m ++ bytes 2 number ++ samplesBytes (f .bits) samples)) (h ∙ ap (headerOf typeData) t)
-      ∙ ap (λ (m : ℕ). sets lent 0 (bytes 2 (headerOf typeData (totalOf f)) ++ bytes 2 m ++ samplesBytes (f .bits) samples)) k
+  pub packet-stored : (lent l₁ l₂ : List ℕ) (position total : ℕ) → allSamples samples ≡ true → total ≡ totalOf f
+      → l₁ ≡ sets lent 4 (packedOf f samples room) → l₂ ≡ sets l₁ 0 (bytes 2 (headerOf typeData total) ++ bytes 2 (numberAt position))
+      → l₂ ≡ sets lent 0 (packetOf f position samples)
+  packet-stored lent l₁ l₂ position total a t e₁ e₂ =
+      let leading = bytes 2 (headerOf typeData total) ++ bytes 2 (numberAt position) in
+      e₂
+      ∙ ap (λ (m : List ℕ). sets m 0 leading) (e₁ ∙ ap (sets lent 4) (packed-all a))
+      ∙ laid lent leading (samplesBytes (f .bits) samples) refl
+      ∙ ap (λ (m : ℕ). sets lent 0 (bytes 2 (headerOf typeData m) ++ bytes 2 (numberAt position) ++ samplesBytes (f .bits) samples)) t

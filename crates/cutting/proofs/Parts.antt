@@ -4,7 +4,7 @@ use Prim.Native.Nat.{ℕ, suc, _+_, _≤_, _<_}
 use native.Mathlib.Omega.{arith}
 use mathlib.Core.Path.{_≡_, refl, ap, _∙_}
 use mathlib.Core.List.{List, [], _∷_, _++_}
-use lib.ListN.{length, set, length-append}
+use lib.ListN.{length, set}
 use lib.Seq.{sets, set-comm}
 use Rattle.wire.proofs.Stores.{sets-append}
 
@@ -22,19 +22,7 @@ sets-before l i j (u ∷ us) vs h =
     ap (λ (k : List ℕ). sets k (suc i) us) (set-before l i j u vs (omega arith))
     ∙ sets-before (set l i u) (suc i) j us vs (omega arith)
 
--- header, number and samples, stored samples first, are the packet
-pub laid : (l header number samples : List ℕ) → length header ≡ 2 → length number ≡ 2
-    → sets (sets (sets l 4 samples) 0 header) 2 number ≡ sets l 0 (header ++ number ++ samples)
-laid l header number samples h n =
-    ap (λ (k : List ℕ). sets k 2 number) (sets-before l 0 4 header samples (omega arith))
-    ∙ sets-before (sets l 0 header) 2 4 number samples (omega arith)
-    ∙ ap (λ (k : List ℕ). sets k 4 samples) head
-    ∙ tail
-  where
-    head : sets (sets l 0 header) 2 number ≡ sets l 0 (header ++ number)
-    head = rw h at (sets-append l 0 header number)
-
-    tail : sets (sets l 0 (header ++ number)) 4 samples ≡ sets l 0 (header ++ number ++ samples)
-    tail =
-        let four : length (header ++ number) ≡ 4 = length-append header number ∙ omega arith in
-        rw four at (sets-append l 0 (header ++ number) samples)
+-- the four leading bytes and the samples, stored samples first, are the packet
+pub laid : (l leading samples : List ℕ) → length leading ≡ 4 → sets (sets l 4 samples) 0 leading ≡ sets l 0 (leading ++ samples)
+laid l leading samples four =
+    sets-before l 0 4 leading samples (omega arith) ∙ rw four at (sets-append l 0 leading samples)

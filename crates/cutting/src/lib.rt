@@ -1,8 +1,11 @@
 // Cutting packets from samples, at the box.
 ghost use mathlib.Core.Path.{_≡_};
-ghost use Prim.Native.Nat.{_+_, _<_};
+ghost use mathlib.Core.List.{_++_};
+ghost use Prim.Native.Nat.{_+_, _≤_, _<_};
 ghost use Rattle.wire.specs.Choice.{pick};
-ghost use Rattle.packets.specs.Numbers.{most};
+ghost use Rattle.wire.specs.Number.{bytes};
+ghost use Rattle.wire.specs.Header.{headerOf, typeData};
+ghost use Rattle.packets.specs.Numbers.{numberAt, most};
 ghost use Rattle.packets.specs.Samples.{allSamples};
 ghost use Rattle.items.specs.Settings.{withCount};
 ghost use lib.ListN.{length};
@@ -31,7 +34,8 @@ pub struct CutHeld {
 }
 
 // Cuts the next packet of a running capture from I and Q in turn: the packet of the box's mode and size, with the number of
-// its position. Where it refuses, the lent packet is as it was.
+// its position. Where it refuses, the lent packet is as it was. The box comes and goes by value, and is copied on the stack: a
+// task that has little stack calls `cut_held`, or the door.
 pub fn cut_packet(s: Station, samples: &[i32], packet: &mut [u8]) -> Cut
     ensures { λ r.
         ⌜ (r ≡ cuttingOf s (now (samples .entry)) (length (now (packet .entry))) .cut)
@@ -89,14 +93,22 @@ pub fn cut_held(
     if !samples::pack(form, samples, packet) {
         return refused(codes::NOT_A_SAMPLE, settings);
     }
-    wire::put(
-        packet,
-        0,
-        2,
-        wire::header_of(types::DATA, total as u16) as u64,
-    );
-    wire::put(packet, 2, 2, packets::number_at_position(count) as u64);
+    put_leading(packet, total, count);
     counted(settings, total as usize)
+}
+
+// Writes the four leading bytes of a packet: the header of its total, and the number of its position.
+fn put_leading(packet: &mut [u8], total: u64, position: u64)
+    requires { ⌜ (total < 65536) × (4 ≤ length (now packet)) ⌝ }
+    ensures { λ r.
+        ⌜ now (packet .exit) ≡ sets (now (packet .entry)) 0 (bytes 2 (headerOf typeData total) ++ bytes 2 (numberAt position)) ⌝ }
+{
+    let header = wire::header_of(types::DATA, total as u16);
+    let number = packets::number_at_position(position);
+    packet[0] = (header % 256) as u8;
+    packet[1] = (header / 256) as u8;
+    packet[2] = (number % 256) as u8;
+    packet[3] = (number / 256) as u8;
 }
 
 // "Codes from 20 consume nothing and return the state given."

@@ -1,6 +1,5 @@
 pub mod Codes
 pub mod Fields
-pub mod Held
 pub mod Joined
 pub mod Refusals
 pub mod RoundTrip

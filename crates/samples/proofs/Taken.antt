@@ -11,7 +11,7 @@ use lib.Seq.{sets}
 use Rattle.wire.specs.Number.{field}
 use Rattle.wire.specs.Signed.{signed}
 use Rattle.packets.specs.Samples.{sampleAt, samplesFrom}
-use Rattle.samples.proofs.Held.{Held, hold-turn}
+use Rattle.wire.proofs.Held.{Held, hold-turn}
 use Rattle.samples.proofs.Fields.{field-drop, field-high, field-halves}
 
 -- the i-th sample of a packet stands after its four leading bytes

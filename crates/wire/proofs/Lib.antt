@@ -8,3 +8,4 @@ pub mod Checks
 pub mod Halves
 pub mod Firm
 pub mod Lists
+pub mod Held

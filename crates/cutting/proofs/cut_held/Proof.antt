@@ -197,29 +197,12 @@ returns-6 c =
     rw (c .refused5 .ensures, ← refuses (box f) (given f) (room f) 24 code (λ e. omega arith))
     (refl, p .pack .ensures .1 ∙ ap (sets (now (start f .args .packet)) 4) none)
 
-cast-header-of : tie.Need-cast-header-of
-cast-header-of c =
-    let t = totalled (c .before .before .before .before) in
+put-leading-requires : tie.Need-put-leading-requires
+put-leading-requires c κs =
+    let p = c .before .before .before .before in
+    let t = totalled p in
     let f = formed (counted t) in
-    record { fits = omega (arith, total-at t, is-listed-form (form f) (listed-at f) .short) }
-
-header-of-requires : tie.Need-header-of-requires
-header-of-requires c κs = search needs
-
-cast-put : tie.Need-cast-put
-cast-put c = search needs
-
-put-requires : tie.Need-put-requires
-put-requires c κs = search needs
-
-number-at-position-requires : tie.Need-number-at-position-requires
-number-at-position-requires c κs = search needs
-
-cast-put-2 : tie.Need-cast-put-2
-cast-put-2 c = search needs
-
-put-requires-2 : tie.Need-put-requires-2
-put-requires-2 c κs = search needs
+    (omega (arith, total-at t, is-listed-form (form f) (listed-at f) .short), omega (arith, fits-at p))
 
 counted-requires : tie.Need-counted-requires
 counted-requires c κs = search needs
@@ -230,11 +213,8 @@ same-length-2 c = search needs
 returns-7 : tie.Need-returns-7
 returns-7 c =
     -- the places on the way here, from the last call back to the start
-    let put2 = c .before .before .before in
-    let numbered = put2 .before in
-    let put = numbered .before .before .before .before in
-    let headed = put .before in
-    let good6 = headed .before .before in
+    let led = c .before .before .before in
+    let good6 = led .before .before in
     let packed = good6 .before .before .before in
     let totalled = packed .before .before .before in
     let counted = totalled .before in
@@ -253,10 +233,8 @@ returns-7 c =
     code-1 s (now (a .samples)) n (valid-at sound) (running-at running) (unfull .if3 .left) (count-at counted) good (rw form at fits) in
     rw (c .counted .ensures, ← cuts s (now (a .samples)) n code) (
       rw (total-at totalled, form),
-      packet-stored f (now (a .samples)) n (listed-at formed) (many-at counted) fits (now (a .packet)) _ _ _ (s .settings .count)
-          (totalled .total-of .result) (headed .header-of .result) (numbered .number-at-position .result) good (total-at totalled)
-          (headed .header-of .ensures) (numbered .number-at-position .ensures) (packed .pack .ensures .1)
-          (put .put .ensures) (put2 .put2 .ensures)
+      packet-stored f (now (a .samples)) n (listed-at formed) (many-at counted) fits (now (a .packet)) _ _ (s .settings .count)
+          (totalled .total-of .result) good (total-at totalled) (packed .pack .ensures .1) (led .put-leading .ensures)
           ∙ ap (λ (g : Form). sets (now (a .packet)) 0 (packetOf g (s .settings .count) (now (a .samples)))) form,
     )
 
@@ -282,13 +260,7 @@ cut-held-spec =
     refused-requires-5
     same-length
     returns-6
-    cast-header-of
-    header-of-requires
-    cast-put
-    put-requires
-    number-at-position-requires
-    cast-put-2
-    put-requires-2
+    put-leading-requires
     counted-requires
     same-length-2
     returns-7)

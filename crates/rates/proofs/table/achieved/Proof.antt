@@ -3,7 +3,6 @@
 use Prim.Native.Nat.{ℕ, _-_, _≤_, _<_}
 use mathlib.Core.Path.{_≡_, sym, ap, _∙_}
 use mathlib.Core.Bool.{true, false}
-use native.Mathlib.Nat.{zero-add}
 use native.Mathlib.Omega.{arith}
 use lib.ListN.{getD}
 use borrow.Author.Needs.{needs}
@@ -57,145 +56,82 @@ sub-place c = ten c
 cast-place : tie.Need-cast-place
 cast-place c = search needs
 
-mul-result : tie.Need-mul-result
-mul-result c = search needs
+in-stretch-requires : tie.Need-in-stretch-requires
+in-stretch-requires c κs = search needs
 
-array-read-result : tie.Need-array-read-result
-array-read-result c = search needs
+in-stretch-requires-2 : tie.Need-in-stretch-requires-2
+in-stretch-requires-2 c κs = search needs
 
-add-result : tie.Need-add-result
-add-result c = search needs
+in-stretch-requires-3 : tie.Need-in-stretch-requires-3
+in-stretch-requires-3 c κs = search needs
 
-mul-result-2 : tie.Need-mul-result-2
-mul-result-2 c = search needs
+in-stretch-requires-4 : tie.Need-in-stretch-requires-4
+in-stretch-requires-4 c κs = search needs
 
-array-read-result-2 : tie.Need-array-read-result-2
-array-read-result-2 c = search needs
+in-stretch-requires-5 : tie.Need-in-stretch-requires-5
+in-stretch-requires-5 c κs = search needs
 
-add-result-2 : tie.Need-add-result-2
-add-result-2 c = search needs
+in-stretch-requires-6 : tie.Need-in-stretch-requires-6
+in-stretch-requires-6 c κs = search needs
 
-mul-result-3 : tie.Need-mul-result-3
-mul-result-3 c = search needs
+in-stretch-requires-7 : tie.Need-in-stretch-requires-7
+in-stretch-requires-7 c κs = search needs
 
-array-read-result-3 : tie.Need-array-read-result-3
-array-read-result-3 c = search needs
+in-stretch-requires-8 : tie.Need-in-stretch-requires-8
+in-stretch-requires-8 c κs = search needs
 
-add-result-3 : tie.Need-add-result-3
-add-result-3 c = search needs
+in-stretch-requires-9 : tie.Need-in-stretch-requires-9
+in-stretch-requires-9 c κs = search needs
 
-mul-result-4 : tie.Need-mul-result-4
-mul-result-4 c = search needs
+in-stretch-requires-10 : tie.Need-in-stretch-requires-10
+in-stretch-requires-10 c κs = search needs
 
-array-read-result-4 : tie.Need-array-read-result-4
-array-read-result-4 c = search needs
-
-add-result-4 : tie.Need-add-result-4
-add-result-4 c = search needs
-
-mul-result-5 : tie.Need-mul-result-5
-mul-result-5 c = search needs
-
-array-read-result-5 : tie.Need-array-read-result-5
-array-read-result-5 c = search needs
-
-add-result-5 : tie.Need-add-result-5
-add-result-5 c = search needs
-
-mul-result-6 : tie.Need-mul-result-6
-mul-result-6 c = search needs
-
-array-read-result-6 : tie.Need-array-read-result-6
-array-read-result-6 c = search needs
-
-add-result-6 : tie.Need-add-result-6
-add-result-6 c = search needs
-
-mul-result-7 : tie.Need-mul-result-7
-mul-result-7 c = search needs
-
-array-read-result-7 : tie.Need-array-read-result-7
-array-read-result-7 c = search needs
-
-add-result-7 : tie.Need-add-result-7
-add-result-7 c = search needs
-
-mul-result-8 : tie.Need-mul-result-8
-mul-result-8 c = search needs
-
-array-read-result-8 : tie.Need-array-read-result-8
-array-read-result-8 c = search needs
-
-add-result-8 : tie.Need-add-result-8
-add-result-8 c = search needs
-
-mul-result-9 : tie.Need-mul-result-9
-mul-result-9 c = search needs
-
-array-read-result-9 : tie.Need-array-read-result-9
-array-read-result-9 c = search needs
-
-add-result-9 : tie.Need-add-result-9
-add-result-9 c = search needs
-
-mul-result-10 : tie.Need-mul-result-10
-mul-result-10 c = search needs
-
-array-read-result-10 : tie.Need-array-read-result-10
-array-read-result-10 c = search needs
-
-add-result-10 : tie.Need-add-result-10
-add-result-10 c = search needs
-
-mul-result-11 : tie.Need-mul-result-11
-mul-result-11 c = search needs
-
-array-read-result-11 : tie.Need-array-read-result-11
-array-read-result-11 c = search needs
+in-stretch-requires-11 : tie.Need-in-stretch-requires-11
+in-stretch-requires-11 c κs = search needs
 
 returns-2 : tie.Need-returns-2
 unfolding entries
-returns-2 c = entry (c .before) _ (sym (zero-add _) ∙ stretch 0 _ (c .match .keys1))
+returns-2 c = c .in-stretch .ensures ∙ entry (c .before .before .before) _ (stretch 0 _ (c .before .match .keys1))
 
 returns-3 : tie.Need-returns-3
 unfolding entries
-returns-3 c = entry (c .before) _ (stretch 1 _ (c .match .keys2))
+returns-3 c = c .in-stretch2 .ensures ∙ entry (c .before .before .before) _ (stretch 1 _ (c .before .match .keys2))
 
 returns-4 : tie.Need-returns-4
 unfolding entries
-returns-4 c = entry (c .before) _ (stretch 2 _ (c .match .keys3))
+returns-4 c = c .in-stretch3 .ensures ∙ entry (c .before .before .before) _ (stretch 2 _ (c .before .match .keys3))
 
 returns-5 : tie.Need-returns-5
 unfolding entries
-returns-5 c = entry (c .before) _ (stretch 3 _ (c .match .keys4))
+returns-5 c = c .in-stretch4 .ensures ∙ entry (c .before .before .before) _ (stretch 3 _ (c .before .match .keys4))
 
 returns-6 : tie.Need-returns-6
 unfolding entries
-returns-6 c = entry (c .before) _ (stretch 4 _ (c .match .keys5))
+returns-6 c = c .in-stretch5 .ensures ∙ entry (c .before .before .before) _ (stretch 4 _ (c .before .match .keys5))
 
 returns-7 : tie.Need-returns-7
 unfolding entries
-returns-7 c = entry (c .before) _ (stretch 5 _ (c .match .keys6))
+returns-7 c = c .in-stretch6 .ensures ∙ entry (c .before .before .before) _ (stretch 5 _ (c .before .match .keys6))
 
 returns-8 : tie.Need-returns-8
 unfolding entries
-returns-8 c = entry (c .before) _ (stretch 6 _ (c .match .keys7))
+returns-8 c = c .in-stretch7 .ensures ∙ entry (c .before .before .before) _ (stretch 6 _ (c .before .match .keys7))
 
 returns-9 : tie.Need-returns-9
 unfolding entries
-returns-9 c = entry (c .before) _ (stretch 7 _ (c .match .keys8))
+returns-9 c = c .in-stretch8 .ensures ∙ entry (c .before .before .before) _ (stretch 7 _ (c .before .match .keys8))
 
 returns-10 : tie.Need-returns-10
 unfolding entries
-returns-10 c = entry (c .before) _ (stretch 8 _ (c .match .keys9))
+returns-10 c = c .in-stretch9 .ensures ∙ entry (c .before .before .before) _ (stretch 8 _ (c .before .match .keys9))
 
 returns-11 : tie.Need-returns-11
 unfolding entries
-returns-11 c = entry (c .before) _ (stretch 9 _ (c .match .keys10))
+returns-11 c = c .in-stretch10 .ensures ∙ entry (c .before .before .before) _ (stretch 9 _ (c .before .match .keys10))
 
 returns-12 : tie.Need-returns-12
 unfolding entries
-returns-12 c = entry (c .before) _ (stretch 10 _ (last-stretch _ (inside (c .before)) (c .match .rest)))
+returns-12 c = c .in-stretch11 .ensures ∙ entry (c .before .before .before) _ (stretch 10 _ (last-stretch _ (inside (c .before .before .before)) (c .before .match .rest)))
 
 pub achieved-spec : {M : Type 1} → statement M
 achieved-spec =
@@ -205,38 +141,17 @@ achieved-spec =
     returns
     sub-place
     cast-place
-    mul-result
-    array-read-result
-    add-result
-    mul-result-2
-    array-read-result-2
-    add-result-2
-    mul-result-3
-    array-read-result-3
-    add-result-3
-    mul-result-4
-    array-read-result-4
-    add-result-4
-    mul-result-5
-    array-read-result-5
-    add-result-5
-    mul-result-6
-    array-read-result-6
-    add-result-6
-    mul-result-7
-    array-read-result-7
-    add-result-7
-    mul-result-8
-    array-read-result-8
-    add-result-8
-    mul-result-9
-    array-read-result-9
-    add-result-9
-    mul-result-10
-    array-read-result-10
-    add-result-10
-    mul-result-11
-    array-read-result-11
+    in-stretch-requires
+    in-stretch-requires-2
+    in-stretch-requires-3
+    in-stretch-requires-4
+    in-stretch-requires-5
+    in-stretch-requires-6
+    in-stretch-requires-7
+    in-stretch-requires-8
+    in-stretch-requires-9
+    in-stretch-requires-10
+    in-stretch-requires-11
     returns-2
     returns-3
     returns-4

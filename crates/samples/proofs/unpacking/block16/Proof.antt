@@ -12,7 +12,7 @@ use lib.ListN.{length, drop, length-set}
 use lib.Seq.{sets}
 use mir.Facts.{toZ-ofZ}
 use Rattle.packets.specs.Samples.{samplesFrom}
-use Rattle.samples.proofs.Held.{Held}
+use Rattle.wire.proofs.Held.{Held}
 use Rattle.samples.proofs.Taken.{StandFor, hold-pair, unpack-turn, unpack-end}
 use Rattle.samples.proofs.unpacking.block16.Statement.{statement}
 use Rattle.samples.proofs.unpacking.block16.Tie as tie
