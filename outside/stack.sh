@@ -7,8 +7,8 @@
 # For x86-64, for which rt builds, and for the machine at hand where it is another one, under 1,000 bytes each:
 #   counted   the worst path through the machine code (src/bin/stack) of each door that cuts packets, as delivered; of the
 #             functions that a Rattle program calls, compiled by the same words; and of these where the optimiser does nothing
-#   painted   each call of a door, in all four forms, accepted and by every refusal, on a painted stack (c/stack.c): never more
-#             than was counted
+#   painted   each call of a door (c/stack.c), cutting in all four forms, accepted and by every refusal, on a painted stack: never
+#             more than was counted
 #   walled    the same calls in 1,024 bytes above a page that is not mapped, and in the bytes that were painted, but not in 16 less
 #   planted   a copy of the packet, planted in the library: count, paint and wall have to notice
 # Feeding is another task's, and is held to the same. It ends with 0 if all of this holds. It needs a disassembler that knows the
@@ -72,6 +72,11 @@ count() { # WORDS... -- OBJECT...
 run() { # PROGRAM WORDS...: on this machine, or as this machine would if it were an x86-64; quietly where it is killed
     if [ "$machine" = "$(uname -m)" ]; then "$@"; else "$tools/qemu-$machine" "$@"; fi 2>"$room/said"
 }
+walls() { # PROGRAM WORDS...: it ran into the page that is not mapped (signal 11), and did not end for another reason
+    ended=0
+    run "$@" || ended=$?
+    [ $ended -eq 139 ]
+}
 
 inside='cutting::cut_held samples::packing::pack'
 for name in $inside cutting::cut_packet; do
@@ -93,6 +98,7 @@ sed -f "$room/plant" "$room/boxdoor/module.ll" >"$room/planted.ll"
 objects() { # for $machine: both archives, a planted copy, what is inside at -O3 and -O0, and the calls
     for crate in boxdoor runs; do
         compile $crate "$room/$crate/module.bc" "$room/$crate.o" "$machine" 3
+        rm -f "$room/$crate.a"
         "$tools/llvm-ar" rcs "$room/$crate.a" "$room/$crate.o"
     done
     # what is counted is what is delivered
@@ -126,7 +132,7 @@ measure() { # CRATE DOOR CALLER CALLS [--tables]
     up=$(((${used:-0} + 15) / 16 * 16))
     run "$room/calls" "$calls" $kilobyte || fails "$door in $kilobyte bytes of stack"
     run "$room/calls" "$calls" $up || fails "$door in the $up bytes that were painted"
-    if run "$room/calls" "$calls" $((up - 16)); then fails "$door also runs in $((up - 16)) bytes: paint and wall disagree"; fi
+    walls "$room/calls" "$calls" $((up - 16)) || fails "$door, not stopped in $((up - 16)) bytes: paint and wall disagree"
     echo "    with its caller: counted ${counted:-nothing}, painted ${used:-nothing}; runs in $kilobyte and in $up, not in $((up - 16))"
 }
 
@@ -136,7 +142,7 @@ planted() {
     grep -q 'TOO MUCH$' "$room/counted" || fails "the count refused a planted copy for another reason"
     used=$(run "$room/planted" cut painted | sed -n 's/^most //p')
     [ "${used:-0}" -ge $most ] || fails "the paint missed a planted copy"
-    if run "$room/planted" cut $kilobyte; then fails "a planted copy ran in $kilobyte bytes"; fi
+    walls "$room/planted" cut $kilobyte || fails "a planted copy was not stopped in $kilobyte bytes"
     echo "a planted copy of the packet: counted $(sed 's/^[^:]*: \([0-9]*\) .*/\1/' "$room/counted"), painted $used, not past the wall"
 }
 

@@ -118,14 +118,14 @@ void run_now(void *call) {
 }
 
 struct feed {
-    const byte *host;
-    size bytes, consumed, wrote;
     byte *state, *reply;
+    const byte *host;
+    size bytes, room, consumed, wrote;
     byte code;
 };
 void feed_now(void *call) {
     struct feed *f = call;
-    f->code = skvornela_feed(f->state, 108, f->host, f->bytes, f->reply, 64, &f->consumed, &f->wrote);
+    f->code = skvornela_feed(f->state, 108, f->host, f->bytes, f->reply, f->room, &f->consumed, &f->wrote);
 }
 
 enum { STATE = 108, PACKETS = 3, LARGEST = 1444 };
@@ -214,8 +214,8 @@ static const struct {
     {"a capture that is full", FULL},
     {"three packets in a run", 3},
     {"a run to the first that is refused", 2},
-    {"messages fed whole", 0},
-    {"messages fed byte by byte", 0},
+    {"messages fed whole", DONE},
+    {"messages fed byte by byte", DONE},
 };
 enum { KINDS = sizeof kinds / sizeof *kinds, FEED = KINDS - 2, RUN = FEED - 2 };
 
@@ -249,49 +249,68 @@ static size cut_run(int form, int kind) {
     return used;
 }
 
-/* every item is asked for and set, rates of the table's both ends and its midst among them; the last six are refused */
-static const byte messages[][10] = {
-    {4, 0x20, 1, 0},
-    {4, 0x20, 2, 0},
-    {4, 0x20, 3, 0},
-    {5, 0x20, 4, 0, 3},
-    {4, 0x20, 5, 0},
-    {10, 0, 0x20, 0, 0, 0x90, 0xC6, 0xD5, 0, 0},
-    {5, 0x20, 0x20, 0, 0},
-    {5, 0x40, 0x20, 0, 0},
-    {6, 0, 0x38, 0, 0, 0xEC},
-    {5, 0x20, 0x38, 0, 0},
-    {9, 0, 0xB0, 0, 0, 0x7B, 0xB4, 0xC4, 4},
-    {5, 0x20, 0xB0, 0, 0},
-    {9, 0, 0xB8, 0, 0, 0x80, 0x84, 0x1E, 0},
-    {9, 0, 0xB8, 0, 0, 0x20, 0xA1, 7, 0},
-    {9, 0, 0xB8, 0, 0, 0, 0x7D, 0, 0},
-    {5, 0x20, 0xB8, 0, 0},
-    {5, 0, 0xC4, 0, 1},
-    {5, 0x20, 0xC4, 0, 0},
-    {8, 0, 0x18, 0, 0x80, 2, 0x80, 0},
-    {4, 0x20, 0x18, 0},
-    {9, 0, 0xB8, 0, 0, 0, 0x7D, 0, 0},
-    {4, 0x20, 0x99, 0},
-    {4, 0xE0, 1, 0},
-    {5, 0x20, 1, 0, 0},
-    {6, 0, 0x38, 0, 0, 0xED},
-    {10, 0, 0x20, 0, 2, 0x90, 0xC6, 0xD5, 0, 0},
+/* every item is set and asked for, rates of the table's both ends and its midst among them; what is not answered; every refusal */
+static const struct {
+    byte code, bytes[10];
+} messages[] = {
+    {1, {4, 0x20, 1, 0}},
+    {1, {4, 0x20, 2, 0}},
+    {1, {4, 0x20, 3, 0}},
+    {1, {5, 0x20, 4, 0, 3}},
+    {1, {4, 0x20, 5, 0}},
+    {1, {10, 0, 0x20, 0, 0, 0x90, 0xC6, 0xD5, 0, 0}},
+    {1, {5, 0x20, 0x20, 0, 0}},
+    {1, {5, 0x40, 0x20, 0, 0}},
+    {1, {6, 0, 0x38, 0, 0, 0xEC}},
+    {1, {5, 0x20, 0x38, 0, 0}},
+    {1, {9, 0, 0xB0, 0, 0, 0x7B, 0xB4, 0xC4, 4}},
+    {1, {5, 0x20, 0xB0, 0, 0}},
+    {1, {9, 0, 0xB8, 0, 0, 0x80, 0x84, 0x1E, 0}},
+    {1, {9, 0, 0xB8, 0, 0, 0x20, 0xA1, 7, 0}},
+    {1, {9, 0, 0xB8, 0, 0, 0, 0x7D, 0, 0}},
+    {1, {5, 0x20, 0xB8, 0, 0}},
+    {1, {5, 0, 0xC4, 0, 1}},
+    {1, {4, 0x20, 0xC4, 0}},
+    {1, {8, 0, 0x18, 0, 0x80, 2, 0x80, 0}},
+    {1, {4, 0x20, 0x18, 0}},
+    {2, {4, 0xE0, 1, 0}},
+    {11, {3, 0x20, 1}},
+    {12, {4, 0x20, 0x99, 0}},
+    {13, {5, 0x20, 1, 0, 0}},
+    {14, {4, 0, 1, 0}},
+    {15, {10, 0, 0x20, 0, 2, 0x90, 0xC6, 0xD5, 0, 0}},
+    {16, {6, 0, 0x38, 0, 0, 0xED}},
+    {17, {9, 0, 0xB8, 0, 0, 0, 0x7D, 0, 0}},
 };
+static const byte too_long[66] = {66, 0, 1, 0}, asked[4] = {4, 0x20, 1, 0};
 
-static size feed_all(int kind) {
+static size fed(const byte *host, size n, size piece, byte code, const char *what) {
     size used = 0;
-    must(skvornela_fresh((const byte *)"MT123456", 8, lent, STATE) == 1, "no fresh box");
-    for (size m = 0; m < sizeof messages / sizeof *messages; m++) {
-        size piece = kind == FEED ? messages[m][0] : 1;
-        for (size at = 0; at < messages[m][0]; at += piece) {
-            struct feed f = {messages[m] + at, piece, 99, 99, lent, lent_out, 99};
-            size its = measured(feed_now, &f, kinds[kind].what);
-            must(f.consumed == piece && f.code < NO_ROOM, kinds[kind].what);
-            if (used < its) used = its;
-        }
+    for (size at = 0; at < n; at += piece) {
+        struct feed f = {lent, lent_out, host + at, piece, code == NO_ROOM ? 2 : 64, 99, 99, 99};
+        size its = measured(feed_now, &f, what);
+        if (used < its) used = its;
+        must(f.consumed == (code < NO_ROOM ? piece : 0), what);
+        must(f.code == (at + piece < n ? 0 : code), what); /* 0: it waits for the rest */
     }
     return used;
+}
+static size feed_all(int kind) {
+    const char *what = kinds[kind].what;
+    size used = 0, whole = kind == FEED;
+    must(skvornela_fresh((const byte *)"MT123456", 8, lent, STATE) == 1, "no fresh box");
+    for (size m = 0; m < sizeof messages / sizeof *messages; m++) {
+        const byte *message = messages[m].bytes;
+        size its = fed(message, message[0], whole ? message[0] : 1, messages[m].code, what);
+        if (used < its) used = its;
+    }
+    size its = fed(too_long, sizeof too_long, whole ? sizeof too_long : 1, 10, what);
+    if (used < its) used = its;
+    its = fed(asked, sizeof asked, sizeof asked, NO_ROOM, what);
+    if (used < its) used = its;
+    lent[25] ^= 1;
+    its = fed(asked, sizeof asked, sizeof asked, BROKEN, what);
+    return used < its ? its : used;
 }
 
 void begin(long *given) {

@@ -18,7 +18,8 @@ use Rattle.samples.specs.Packing.{mayPack, packedOf}
 use Rattle.cutting.specs.Cutting.{packetOf}
 use Rattle.cutting.proofs.Parts.{laid}
 
-module _ (f : Form) (samples : List ℤ) (room : ℕ) (l : listedForm f ≡ true) (n : length samples ≡ 2 * f .pairs) (fits : totalOf f ≤ room) where
+module _ (f : Form) (samples : List ℤ) (room : ℕ)
+    (l : listedForm f ≡ true) (n : length samples ≡ 2 * f .pairs) (fits : totalOf f ≤ room) where
   -- with a listed form, its samples and room, packing looks only for a sample outside 24 bits
   pub may-pack : mayPack f samples room ≡ allSamples samples
   may-pack = rw (l, eq-eqb (length samples) (2 * f .pairs) n, le-leb (totalOf f) room fits)

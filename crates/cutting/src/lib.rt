@@ -97,7 +97,8 @@ pub fn cut_held(
     counted(settings, total as usize)
 }
 
-// Writes the four leading bytes of a packet: the header of its total, and the number of its position.
+// Writes the four leading bytes of a packet: the header of its total, and the number of its position. (`wire::put` has functions
+// below it, which take more stack than packing does where nothing is optimised.)
 fn put_leading(packet: &mut [u8], total: u64, position: u64)
     requires { ⌜ (total < 65536) × (4 ≤ length (now packet)) ⌝ }
     ensures { λ r.

@@ -3,7 +3,7 @@
 use std::collections::HashMap;
 
 use crate::listing::{Function, Instruction, Listing, Machine};
-use crate::step::{is_filler, step, Step};
+use crate::step::{is_filler, step, Step, RED_ZONE};
 
 /// The most stack that a function takes, and how much of it each function on the way there does.
 #[derive(Clone, Debug, PartialEq)]
@@ -25,7 +25,6 @@ impl<'a> Counter<'a> {
 
     /// A call of a function, its return address counted: x86-64 pushes it.
     pub fn call(&mut self, name: &str) -> Result<Path, String> {
-        let name = self.listing.sections.get(name).map_or(name, |first| first);
         if let Some(found) = self.found.get(name) {
             return found.clone();
         }
@@ -45,12 +44,16 @@ impl<'a> Counter<'a> {
             Machine::Arm => 0,
         };
         let depths = depths(name, function, self.tables)?;
+        // below the pointer a function that calls others can keep nothing
+        let calls = |i: &Instruction| matches!(step(function.machine, i), Step::Call | Step::Leave);
+        let zone = if function.instructions.iter().any(calls) { 0 } else { RED_ZONE };
         let mut worst = Path { bytes: back, by: vec![format!("{name} {back}")] };
         for (i, depth) in function.instructions.iter().zip(depths) {
             let Some(depth) = depth else { continue };
             let (own, callee) = match step(function.machine, i) {
                 Step::On(n) => (depth + n.max(0), None),
                 Step::Below(n) => (depth + n, None),
+                Step::Near => (depth + zone, None),
                 Step::Call => (depth, Some(self.call(&callee(name, i)?)?)),
                 // its return address is ours
                 Step::Leave if depth == 0 => (-back, Some(self.call(&callee(name, i)?)?)),
@@ -100,11 +103,14 @@ fn depths(name: &str, function: &Function, tables: bool) -> Result<Vec<Option<i6
             match step(function.machine, i) {
                 Step::On(n) if depth + n < 0 => return Err(odd(name, i, "takes what is not its own from the stack")),
                 Step::On(n) => ways.push((k + 1, depth + n)),
-                Step::Below(_) | Step::Call => ways.push((k + 1, depth)),
+                Step::Below(_) | Step::Near | Step::Call => ways.push((k + 1, depth)),
                 Step::Branch(at) => ways.extend([(k + 1, depth), (to(at)?, depth)]),
                 Step::Jump(at) => ways.push((to(at)?, depth)),
                 Step::Return if depth != 0 => return Err(odd(name, i, "returns with something on the stack")),
-                Step::Table if tables && at_tables.is_none_or(|known| known == depth) => at_tables = Some(depth),
+                // with nothing on the stack it could be a call for good
+                Step::Table if tables && 0 < depth && at_tables.is_none_or(|known| known == depth) => {
+                    at_tables = Some(depth)
+                }
                 Step::Leave | Step::Return | Step::End => {}
                 Step::Table | Step::Unknown => return Err(odd(name, i, "does what is not counted")),
             }

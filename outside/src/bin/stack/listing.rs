@@ -26,43 +26,69 @@ pub struct Listing {
     pub functions: HashMap<String, Function>,
     /// names that stand for more than one function
     pub twice: Vec<String>,
-    /// the function that a section begins with
-    pub sections: HashMap<String, String>,
 }
 
 impl Listing {
+    /// of the listings of any number of objects
     pub fn of(text: &str) -> Listing {
         let mut listing = Listing::default();
-        let (mut machine, mut section, mut name) = (None, "", None::<String>);
+        let mut object = Object::default();
         for line in text.lines() {
             if let Some((_, format)) = line.split_once("file format ") {
-                machine = match format.trim() {
+                listing.add(std::mem::take(&mut object));
+                object.machine = match format.trim() {
                     "elf64-x86-64" => Some(Machine::X86),
                     "elf64-littleaarch64" => Some(Machine::Arm),
                     _ => None,
                 };
-                name = None;
-            } else if let Some(its) = line.strip_prefix("Disassembly of section ") {
-                (section, name) = (its.trim_end_matches(':'), None);
-            } else if let Some(its) = heading(line) {
-                let Some(machine) = machine else { continue };
-                let function = Function { machine, instructions: Vec::new() };
-                if listing.functions.insert(its.into(), function).is_some() {
-                    listing.twice.push(its.into());
-                }
-                if line.starts_with("0000000000000000 ") {
-                    listing.sections.insert(section.into(), its.into());
-                }
-                name = Some(its.into());
-            } else if let (Some(function), Some((at, text))) = (&name, numbered(line)) {
-                let instructions = &mut listing.functions.get_mut(function).expect("inserted above").instructions;
-                match (text.strip_prefix("R_"), instructions.last_mut()) {
-                    (Some(relocation), Some(last)) => last.symbol = Some(symbol(relocation)),
-                    _ => instructions.push(Instruction { at, text: plain(text), symbol: None }),
-                }
+            } else {
+                object.read(line);
             }
         }
+        listing.add(object);
         listing
+    }
+
+    fn add(&mut self, object: Object) {
+        let Some(machine) = object.machine else { return };
+        for (name, mut instructions) in object.functions {
+            for i in &mut instructions {
+                // a section stands for the function that it begins with
+                if let Some(first) = i.symbol.as_ref().and_then(|symbol| object.sections.get(symbol)) {
+                    i.symbol = Some(first.clone());
+                }
+            }
+            if self.functions.insert(name.clone(), Function { machine, instructions }).is_some() {
+                self.twice.push(name);
+            }
+        }
+    }
+}
+
+/// What was read of one object.
+#[derive(Default)]
+struct Object {
+    machine: Option<Machine>,
+    section: String,
+    functions: Vec<(String, Vec<Instruction>)>,
+    sections: HashMap<String, String>,
+}
+
+impl Object {
+    fn read(&mut self, line: &str) {
+        if let Some(its) = line.strip_prefix("Disassembly of section ") {
+            self.section = its.trim_end_matches(':').into();
+        } else if let Some(name) = heading(line) {
+            self.functions.push((name.into(), Vec::new()));
+            if line.starts_with("0000000000000000 ") {
+                self.sections.insert(self.section.clone(), name.into());
+            }
+        } else if let (Some((_, instructions)), Some((at, text))) = (self.functions.last_mut(), numbered(line)) {
+            match (text.strip_prefix("R_"), instructions.last_mut()) {
+                (Some(relocation), Some(last)) => last.symbol = Some(symbol(relocation)),
+                _ => instructions.push(Instruction { at, text: plain(text), symbol: None }),
+            }
+        }
     }
 }
 

@@ -8,6 +8,8 @@ pub enum Step {
     On(i64),
     /// the next instruction follows; so many bytes below the stack pointer are used
     Below(i64),
+    /// the next instruction follows; an address near the stack pointer is worked out, by which any of the red zone may be used
+    Near,
     /// the next instruction follows, after a call
     Call,
     /// the way may go on at a place as well
@@ -25,7 +27,28 @@ pub enum Step {
 }
 
 /// All that lies below the stack pointer of x86-64 and is a function's own, if it calls none.
-const RED_ZONE: i64 = 128;
+pub const RED_ZONE: i64 = 128;
+
+/// What x86-64 does to numbers and flags, by names that may end with a width; and how the names begin of what it does to
+/// vectors, and of moves. All of these move the stack pointer only where they name it. What is not among them is not counted.
+const NUMBERS: &[&str] = &[
+    "lea", "add", "adc", "sub", "sbb", "and", "or", "xor", "not", "neg", "inc", "dec", "cmp", "test", "shl", "shr",
+    "sal", "sar", "rol", "ror", "imul", "mul", "div", "idiv", "bsf", "bsr", "bswap", "bt", "btr", "bts", "btc",
+    "tzcnt", "lzcnt", "popcnt", "cqto", "cltd", "cltq", "cwtl", "cwtd", "nop", "endbr64", "stos", "xchg",
+];
+const VECTORS: &[&str] = &[
+    "mov", "cmov", "set", "cvt", "pack", "punpck", "unpck", "padd", "psub", "pmul", "pmadd", "pand", "por", "pxor",
+    "pcmp", "pmin", "pmax", "pshuf", "psll", "psrl", "psra", "pextr", "pinsr", "pavg", "pmovmskb", "movmsk", "shuf", "xorp", "andp", "andnp",
+    "orp",
+];
+
+fn is_plain(name: &str) -> bool {
+    let narrow = name.strip_suffix(['b', 'w', 'l', 'q']).unwrap_or(name);
+    NUMBERS.contains(&name) || NUMBERS.contains(&narrow) || VECTORS.iter().any(|start| name.starts_with(start))
+}
+
+/// The names of Arm that begin as its branches do, and are none.
+const ARM: &[&str] = &["bic", "bics", "bif", "bit", "bsl", "bfi", "bfxil", "bfc", "bfm", "bti"];
 
 pub fn step(machine: Machine, i: &Instruction) -> Step {
     match machine {
@@ -102,9 +125,9 @@ fn branch(i: &Instruction, operands: &str) -> Step {
 fn x86(i: &Instruction) -> Step {
     let (name, rest) = name_of(&i.text);
     let parts = operands(rest);
-    let to = *parts.last().expect("split has a part");
+    let (from, to) = (parts[0], *parts.last().expect("split has a part"));
     let is_pointer = |part: &str| matches!(part, "%rsp" | "%esp" | "%sp" | "%spl");
-    let by = |sign: i64| match parts[0].strip_prefix('$').and_then(number) {
+    let by = |sign: i64| match from.strip_prefix('$').and_then(number) {
         Some(n) if to == "%rsp" && parts.len() == 2 => Step::On(sign * n),
         _ => Step::Unknown,
     };
@@ -113,7 +136,7 @@ fn x86(i: &Instruction) -> Step {
         "pop" | "popq" if !is_pointer(to) => Step::On(-8),
         "sub" | "subq" if is_pointer(to) => by(1),
         "add" | "addq" if is_pointer(to) => by(-1),
-        "lea" | "leaq" if to == "%rsp" => match parts[0].strip_suffix("(%rsp)").and_then(number) {
+        "lea" | "leaq" if to == "%rsp" => match from.strip_suffix("(%rsp)").and_then(number) {
             Some(n) => Step::On(-n),
             None => Step::Unknown,
         },
@@ -123,39 +146,35 @@ fn x86(i: &Instruction) -> Step {
         "jmp" | "jmpq" if to.starts_with("*%") => Step::Table,
         "jmp" | "jmpq" => jump(i, rest),
         "ud2" | "hlt" | "int3" => Step::End,
-        "jcxz" | "jecxz" | "jrcxz" => branch(i, rest),
-        "popcnt" | "popcntl" | "popcntq" | "popcntw" => Step::On(0),
         _ if name.starts_with('j') => branch(i, rest),
-        _ if ["push", "pop", "loop", "ret", "lret", "iret", "call", "lcall", "sys", "int"]
-            .iter()
-            .any(|s| name.starts_with(s)) =>
-        {
-            Step::Unknown
-        }
-        "leave" | "enter" | "leaveq" | "(bad)" | "<unknown>" | ".byte" => Step::Unknown,
-        _ if is_pointer(to) => Step::Unknown,
-        // a copy of the pointer: what is reached by it below the pointer is not seen
-        _ if parts.iter().any(|part| is_pointer(part)) => Step::Below(RED_ZONE),
-        _ => match parts.iter().filter_map(|part| below(part, name)).max() {
-            Some(n) => Step::Below(n),
-            None => Step::On(0),
-        },
+        // a copy of the pointer
+        "mov" | "movq" if from == "%rsp" && parts.len() == 2 && !is_pointer(to) => Step::Near,
+        _ if parts.iter().any(|part| is_pointer(part)) => Step::Unknown,
+        _ if !is_plain(name) => Step::Unknown,
+        _ => parts.iter().map(|part| near(part, name)).max_by_key(rank).expect("split has a part"),
     }
 }
 
-/// How far below the stack pointer an operand of x86-64 lies, if it does. What is written by way of an index or by an address
-/// that is only worked out here may lie anywhere in the red zone.
-fn below(part: &str, name: &str) -> Option<i64> {
-    let (offset, base) = part.split_once('(')?;
-    if !base.starts_with("%rsp") && !base.ends_with("%rsp)") {
-        return None;
+/// What an operand of x86-64 uses below the stack pointer: so much where it is told plainly, else anything of the red zone.
+fn near(part: &str, name: &str) -> Step {
+    match part.split_once('(') {
+        Some((offset, "%rsp)")) if !name.starts_with("lea") => match number(offset) {
+            Some(n) if n < 0 => Step::Below(-n),
+            Some(_) => Step::On(0),
+            None if offset.is_empty() => Step::On(0),
+            None => Step::Unknown,
+        },
+        Some((_, base)) if base.contains("%rsp") => Step::Near,
+        _ => Step::On(0),
     }
-    match number(offset) {
-        Some(n) if n < 0 && base == "%rsp)" && !name.starts_with("lea") => Some(-n),
-        Some(n) if n < 0 => Some(RED_ZONE),
-        Some(_) => None,
-        None if offset.is_empty() => None,
-        None => Some(RED_ZONE),
+}
+
+fn rank(step: &Step) -> i64 {
+    match step {
+        Step::On(_) => 0,
+        Step::Below(n) => *n,
+        Step::Near => i64::MAX - 1,
+        _ => i64::MAX,
     }
 }
 
@@ -170,8 +189,11 @@ fn arm(i: &Instruction) -> Step {
         "cbz" | "cbnz" | "tbz" | "tbnz" => branch(i, rest),
         "udf" | "brk" => Step::End,
         _ if name.starts_with("b.") => branch(i, rest),
-        _ if name.starts_with("bl") || name.starts_with("br") || name.starts_with("ret") => Step::Unknown,
-        "<unknown>" | ".inst" | ".word" | "undefined" | "svc" | "eret" => Step::Unknown,
+        _ if name.starts_with('b') && !ARM.contains(&name) => Step::Unknown,
+        _ if name.starts_with(['<', '(', '.']) => Step::Unknown,
+        _ if ["ret", "eret", "svc", "hvc", "smc", "hlt", "undefined"].iter().any(|s| name.starts_with(s)) => {
+            Step::Unknown
+        }
         "sub" | "add" if parts[0] == "sp" && parts.get(1) == Some(&"sp") => {
             let sign = if name == "sub" { 1 } else { -1 };
             match (parts[2].strip_prefix('#').and_then(number), &parts[3..]) {

@@ -64,7 +64,11 @@ fn what_lies_below_the_pointer() {
     // it may lie anywhere in the red zone
     assert_eq!(x86(&["lea -0x18(%rsp),%rax", "ret"]), Ok(8 + 128));
     assert_eq!(x86(&["mov %al,-0x78(%rsp,%rcx,1)", "ret"]), Ok(8 + 128));
+    assert_eq!(x86(&["mov %al,0x10(%rsp,%rcx,1)", "ret"]), Ok(8 + 128));
+    assert_eq!(x86(&["lea 0x18(%rsp),%rax", "ret"]), Ok(8 + 128));
     assert_eq!(x86(&["mov %rsp,%rax", "ret"]), Ok(8 + 128));
+    // but not where a call would overwrite it
+    assert_eq!(x86(&["lea 0x18(%rsp),%rax", "call 5 <f+0x5>", "R X86_64_PLT32\tleaf-0x4", "ret"]), Ok(8 + 8 + 24));
     refused(arm(&["str x0, [sp, #-16]", "ret"]), "not counted"); // Arm has none
 }
 
@@ -89,6 +93,19 @@ fn calls() {
     refused(x86(&["je 7 <f+0x7>", "R X86_64_PLT32\tleaf-0x4", "ret"]), "not counted");
     refused(arm(&["blr x8", "ret"]), "not counted");
     refused(arm(&["br x8"]), "not counted");
+    for line in [
+        "rex.W call 5 <leaf>",
+        "addr32 call 5 <leaf>",
+        "ds jmp *%rax",
+        "{evex} call 5 <leaf>",
+        "ljmp *(%rax)",
+        "xbegin 9",
+    ] {
+        refused(x86(&[line, "ret"]), "not counted");
+    }
+    for line in ["bc.eq 0 <f>", "blraa x8, x9", "retab", "svc #0"] {
+        refused(arm(&[line, "ret"]), "not counted");
+    }
 }
 
 #[test]
@@ -131,6 +148,8 @@ fn jump_tables_where_they_are_allowed() {
     let found = counted("elf64-x86-64", &[("f", lines)], "f", true).map(|path| path.bytes);
     assert_eq!(found, Ok(8 + 8 + 16));
     assert!(counted("elf64-x86-64", &[("f", lines)], "f", false).is_err());
+    assert!(counted("elf64-x86-64", &[("f", &["jmp *%rcx"])], "f", true).is_err());
+    // it may leave for good
 }
 
 #[test]

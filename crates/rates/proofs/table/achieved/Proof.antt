@@ -131,7 +131,10 @@ returns-11 c = c .in-stretch10 .ensures ∙ entry (c .before .before .before) _ 
 
 returns-12 : tie.Need-returns-12
 unfolding entries
-returns-12 c = c .in-stretch11 .ensures ∙ entry (c .before .before .before) _ (stretch 10 _ (last-stretch _ (inside (c .before .before .before)) (c .before .match .rest)))
+returns-12 c =
+    let m = c .before in
+    let s = m .before .before in
+    c .in-stretch11 .ensures ∙ entry s _ (stretch 10 _ (last-stretch _ (inside s) (m .match .rest)))
 
 pub achieved-spec : {M : Type 1} → statement M
 achieved-spec =

@@ -46,7 +46,8 @@ loop-again : tie.Need-loop-again Inv-loop μ-loop
 loop-again c =
     let a = c .before .before .before .args in
     let l = c .before .before .loop in
-    (omega arith, simp length-set (l .inv .1), hold-turn (Copied (a .table .now) (a .first)) (l .held) (l .i) _ (omega arith) refl (l .inv .2))
+    let one-more = hold-turn (Copied (a .table .now) (a .first)) (l .held) (l .i) _ (omega arith) refl (l .inv .2) in
+    (omega arith, simp length-set (l .inv .1), one-more)
 
 mul-result : tie.Need-mul-result Inv-loop μ-loop
 mul-result c = omega arith

@@ -1,6 +1,6 @@
 -- `samples::packing::pack16` meets its contract. The loop's invariant: what is still to be stored gives the whole.
 use Prim.Native.Nat.{suc, _+_, _*_, _-_, _/_, _%_, _≤_}
-use mathlib.Core.Path.{_≡_, refl, _∙_}
+use mathlib.Core.Path.{_≡_, refl}
 use native.Mathlib.Omega.{arith}
 use denote.Ref.{now}
 use lib.ListN.{length, drop, length-set}
