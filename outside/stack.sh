@@ -6,10 +6,12 @@
 #
 # For x86-64, for which rt builds, and for the machine at hand where it is another one, under 1,000 bytes each:
 #   counted   the worst path through the machine code (src/bin/stack) of each door that cuts packets, as delivered; of the
-#             functions that a Rattle program calls, compiled by the same words; and of these where the optimiser does nothing
+#             functions that a Rattle program calls, compiled by the same words; and of cut_held and pack where the optimiser
+#             does nothing
 #   painted   each call of a door (c/stack.c), cutting in all four forms, accepted and by every refusal, on a painted stack: never
 #             more than was counted
-#   walled    the same calls in 1,024 bytes above a page that is not mapped, and in the bytes that were painted, but not in 16 less
+#   walled    the same calls in 1,024 bytes above a page that may not be touched, and in what was painted, rounded up to
+#             sixteens, but not in 16 less
 #   planted   a copy of the packet, planted in the library: count, paint and wall have to notice
 # Feeding is another task's, and is held to the same. It ends with 0 if all of this holds. It needs a disassembler that knows the
 # machine: objdump knows its own, Debian's llvm has one for both.
@@ -72,7 +74,7 @@ count() { # WORDS... -- OBJECT...
 run() { # PROGRAM WORDS...: on this machine, or as this machine would if it were an x86-64; quietly where it is killed
     if [ "$machine" = "$(uname -m)" ]; then "$@"; else "$tools/qemu-$machine" "$@"; fi 2>"$room/said"
 }
-walls() { # PROGRAM WORDS...: it ran into the page that is not mapped (signal 11), and did not end for another reason
+walls() { # PROGRAM WORDS...: it ran into the page that may not be touched (signal 11), and did not end for another reason
     ended=0
     run "$@" || ended=$?
     [ $ended -eq 139 ]
@@ -95,7 +97,7 @@ cat >"$room/plant" <<'END'
 END
 sed -f "$room/plant" "$room/boxdoor/module.ll" >"$room/planted.ll"
 
-objects() { # for $machine: both archives, a planted copy, what is inside at -O3 and -O0, and the calls
+objects() { # for $machine: both archives, a planted copy, what is inside at -O3 and -O0, the door at -O0, and the calls
     for crate in boxdoor runs; do
         compile $crate "$room/$crate/module.bc" "$room/$crate.o" "$machine" 3
         rm -f "$room/$crate.a"
@@ -112,6 +114,7 @@ objects() { # for $machine: both archives, a planted copy, what is inside at -O3
     compile boxdoor "$room/planted.ll" "$room/planted.o" "$machine" 3
     compile runs "$room/visible.ll" "$room/inside.o" "$machine" 3
     compile runs "$room/visible.ll" "$room/inside0.o" "$machine" 0
+    compile boxdoor "$room/boxdoor/module.bc" "$room/boxdoor0.o" "$machine" 0
     case $machine in x86_64) red=-mno-red-zone ;; *) red= ;; esac
     "$tools/clang" --target="$machine-unknown-linux-gnu" -O2 -ffreestanding -fno-stack-protector $red \
         -c c/stack.c -o "$room/calls.o"
@@ -125,7 +128,10 @@ measure() { # CRATE DOOR CALLER CALLS [--tables]
     count $tables $most "$door" -- "$archive" || fails "$door, counted"
     count $tables $most "$caller" -- "$room/calls.o" "$archive" >"$room/counted" || fails "$caller, counted"
     counted=$(sed -n 's/^[a-z_]*: \([0-9]*\) bytes.*/\1/p' "$room/counted")
-    run "$room/calls" "$calls" painted >"$room/painted" || fails "$door on a painted stack"
+    run "$room/calls" "$calls" painted >"$room/painted" || {
+        grep '^WRONG' "$room/painted" || :
+        fails "$door on a painted stack"
+    }
     sed -n 's/^  /    /p' "$room/painted"
     used=$(sed -n 's/^most //p' "$room/painted")
     { [ "${used:-0}" -gt 0 ] && [ "$used" -le "${counted:-0}" ]; } || fails "$door: more was painted than counted"
@@ -156,8 +162,11 @@ for machine in x86_64 $(uname -m | grep -v x86_64); do
     planted
     echo "$machine, what a Rattle program calls:"
     count $most $inside cutting::cut_packet -- "$room/inside.o" || fails "a function that a Rattle program calls"
-    echo "$machine, the same where the optimiser does nothing (-O0):" # on Arm with a call of memmove, the one of c/stack.c
+    echo "$machine, where the optimiser does nothing (-O0):" # with the memset and memmove of c/stack.c, where they are called
     count $most $inside -- "$room/inside0.o" "$room/calls.o" || fails "the path inside at -O0"
+    echo "$machine, at -O0 with no limit, to be known:"
+    count 1000000 cutting::cut_packet -- "$room/inside0.o" "$room/calls.o" | sed 's/ (.*//'
+    count 1000000 skvornela_cut -- "$room/boxdoor0.o" "$room/calls.o" | sed 's/ (.*//'
     echo
 done
 [ $wrong -eq 0 ] || { echo "stack.sh: FAILED"; exit 1; }

@@ -1,7 +1,7 @@
 /* stack.c: packets cut, and messages fed, on a stack of their own, to see how much of it is used (stack.sh builds and runs it).
  *
  *     stack cut|run|feed painted      each call on a painted stack: prints the most that one of a kind used, and the most of all
- *     stack cut|run|feed ROOM         each with ROOM bytes of stack above a page that is not mapped: one that uses more ends it
+ *     stack cut|run|feed ROOM         each with ROOM bytes of stack above a page that may not be touched: one that uses more ends it
  *
  * Every call is made a first time on the ordinary stack, and has to do the same again. It has no C library, so that it runs
  * wherever the archives do. What is measured is a call of `cut_now`, `run_now` or `feed_now`: their own frames are counted too. */
@@ -55,7 +55,11 @@ static void on(byte *top, void (*go)(void *), void *call) {
 __asm__(".globl _start\n_start: mov x0, sp\n\tbl begin\n");
 #endif
 
-/* what a compiler that optimises nothing may call for a copy */
+/* what a compiler that optimises nothing may call for a copy or to clear */
+void *memset(void *to, int value, size n) {
+    for (size i = 0; i < n; i++) ((byte *)to)[i] = (byte)value;
+    return to;
+}
 void *memmove(void *to, const void *from, size n) {
     byte *t = to;
     const byte *f = from;
@@ -82,10 +86,10 @@ static void say_number(size n) {
     say(at);
 }
 
-enum { PAGE = 65536, AREA = 2 * PAGE }; /* a page of Linux on any of the two machines, or many of them */
-static byte *area;                      /* AREA bytes above PAGE bytes that are not mapped */
+enum { PAGE = 65536, AREA = 2 * PAGE }; /* no page of Linux on these two machines is larger */
+static byte *area;                      /* AREA bytes above PAGE bytes that may not be touched */
 static size room;                       /* how much of it is lent, 0 where it is painted */
-static size most;                       /* and how much was used */
+static size most;                       /* the most that one call used */
 
 static size used_with(byte paint, void (*go)(void *), void *call) {
     size k = 0;
@@ -96,6 +100,7 @@ static size used_with(byte paint, void (*go)(void *), void *call) {
 }
 
 /* ---- the calls */
+enum { STATE = 108 };
 struct cut {
     byte *state, *packet;
     const number *samples;
@@ -125,10 +130,10 @@ struct feed {
 };
 void feed_now(void *call) {
     struct feed *f = call;
-    f->code = skvornela_feed(f->state, 108, f->host, f->bytes, f->reply, f->room, &f->consumed, &f->wrote);
+    f->code = skvornela_feed(f->state, STATE, f->host, f->bytes, f->reply, f->room, &f->consumed, &f->wrote);
 }
 
-enum { STATE = 108, PACKETS = 3, LARGEST = 1444 };
+enum { PACKETS = 3, LARGEST = 1444 };
 static const size pairs[4] = {240, 64, 256, 128}, totals[4] = {1444, 388, 1028, 516};
 static byte lent[STATE], lent_out[PACKETS * LARGEST]; /* what a call is lent */
 static byte state[STATE], out[PACKETS * LARGEST];     /* what it has to leave */
@@ -249,7 +254,8 @@ static size cut_run(int form, int kind) {
     return used;
 }
 
-/* every item is set and asked for, rates of the table's both ends and its midst among them; what is not answered; every refusal */
+/* every item is asked for, and set where it can be; rates of both ends and the middle of the table; what is not answered; every
+   refusal but for length, room and a broken box, which come after */
 static const struct {
     byte code, bytes[10];
 } messages[] = {
@@ -266,7 +272,7 @@ static const struct {
     {1, {9, 0, 0xB0, 0, 0, 0x7B, 0xB4, 0xC4, 4}},
     {1, {5, 0x20, 0xB0, 0, 0}},
     {1, {9, 0, 0xB8, 0, 0, 0x80, 0x84, 0x1E, 0}},
-    {1, {9, 0, 0xB8, 0, 0, 0x20, 0xA1, 7, 0}},
+    {1, {9, 0, 0xB8, 0, 0, 0, 0xFA, 0, 0}},
     {1, {9, 0, 0xB8, 0, 0, 0, 0x7D, 0, 0}},
     {1, {5, 0x20, 0xB8, 0, 0}},
     {1, {5, 0, 0xC4, 0, 1}},

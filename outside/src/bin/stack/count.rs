@@ -44,8 +44,8 @@ impl<'a> Counter<'a> {
             Machine::Arm => 0,
         };
         let depths = depths(name, function, self.tables)?;
-        // below the pointer a function that calls others can keep nothing
-        let calls = |i: &Instruction| matches!(step(function.machine, i), Step::Call | Step::Leave);
+        // below the pointer a function that calls others, and comes back, can keep nothing
+        let calls = |i: &Instruction| step(function.machine, i) == Step::Call;
         let zone = if function.instructions.iter().any(calls) { 0 } else { RED_ZONE };
         let mut worst = Path { bytes: back, by: vec![format!("{name} {back}")] };
         for (i, depth) in function.instructions.iter().zip(depths) {

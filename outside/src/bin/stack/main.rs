@@ -7,7 +7,7 @@
 //! NAME has its own return address in it. It ends with 1 where a figure is not below LIMIT, and where something cannot be
 //! counted: a call or jump through a register, a callee that is not in the listing, a call that comes back to its caller, a
 //! stack pointer that is moved by anything but a plain number or differs by the way that led to a place, an instruction that
-//! no way leads to. With --tables a jump through a register is taken to stay in its function, as those of a jump table do.
+//! no way leads to, or one of x86-64 that it does not know. With --tables a jump through a register is taken to stay in its function, as those of a jump table do.
 
 mod count;
 mod listing;

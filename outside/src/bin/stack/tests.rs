@@ -67,6 +67,8 @@ fn what_lies_below_the_pointer() {
     assert_eq!(x86(&["mov %al,0x10(%rsp,%rcx,1)", "ret"]), Ok(8 + 128));
     assert_eq!(x86(&["lea 0x18(%rsp),%rax", "ret"]), Ok(8 + 128));
     assert_eq!(x86(&["mov %rsp,%rax", "ret"]), Ok(8 + 128));
+    let leaving = ["mov %al,-0x68(%rsp,%rcx,1)", "jmp 7 <f+0x7>", "R X86_64_PLT32\tleaf-0x4"];
+    assert_eq!(x86(&leaving), Ok(8 + 128));
     // but not where a call would overwrite it
     assert_eq!(x86(&["lea 0x18(%rsp),%rax", "call 5 <f+0x5>", "R X86_64_PLT32\tleaf-0x4", "ret"]), Ok(8 + 8 + 24));
     refused(arm(&["str x0, [sp, #-16]", "ret"]), "not counted"); // Arm has none
@@ -148,8 +150,8 @@ fn jump_tables_where_they_are_allowed() {
     let found = counted("elf64-x86-64", &[("f", lines)], "f", true).map(|path| path.bytes);
     assert_eq!(found, Ok(8 + 8 + 16));
     assert!(counted("elf64-x86-64", &[("f", lines)], "f", false).is_err());
+    // with nothing on the stack it may leave for good
     assert!(counted("elf64-x86-64", &[("f", &["jmp *%rcx"])], "f", true).is_err());
-    // it may leave for good
 }
 
 #[test]
