@@ -1,5 +1,5 @@
 #!/usr/bin/env python3
-"""The cases of span_cases, and what it must print of them, from document 01 alone:
+"""The cases of span_cases, and what it must print of them, from document 01 and request No. 1 of 02 alone:
 
     python3 expected.py stdin > stdin; python3 expected.py stdout > stdout
 
@@ -57,7 +57,8 @@ def report(data):
     def line():
         covered = positions[-1] + 1
         samples = covered * form[3]
-        return f"C {captures} {form[2]} {form[3]} {len(positions)} {covered} {samples} {samples * d // 20}"
+        missed = sum(after - before - 1 for before, after in zip(positions, positions[1:]))
+        return f"C {captures} {form[2]} {form[3]} {len(positions)} {covered} {samples} {samples * d // 20} {missed}"
 
     while at < len(data):
         found = [f for f in FORMS if data[at : at + 2] == f[0] and at + f[1] <= len(data)]

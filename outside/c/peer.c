@@ -59,7 +59,7 @@ struct station {
 
 struct reader {
     bool heard;
-    uint64_t position, bits, pairs;
+    uint64_t position, total, bits, pairs;
 };
 
 static bool frequency_allowed(uint64_t f)
@@ -441,14 +441,21 @@ static bool form_of(const uint8_t *packet, size_t n, uint64_t *bits, uint64_t *p
     return false;
 }
 
-static enum code read_packet(struct reader *r, const uint8_t *packet, size_t n, uint64_t *position, uint64_t *sample)
+/* Where a packet stands in its capture, how many were missed just before it, and how many in the capture so far. */
+struct place {
+    uint64_t position, sample, missed, total;
+};
+
+static enum code read_packet(struct reader *r, const uint8_t *packet, size_t n, struct place *place)
 {
-    uint64_t bits, pairs, at = 0;
+    uint64_t bits, pairs, at = 0, missed = 0, total = 0;
     if (r->heard) {
         bool listed = (r->bits == 24 && (r->pairs == 240 || r->pairs == 64))
             || (r->bits == 16 && (r->pairs == 256 || r->pairs == 128));
         if (r->position > 3999999999u || !listed) return BROKEN;
-    } else if (r->position || r->bits || r->pairs) {
+        /* of each step all but one packet is missed, so what is not missed is the number of steps */
+        if (r->total > r->position || r->position > (r->position - r->total) * 65535) return BROKEN;
+    } else if (r->position || r->total || r->bits || r->pairs) {
         return BROKEN;
     }
     if (!form_of(packet, n, &bits, &pairs)) return NOT_A_PACKET;
@@ -457,26 +464,28 @@ static enum code read_packet(struct reader *r, const uint8_t *packet, size_t n, 
         if (!r->heard) return NO_FIRST_PACKET;
         if (bits != r->bits || pairs != r->pairs) return FORM_CHANGED;
         uint16_t last = number_at(r->position);
-        at = r->position + number - last + (number > last ? 0 : 65535);
+        missed = number - last + (number > last ? 0 : 65535) - 1;
+        at = r->position + missed + 1;
         if (at > 3999999999u) return PAST_LAST;
+        total = r->total + missed;
     }
-    *r = (struct reader){true, at, bits, pairs};
-    *position = at;
-    *sample = at * pairs;
+    *r = (struct reader){true, at, total, bits, pairs};
+    *place = (struct place){at, at * pairs, missed, total};
     return DONE;
 }
 
 /* Reads packets of one length one after another by a new reader, to the first that is refused: the position of the last
-   packet's first sample. */
-uint64_t peer_read_run(const uint8_t *packets, size_t n, size_t total)
+   packet's first sample, and how many packets were missed in its capture up to it. */
+uint64_t peer_read_run(const uint8_t *packets, size_t n, size_t total, uint64_t *missed)
 {
     struct reader r = {0};
-    uint64_t position, sample = 0;
-    while (n >= total && read_packet(&r, packets, total, &position, &sample) == DONE) {
+    struct place last = {0};
+    while (n >= total && read_packet(&r, packets, total, &last) == DONE) {
         packets += total;
         n -= total;
     }
-    return sample;
+    *missed = last.total;
+    return last.sample;
 }
 
 int peer_unpack(const uint8_t *packet, size_t n, int32_t *numbers, size_t room, size_t *count)

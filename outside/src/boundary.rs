@@ -2,14 +2,15 @@
 //!
 //! A box, a reader and a wish cross it as plain bytes or numbers, so that every state can be handed over, sound or broken.
 
+use crate::reader::Place;
 use crate::wish::StateWish;
 use crate::{reader, reply, span, station, Form, Head, Reader, Reply, Station, Wish};
 
 /// A box in bytes: frequency 8, count 8, clock 4, D 4, running 1, mode 1, gain 1, size 1, serial 8, held 64, taken 8.
 pub const STATION_BYTES: usize = 108;
 
-/// A reader in bytes: position 8, bits 8, pairs 8, heard 1.
-pub const READER_BYTES: usize = 25;
+/// A reader in bytes: position 8, bits 8, pairs 8, total 8, heard 1.
+pub const READER_BYTES: usize = 33;
 
 /// Wishes are numbered from 0 to 17, in the order of 01's table of items; these are the ones whose value counts.
 pub const ASK_VERSION: u64 = 3;
@@ -31,8 +32,8 @@ pub trait Library {
     fn word(&self, state: &[u8]) -> (u8, u64);
     /// Code, bytes written.
     fn cut(&self, state: &mut [u8], samples: &[i32], packet: &mut [u8]) -> (u8, usize);
-    /// Code, the packet's position, its first sample's position.
-    fn read(&self, reader: &mut [u8], packet: &[u8]) -> (u8, u64, u64);
+    /// Code, and the packet's place, zeros where it has none.
+    fn read(&self, reader: &mut [u8], packet: &[u8]) -> (u8, Place);
     /// How many sample bytes a packet has, and the one at a place (0 past the end).
     fn sample_byte(&self, packet: &[u8], place: usize) -> (usize, u8);
     /// Code, numbers written.
@@ -47,6 +48,8 @@ pub trait Library {
     fn read_head(&self, bytes: &[u8]) -> (u8, Head);
     /// Bytes of reply written.
     fn serve(&self, host: &[u8], replies: &mut [u8]) -> usize;
+    /// The position of the first sample of the last packet heard, and how many were missed in its capture up to it.
+    fn read_run(&self, packets: &[u8], total: usize) -> (u64, u64);
     /// What the span program prints, where it is there to be asked.
     fn span(&self, input: &[u8]) -> Option<Vec<u8>>;
 }
@@ -199,6 +202,7 @@ pub fn reader_in(bytes: &[u8]) -> Reader {
     Reader {
         position: u64::from_le_bytes(fields.array()),
         form: Form { bits: u64::from_le_bytes(fields.array()), pairs: u64::from_le_bytes(fields.array()) },
+        total: u64::from_le_bytes(fields.array()),
         heard: fields.array() != [0],
     }
 }
@@ -208,7 +212,8 @@ pub fn reader_bytes(reader: &Reader) -> [u8; READER_BYTES] {
     bytes[..8].copy_from_slice(&reader.position.to_le_bytes());
     bytes[8..16].copy_from_slice(&reader.form.bits.to_le_bytes());
     bytes[16..24].copy_from_slice(&reader.form.pairs.to_le_bytes());
-    bytes[24] = reader.heard.into();
+    bytes[24..32].copy_from_slice(&reader.total.to_le_bytes());
+    bytes[32] = reader.heard.into();
     bytes
 }
 
@@ -269,17 +274,17 @@ impl Library for Plain {
     }
 
     #[inline(never)]
-    fn read(&self, reader: &mut [u8], packet: &[u8]) -> (u8, u64, u64) {
+    fn read(&self, reader: &mut [u8], packet: &[u8]) -> (u8, Place) {
         if reader.len() != READER_BYTES {
-            return (BROKEN, 0, 0);
+            return (BROKEN, Place::default());
         }
         let mut state = reader_in(reader);
         match state.read(packet) {
             Ok(place) => {
                 reader.copy_from_slice(&reader_bytes(&state));
-                (1, place.position, place.sample)
+                (1, place)
             }
-            Err(code) => (code as u8, 0, 0),
+            Err(code) => (code as u8, Place::default()),
         }
     }
 
@@ -333,6 +338,13 @@ impl Library for Plain {
 
     fn serve(&self, host: &[u8], replies: &mut [u8]) -> usize {
         station::serve(host, replies)
+    }
+
+    fn read_run(&self, packets: &[u8], total: usize) -> (u64, u64) {
+        if total == 0 {
+            return (0, 0);
+        }
+        reader::read_run(packets, total)
     }
 
     fn span(&self, input: &[u8]) -> Option<Vec<u8>> {

@@ -7,6 +7,7 @@ use crate::boundary::{Library, Said, WishFields};
 use crate::head::Head;
 use crate::packet::Form;
 use crate::random::Random;
+use crate::reader::Place;
 
 /// The exports of the crates `boxdoor`, `harvestdoor`, `talks` and `runs`.
 mod door {
@@ -39,6 +40,8 @@ mod door {
             packet_len: usize,
             position: *mut u64,
             sample: *mut u64,
+            missed: *mut u64,
+            total: *mut u64,
         ) -> u8;
         pub fn skvornela_sample_byte(packet: *const u8, packet_len: usize, place: usize, byte: *mut u8) -> usize;
         pub fn skvornela_unpack(
@@ -101,7 +104,7 @@ mod door {
             packets: *mut u8,
             packets_len: usize,
         ) -> usize;
-        pub fn skvornela_read_run(packets: *const u8, packets_len: usize, total: usize) -> u64;
+        pub fn skvornela_read_run(packets: *const u8, packets_len: usize, total: usize, missed: *mut u64) -> u64;
     }
 }
 
@@ -152,19 +155,21 @@ impl Library for Proved {
         (code, wrote)
     }
 
-    fn read(&self, reader: &mut [u8], packet: &[u8]) -> (u8, u64, u64) {
-        let (mut position, mut sample) = (u64::MAX, u64::MAX);
+    fn read(&self, reader: &mut [u8], packet: &[u8]) -> (u8, Place) {
+        let mut place = Place { position: u64::MAX, sample: u64::MAX, missed: u64::MAX, total: u64::MAX };
         let code = unsafe {
             door::skvornela_read(
                 reader.as_mut_ptr(),
                 reader.len(),
                 packet.as_ptr(),
                 packet.len(),
-                &mut position,
-                &mut sample,
+                &mut place.position,
+                &mut place.sample,
+                &mut place.missed,
+                &mut place.total,
             )
         };
-        (code, position, sample)
+        (code, place)
     }
 
     fn sample_byte(&self, packet: &[u8], place: usize) -> (usize, u8) {
@@ -244,6 +249,10 @@ impl Library for Proved {
         serve(host, replies)
     }
 
+    fn read_run(&self, packets: &[u8], total: usize) -> (u64, u64) {
+        read_run(packets, total)
+    }
+
     /// Runs the program that SPAN_PROGRAM names. The input goes to it in pieces of many sizes, cut as its length says.
     fn span(&self, input: &[u8]) -> Option<Vec<u8>> {
         let program = std::env::var_os("SPAN_PROGRAM")?;
@@ -288,6 +297,8 @@ pub fn cut_run(mode: u8, size: u8, samples: &[i32], packets: &mut [u8]) -> usize
     }
 }
 
-pub fn read_run(packets: &[u8], total: usize) -> u64 {
-    unsafe { door::skvornela_read_run(packets.as_ptr(), packets.len(), total) }
+pub fn read_run(packets: &[u8], total: usize) -> (u64, u64) {
+    let mut missed = u64::MAX;
+    let sample = unsafe { door::skvornela_read_run(packets.as_ptr(), packets.len(), total, &mut missed) };
+    (sample, missed)
 }

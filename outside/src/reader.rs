@@ -5,35 +5,49 @@ use crate::packet::{number_at, Form};
 
 pub const LAST_POSITION: u64 = 3_999_999_999;
 
+/// The longest step from one packet that is heard to the next: a full turn of the number.
+const TURN: u64 = 65_535;
+
 /// What a reader has heard of the capture so far; before the first packet all is zero.
 #[derive(Clone, Copy, Debug, PartialEq, Eq)]
 pub struct Reader {
     pub heard: bool,
     pub position: u64,
+    /// packets missed up to that position
+    pub total: u64,
     pub form: Form,
 }
 
-/// Where a packet stands in its capture.
-#[derive(Clone, Copy, Debug, PartialEq, Eq)]
+/// Where a packet stands in its capture, and what is missing there. A capture starts where all is zero.
+#[derive(Clone, Copy, Debug, Default, PartialEq, Eq)]
 pub struct Place {
     pub position: u64,
     /// the position of its first sample
     pub sample: u64,
+    /// packets missed just before it
+    pub missed: u64,
+    /// packets missed in the capture so far
+    pub total: u64,
 }
 
 impl Default for Reader {
     fn default() -> Self {
-        Reader { heard: false, position: 0, form: Form { bits: 0, pairs: 0 } }
+        Reader { heard: false, position: 0, total: 0, form: Form { bits: 0, pairs: 0 } }
     }
 }
 
 impl Reader {
     pub fn is_sound(&self) -> bool {
         if self.heard {
-            self.position <= LAST_POSITION && self.form.is_listed()
+            self.position <= LAST_POSITION && self.steps_give_total() && self.form.is_listed()
         } else {
             *self == Reader::default()
         }
+    }
+
+    /// Of each step all but one packet is missed: the rest is how many steps there were, and none leads further than a turn.
+    fn steps_give_total(&self) -> bool {
+        self.position.checked_sub(self.total).is_some_and(|steps| self.position <= steps * TURN)
     }
 
     pub fn read(&mut self, packet: &[u8]) -> Result<Place, Code> {
@@ -42,13 +56,13 @@ impl Reader {
         }
         let form = Form::of_packet(packet).ok_or(Code::NotAPacket)?;
         let number = u16::from_le_bytes([packet[2], packet[3]]);
-        let position = if number == 0 { 0 } else { self.next(form, number)? };
-        *self = Reader { heard: true, position, form };
-        Ok(Place { position, sample: position * form.pairs })
+        let place = if number == 0 { Place::default() } else { self.next(form, number)? };
+        *self = Reader { heard: true, position: place.position, total: place.total, form };
+        Ok(place)
     }
 
-    /// The position of a packet numbered above 0 within the capture.
-    fn next(&self, form: Form, number: u16) -> Result<u64, Code> {
+    /// The place of a packet numbered above 0 within the capture.
+    fn next(&self, form: Form, number: u16) -> Result<Place, Code> {
         if !self.heard {
             return Err(Code::NoFirstPacket);
         }
@@ -56,12 +70,14 @@ impl Reader {
             return Err(Code::FormChanged);
         }
         let last = number_at(self.position);
-        let turn = if number > last { 0 } else { 65_535 };
-        let position = self.position + turn + u64::from(number) - u64::from(last);
+        let turn = if number > last { 0 } else { TURN };
+        let step = turn + u64::from(number) - u64::from(last);
+        let position = self.position + step;
         if position > LAST_POSITION {
             return Err(Code::PastLast);
         }
-        Ok(position)
+        let missed = step - 1;
+        Ok(Place { position, sample: position * form.pairs, missed, total: self.total + missed })
     }
 }
 
@@ -101,9 +117,9 @@ pub fn unpack_by_chunks(packet: &[u8], numbers: &mut [i32]) -> Result<usize, Cod
 }
 
 /// Reads packets of one length one after another by a new reader, to the first that is refused: the position of the last
-/// packet's first sample.
+/// packet's first sample, and how many packets were missed in its capture up to it.
 #[inline(never)]
-pub fn read_run(packets: &[u8], total: usize) -> u64 {
+pub fn read_run(packets: &[u8], total: usize) -> (u64, u64) {
     let mut reader = Reader::default();
     let mut sample = 0;
     for packet in packets.chunks_exact(total) {
@@ -112,5 +128,5 @@ pub fn read_run(packets: &[u8], total: usize) -> u64 {
             Err(_) => break,
         }
     }
-    sample
+    (sample, reader.total)
 }

@@ -10,7 +10,7 @@ use crate::reader::{Place, Reader};
 /// A capture that has begun.
 struct Capture {
     packets: u64,
-    last: u64,
+    last: Place,
 }
 
 pub fn text(input: &[u8]) -> String {
@@ -33,12 +33,12 @@ pub fn text(input: &[u8]) -> String {
                     line(&mut out, &head, captures, &capture);
                 }
                 captures += 1;
-                open = Some(Capture { packets: 1, last: 0 });
+                open = Some(Capture { packets: 1, last: place });
             }
             Ok(place) => {
                 if let Some(capture) = &mut open {
                     capture.packets += 1;
-                    capture.last = place.position;
+                    capture.last = place;
                 }
             }
             Err(code) => {
@@ -70,15 +70,16 @@ fn next_packet(head: &Head, reader: &mut Reader, rest: &[u8]) -> Result<Place, C
 
 fn line(out: &mut String, head: &Head, number: u64, capture: &Capture) {
     let form = head.form();
-    let positions = capture.last + 1;
+    let positions = capture.last.position + 1;
     let samples = positions * form.pairs;
     let _ = writeln!(
         out,
-        "C {number} {} {} {} {positions} {samples} {}",
+        "C {number} {} {} {} {positions} {samples} {} {}",
         form.bits,
         form.pairs,
         capture.packets,
         samples * u64::from(head.divisor) / 20,
+        capture.last.total,
     );
 }
 

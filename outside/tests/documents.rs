@@ -1,7 +1,7 @@
 //! The examples of documents 01 and 02, and those that source document 003 prints.
 
 use outside::packet::{number_at, sample_bytes, samples_fit, to_sixteen};
-use outside::reader::unpack;
+use outside::reader::{read_run, unpack, Place};
 use outside::wish::StateWish;
 use outside::{reply, span, Code, Form, Head, Reader, Reply, Station, Wish};
 
@@ -220,6 +220,65 @@ fn numbers() {
     assert_eq!(reader.read(&packet(0)), Err(Code::Broken));
 }
 
+fn small_24(number: u16) -> Vec<u8> {
+    let mut packet = vec![0x33; Form::SMALL_24.total()];
+    packet[..2].copy_from_slice(&Form::SMALL_24.header());
+    packet[2..4].copy_from_slice(&number.to_le_bytes());
+    packet
+}
+
+/// Document 02, No. 1: position, sample, missed and total of each packet that one reader is handed, by its number.
+#[test]
+fn missed_packets() {
+    let place = |position, sample, missed, total| Ok(Place { position, sample, missed, total });
+    let start = place(0, 0, 0, 0);
+    let cases = [
+        (&[0, 1, 4][..], &[start, place(1, 64, 0, 0), place(4, 256, 2, 2)][..]),
+        (&[0, 65_535, 1], &[start, place(65_535, 4_194_240, 65_534, 65_534), place(65_536, 4_194_304, 0, 65_534)]),
+        (&[0, 7, 7], &[start, place(7, 448, 6, 6), place(65_542, 4_194_688, 65_534, 65_540)]),
+        (&[0, 2, 0, 3], &[start, place(2, 128, 1, 1), start, place(3, 192, 2, 2)]),
+        (&[3, 0, 5], &[Err(Code::NoFirstPacket), start, place(5, 320, 4, 4)]),
+    ];
+    for (numbers, answers) in cases {
+        let mut reader = Reader::default();
+        let mut heard = 0;
+        for (&number, &answer) in numbers.iter().zip(answers) {
+            let before = reader;
+            assert_eq!(reader.read(&small_24(number)), answer, "number {number} of {numbers:?}");
+            match answer {
+                Ok(Place { position, total, .. }) => {
+                    heard = if number == 0 { 1 } else { heard + 1 };
+                    assert_eq!(heard + total, position + 1);
+                    assert_eq!(reader, Reader { heard: true, position, total, form: Form::SMALL_24 });
+                }
+                Err(_) => assert_eq!(reader, before),
+            }
+        }
+        let packets: Vec<u8> = numbers.iter().flat_map(|&number| small_24(number)).collect();
+        let last = answers.iter().map_while(|answer| answer.ok()).last().unwrap_or_default();
+        assert_eq!(read_run(&packets, Form::SMALL_24.total()), (last.sample, last.total));
+    }
+}
+
+#[test]
+fn totals_that_no_steps_give() {
+    let heard = |position, total| Reader { heard: true, position, total, form: Form::SMALL_24 };
+    let sound = [(65_535, 65_534), (65_536, 65_534), (10, 9), (3_999_999_999, 3_999_938_962), (0, 0), (10, 0)];
+    for (position, total) in sound {
+        assert!(heard(position, total).is_sound(), "{total} missed up to {position}");
+    }
+    let broken = [(65_536, 65_535), (10, 10), (0, 1), (3_999_999_999, 3_999_938_963), (10, u64::MAX), (u64::MAX, 0)];
+    for (position, total) in broken {
+        let mut reader = heard(position, total);
+        assert_eq!(reader.read(&small_24(0)), Err(Code::Broken), "{total} missed up to {position}");
+        assert_eq!(reader.read(&[]), Err(Code::Broken));
+        assert_eq!(reader, heard(position, total));
+    }
+    let mut silent = Reader { total: 1, ..Reader::default() };
+    assert_eq!(silent.read(&small_24(0)), Err(Code::Broken));
+    assert_eq!(silent, Reader { total: 1, ..Reader::default() });
+}
+
 #[test]
 fn minus_257_and_every_form_cut_and_unpacked() {
     for (mode, size, header) in
@@ -328,12 +387,7 @@ fn capture(numbers: &[u16]) -> Vec<u8> {
     let head = Head { divisor: 100, frequency: 10_000_000, mode: 0x80, size: 1 };
     let mut bytes = vec![0; 14];
     head.write(&mut bytes).unwrap();
-    for number in numbers {
-        let at = bytes.len();
-        bytes.resize(at + 388, 0x33);
-        bytes[at..at + 2].copy_from_slice(&[0x84, 0x81]);
-        bytes[at + 2..at + 4].copy_from_slice(&number.to_le_bytes());
-    }
+    bytes.extend(numbers.iter().flat_map(|&number| small_24(number)));
     bytes
 }
 
@@ -356,16 +410,21 @@ fn heads() {
 
 #[test]
 fn span_lines() {
-    assert_eq!(span::text(&capture(&[0, 1, 4])), "SPAN 1\nC 1 24 64 3 5 320 1600\nE 1\n");
+    assert_eq!(span::text(&capture(&[0, 1, 4])), "SPAN 1\nC 1 24 64 3 5 320 1600 2\nE 1\n");
     assert_eq!(span::text(&[]), "SPAN 1\nR 40 0\n");
     assert_eq!(span::text(&capture(&[])), "SPAN 1\nE 0\n");
     assert_eq!(span::text(&capture(&[1])), "SPAN 1\nR 31 14\n");
-    assert_eq!(span::text(&capture(&[0, 0, 2])), "SPAN 1\nC 1 24 64 1 1 64 320\nC 2 24 64 2 3 192 960\nE 2\n");
+    assert_eq!(span::text(&capture(&[0, 0, 2])), "SPAN 1\nC 1 24 64 1 1 64 320 0\nC 2 24 64 2 3 192 960 1\nE 2\n");
     let mut cut_off = capture(&[0, 1]);
     cut_off.pop();
-    assert_eq!(span::text(&cut_off), "SPAN 1\nC 1 24 64 1 1 64 320\nR 30 402\n");
+    assert_eq!(span::text(&cut_off), "SPAN 1\nC 1 24 64 1 1 64 320 0\nR 30 402\n");
     let mut foreign = capture(&[0]);
     foreign.extend([0x04, 0x82]);
     foreign.resize(402 + 516, 0);
-    assert_eq!(span::text(&foreign), "SPAN 1\nC 1 24 64 1 1 64 320\nR 32 402\n");
+    assert_eq!(span::text(&foreign), "SPAN 1\nC 1 24 64 1 1 64 320 0\nR 32 402\n");
+    let restarted = "SPAN 1\nC 1 24 64 2 3 192 960 1\nC 2 24 64 3 65539 4194496 20972480 65536\nE 2\n";
+    assert_eq!(span::text(&capture(&[0, 2, 0, 3, 3])), restarted);
+    let mut cut_off = capture(&[0, 2, 3]);
+    cut_off.truncate(790 + 100);
+    assert_eq!(span::text(&cut_off), "SPAN 1\nC 1 24 64 2 3 192 960 1\nR 30 790\n");
 }

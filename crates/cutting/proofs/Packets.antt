@@ -33,7 +33,7 @@ module _ (f : Form) (p : ℕ) (zs : List ℤ) where
   packet-header = number-bytes 2 (headerOf typeData (totalOf f)) (header-below typeData (totalOf f))
 
   pub packet-number : numberIn (packetOf f p zs) ≡ numberAt p
-  packet-number = number-bytes 2 (numberAt p) (omega (arith, number-le p))
+  packet-number = omega (arith, number-bytes 2 (numberAt p) (omega (arith, number-le p)), number-le p)
 
   pub packet-whole : listedForm f ≡ true → length zs ≡ 2 * f .pairs → wholeOf (packetOf f p zs) ≡ f
   packet-whole l e = whole-cut f l (packetOf f p zs) packet-header (packet-length e)

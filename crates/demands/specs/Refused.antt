@@ -12,6 +12,7 @@ use Rattle.wire.specs.Header.{nak}
 use Rattle.framing.specs.Framing.{between, callTakes, announced}
 use Rattle.reader.specs.declared.Heard.{Heard}
 use Rattle.reader.specs.declared.Reader.{Reader}
+use Rattle.reader.specs.Reading.{unheard}
 use Rattle.station.specs.declared.Station.{Station}
 use Rattle.station.specs.Station.{valid}
 use Rattle.station.specs.Feeding.{Feeding, feedingOf}
@@ -34,8 +35,9 @@ FeedsNothing s f = 20 ≤ f .fed .code → (f .bytes ≡ []) × (f .fed .wrote �
 abbrev pub CutsNothing : Station → Cutting → Type 0
 CutsNothing s c = 20 ≤ c .cut .code → (c .bytes ≡ []) × (c .cut .wrote ≡ 0) × (c .cut .station ≡ s)
 
+-- no position, nothing missed, and the reader given
 abbrev pub HearsNothing : Reader → Heard → Type 0
-HearsNothing r h = 20 ≤ h .code → h .reader ≡ r
+HearsNothing r h = 20 ≤ h .code → h ≡ unheard (h .code) r
 
 -- No "NAK before a long message is fully taken": while fewer bytes are taken than the header announces, a valid box takes all that it
 -- is handed, waits, and writes nothing.

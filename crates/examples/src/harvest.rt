@@ -17,16 +17,22 @@ const SMALL_24: u64 = 0x8184;
 
 const SMALL_16: u64 = 0x8204;
 
-// A reader that has heard the packet at a position.
-fn heard(position: u64) -> Reader {
+// A reader that has heard the packet at a position, with so many missed up to it.
+fn after(position: u64, total: u64) -> Reader {
     Reader {
         heard: true,
         position,
+        total,
         form: packets::form_for(0x80, 1),
     }
 }
 
-// Reads a packet of n bytes with a header and a number, and tells its position and its first sample's.
+fn heard(position: u64) -> Reader {
+    after(position, 0)
+}
+
+// Reads a packet of n bytes with a header and a number, and tells its position, its first sample's, and how many were missed
+// just before it and in all.
 fn read(words: &[u8], r: Reader, header: u64, number: u64, n: usize) {
     let mut packet = [0u8; 1444];
     wire::put(&mut packet, 0, 2, header);
@@ -36,6 +42,8 @@ fn read(words: &[u8], r: Reader, header: u64, number: u64, n: usize) {
     say_code(heard.code);
     say_number(heard.position);
     say_number(heard.sample);
+    say_number(heard.missed);
+    say_number(heard.total);
     say(b"\n");
 }
 
@@ -57,6 +65,37 @@ fn unpack(words: &[u8], n: usize, room: usize) {
     say(b"\n");
 }
 
+// How much was lost, and totals that no steps give.
+fn totals_read() {
+    let mut silent = reader::silent();
+    read(b"0 at the start", after(7, 6), SMALL_24, 0, 388);
+    read(b"none missed", after(1, 0), SMALL_24, 2, 388);
+    read(b"two missed", after(1, 0), SMALL_24, 4, 388);
+    read(b"a number again", after(7, 6), SMALL_24, 7, 388);
+    read(b"past the turn", after(65535, 65534), SMALL_24, 1, 388);
+    read(b"two steps", after(65536, 65534), SMALL_24, 2, 388);
+    read(b"no step of 65536", after(65536, 65535), SMALL_24, 2, 388);
+    read(b"one step of 10", after(10, 9), SMALL_24, 11, 388);
+    read(b"no step to 10", after(10, 10), SMALL_24, 11, 388);
+    read(b"none at the start", after(0, 1), SMALL_24, 1, 388);
+    read(
+        b"fewest steps",
+        after(3_999_999_999, 3_999_938_962),
+        SMALL_24,
+        0,
+        388,
+    );
+    read(
+        b"one fewer",
+        after(3_999_999_999, 3_999_938_963),
+        SMALL_24,
+        0,
+        388,
+    );
+    silent.total = 1;
+    read(b"silent with a total", silent, SMALL_24, 0, 388);
+}
+
 // What is no packet, and "position past 3,999,999,999".
 pub(crate) fn packets_read() {
     read(b"387 bytes", heard(0), SMALL_24, 1, 387);
@@ -67,6 +106,7 @@ pub(crate) fn packets_read() {
     read(b"to 4000000000", heard(3_999_999_999), SMALL_24, 5740, 388);
     read(b"32 before 33", heard(3_999_999_999), SMALL_16, 5740, 516);
     read(b"from 4000000000", heard(4_000_000_000), SMALL_24, 0, 387);
+    totals_read();
     unpack(b"387 bytes unpacked", 387, 0);
     unpack(b"to 127 numbers", 388, 127);
     unpack(b"to 128 numbers", 388, 128);

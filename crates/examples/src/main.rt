@@ -20,7 +20,7 @@ fn main() {
     telling::say(b"\n# Replies with little room\n");
     boxes::feeds();
     telling::say(
-        b"\n# Packets read: code, position, first sample; unpacked: code, numbers, sample bytes\n",
+        b"\n# Packets read: code, position, first sample, missed, in all; unpacked: code, numbers, sample bytes\n",
     );
     harvest::packets_read();
     telling::say(b"\n# Wishes written\n");

@@ -13,10 +13,11 @@ use Rattle.wire.proofs.Stores.{sets-whole}
 use Rattle.reader.specs.declared.Reader.{Reader}
 use Rattle.harvestdoor.specs.States.{readerBytes}
 
-pub reader-stored : (r : Reader) (l a b c d : List ℕ) → length l ≡ 25
+pub reader-stored : (r : Reader) (l a b c d e : List ℕ) → length l ≡ 33
     → a ≡ sets l 0 (bytes 8 (r .position)) → b ≡ sets a 8 (bytes 8 (r .form .bits))
-    → c ≡ sets b 16 (bytes 8 (r .form .pairs)) → d ≡ sets c 24 (bytes 1 (boolByte (r .heard))) → d ≡ readerBytes r
+    → c ≡ sets b 16 (bytes 8 (r .form .pairs)) → d ≡ sets c 24 (bytes 8 (r .total)) → e ≡ sets d 32 (bytes 1 (boolByte (r .heard)))
+    → e ≡ readerBytes r
 unfolding readerBytes
-reader-stored r l a b c d room p q t u =
-    let whole : d ≡ sets l 0 (readerBytes r) = rw (u, t, q, p, flag-byte (r .heard)) in
+reader-stored r l a b c d e room p q t u v =
+    let whole : e ≡ sets l 0 (readerBytes r) = rw (v, u, t, q, p, flag-byte (r .heard)) in
     whole ∙ sets-whole l (readerBytes r) (sym room)

@@ -10,17 +10,17 @@ use Rattle.reader.specs.declared.Heard.{Heard}
 use Rattle.reader.specs.declared.Reader.{Reader}
 use Rattle.reader.specs.Reading.{readingOf}
 use Rattle.harvestdoor.specs.States.{readerIn, readerBytes}
-use Rattle.harvestdoor.specs.Reading.{heardOver, readOver}
+use Rattle.harvestdoor.specs.Reading.{readLeaving, heardOver, readOver}
 
 -- bytes of a reader: what reading says, and the reader written back where a packet was heard
-pub read-whole : (state packet after : List ℕ) (r : Reader) (h : Heard) → length state ≡ 25 → r ≡ readerIn state → h ≡ readingOf r packet
+pub read-whole : (state packet after : List ℕ) (r : Reader) (h : Heard) → length state ≡ 33 → r ≡ readerIn state → h ≡ readingOf r packet
     → after ≡ pick (eqb (h .code) 1) (readerBytes (h .reader)) state
-    → record { code = h .code; position = h .position; sample = h .sample; state = after } ≡ readOver state packet
+    → readLeaving h after ≡ readOver state packet
 unfolding heardOver readOver
-read-whole state packet after r h long p q t = rw (t, q, p, eq-eqb (length state) 25 long)
+read-whole state packet after r h long p q t = rw (t, q, p, eq-eqb (length state) 33 long)
 
 -- other bytes: 21
-pub read-broken : (state packet : List ℕ) → (length state ≡ 25 → ⊥)
-    → record { code = 21; position = 0; sample = 0; state = state } ≡ readOver state packet
+pub read-broken : (state packet : List ℕ) → (length state ≡ 33 → ⊥)
+    → record { code = 21; position = 0; sample = 0; missed = 0; total = 0; state = state } ≡ readOver state packet
 unfolding heardOver readOver
-read-broken state packet other = rw (ne-eqb (length state) 25 other)
+read-broken state packet other = rw (ne-eqb (length state) 33 other)

@@ -14,23 +14,24 @@ pub record Read : Type 0 where
   pub code : ℕ
   pub position : ℕ
   pub sample : ℕ
+  pub missed : ℕ
+  pub total : ℕ
   pub state : List ℕ
+
+-- what the packet reader answered, and these bytes left
+abbrev pub readLeaving : Heard → List ℕ → Read
+readLeaving h state =
+    record { code = h .code; position = h .position; sample = h .sample; missed = h .missed; total = h .total; state = state }
 
 -- a reader is written back where a packet was heard
 unfoldable pub heardOver : List ℕ → Heard → Read
-heardOver state h =
-    record {
-      code = h .code;
-      position = h .position;
-      sample = h .sample;
-      state = pick (eqb (h .code) Code.done) (readerBytes (h .reader)) state;
-    }
+heardOver state h = readLeaving h (pick (eqb (h .code) Code.done) (readerBytes (h .reader)) state)
 
 -- bytes that are not those of a reader are a broken one: 21
 unfoldable pub readOver : List ℕ → List ℕ → Read
 readOver state packet =
     pick (eqb (length state) readerSize) (heardOver state (readingOf (readerIn state) packet))
-    (record { code = Code.broken; position = 0; sample = 0; state = state })
+    (record { code = Code.broken; position = 0; sample = 0; missed = 0; total = 0; state = state })
 
 -- the byte at a place of a packet's sample bytes, 0 past their end
 abbrev pub sampleByteAt : ℕ → List ℕ → ℕ

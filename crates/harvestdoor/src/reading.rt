@@ -6,23 +6,35 @@ ghost use Rattle.reader.specs.Reading.{sampleBytesOf, unpackingOf, numbersWritt
 ghost use Rattle.harvestdoor.specs.Reading.{readOver, sampleByteAt};
 use wire::codes;
 
-// Reads one packet with a reader of 25 bytes. Answers the code, and leaves the packet's position and that of its first
-// sample; both are 0 where the packet is refused, and the reader's bytes are then as they came.
+// Reads one packet with a reader of 33 bytes. Answers the code, and leaves the packet's position and that of its first
+// sample, and how many packets were missed just before it and in the capture so far; all four are 0 where the packet is
+// refused, and the reader's bytes are then as they came.
 #[no_mangle]
 pub extern "C" fn skvornela_read(
     state: &mut [u8],
     packet: &[u8],
     position: &mut u64,
     sample: &mut u64,
+    missed: &mut u64,
+    total: &mut u64,
 ) -> u8
     ensures { λ r.
-        ⌜ record { code = r; position = now (position .exit); sample = now (sample .exit); state = now (state .exit) }
+        ⌜ record {
+          code = r;
+          position = now (position .exit);
+          sample = now (sample .exit);
+          missed = now (missed .exit);
+          total = now (total .exit);
+          state = now (state .exit);
+        }
         ≡ readOver (now (state .entry)) (now (packet .entry)) ⌝ }
 {
     if state.len() == crate::states::LENGTH {
         let h = reader::read(crate::states::reader_in(state), packet);
         *position = h.position;
         *sample = h.sample;
+        *missed = h.missed;
+        *total = h.total;
         if h.code == codes::DONE {
             let after = h.reader;
             crate::states::put_reader(state, after);
@@ -31,6 +43,8 @@ pub extern "C" fn skvornela_read(
     }
     *position = 0;
     *sample = 0;
+    *missed = 0;
+    *total = 0;
     codes::BROKEN
 }
 

@@ -12,11 +12,22 @@ use Rattle.packets.specs.declared.Form.{Form}
 use Rattle.hearing.specs.declared.Tally.{Tally}
 use Rattle.hearing.specs.declared.Reach.{Reach}
 use Rattle.hearing.specs.Hearing.{takingByte, heardCode, closes, settled, reaching}
-use Rattle.hearing.specs.Inside.{goesOn, Sane, Goes, Samples, skipped}
+use Rattle.hearing.specs.Inside.{goesOn, Counted, Sane, Goes, Samples, skipped}
 use Rattle.hearing.proofs.Heard.{sane-taking, sane-settled}
 use Rattle.hearing.proofs.Reaches.{settled-at, reach-byte, reach-skip}
 
--- samples that are skipped
+-- samples that are skipped change no count
+counted-skipped : (t : Tally) (k : ℕ) → Counted t → Counted (skipped t k)
+counted-skipped t k c =
+    record {
+      heard = c .heard;
+      captures = c .captures;
+      position = c .position;
+      number = c .number;
+      least = c .least;
+      most = c .most;
+    }
+
 pub goes-skip : (f : Form) (t : Tally) (piece : List ℕ) (at k : ℕ) → at + k ≤ length piece → Samples t k → Sane (length piece - at) t
     → Goes f t piece at (record { at = at + k; code = 0; tally = skipped t k })
 unfolding goesOn
@@ -31,7 +42,7 @@ goes-skip f t piece at k room s sane =
           ∙ sym skips
           ∙ ap (reaching at f t) (take-append-drop k (drop at piece));
       inside = room;
-      sane = record { room = omega (arith, sane .room); heard = sane .heard; captures = sane .captures; position = sane .position };
+      sane = record { room = omega (arith, sane .room); counted = counted-skipped t k (sane .counted) };
     }
 
 -- one byte

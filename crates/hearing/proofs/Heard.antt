@@ -7,7 +7,7 @@ use native.Mathlib.Decide.{decLt}
 use native.Mathlib.Omega.{arith}
 use lib.Dec.{eqb, ltb}
 use lib.ListN.{getD}
-use borrow.Author.Tests.{ltb-false, eqb-true}
+use borrow.Author.Tests.{ltb-false, eqb-true, eqb-false}
 use Rattle.wire.proofs.Laws.{true-not-false, and-left, pick-keeps}
 use Rattle.wire.proofs.Checks.{absent, given-below}
 use Rattle.wire.specs.Choice.{pick, check, firstOf}
@@ -15,10 +15,12 @@ use Rattle.packets.specs.declared.Form.{Form}
 use Rattle.packets.specs.Forms.{sameForm, totalOf, listedForm}
 use Rattle.packets.specs.Numbers.{stepOf, last}
 use Rattle.packets.proofs.Numbers.{step-above, step-not-above}
+use Rattle.packets.proofs.Missed.{is-step}
 use Rattle.hearing.specs.declared.Tally.{Tally}
 use Rattle.hearing.specs.declared.Reach.{Reach}
-use Rattle.hearing.specs.Hearing.{formComing, positionNow, lacksFirst, heardChecks, heardCode, takingByte, accepting, closes, settled}
-use Rattle.hearing.specs.Inside.{Sane, wordAt, twoAt}
+use Rattle.hearing.specs.Hearing.{lowHigh, fieldWith, formComing, positionNow, lacksFirst, heardChecks, heardCode}
+use Rattle.hearing.specs.Hearing.{takingByte, accepting, closes, settled}
+use Rattle.hearing.specs.Inside.{Counted, Sane, wordAt, twoAt}
 
 abbrev pub codeBy : Bool → Bool → Bool → Bool → Bool → Bool → ℕ
 codeBy few ok short same lone past =
@@ -86,26 +88,73 @@ pub accepted-fits : (f : Form) (t : Tally) → heardCode f t ≡ 1 → positionN
 unfolding heardCode
 accepted-fits f t e = ltb-false _ _ (absent (heardChecks f t) 1 refl e .1 .1 .1 .1 .1 .0)
 
--- ---- sums that fit
+-- and its capture is open, or begins with it
+pub accepted-open : (f : Form) (t : Tally) → heardCode f t ≡ 1 → lacksFirst t ≡ false
+unfolding heardCode
+accepted-open f t e = absent (heardChecks f t) 1 refl e .1 .1 .1 .1 .0
 
--- an accepted packet leaves a sane tally
-pub sane-accepting : (rest : ℕ) (t : Tally) → Sane rest t → 0 < t .came → positionNow t ≤ last → Sane rest (accepting t)
+-- ---- counts, and sums that fit
+
+-- an accepted packet leaves counts: it is one step more, or the start
+pub counted-accepting : (t : Tally) → Counted t → 0 < t .came → lacksFirst t ≡ false → positionNow t ≤ last → Counted (accepting t)
 unfolding accepting
-sane-accepting rest t s some fits =
-    let within : ℕ → Type 0 = λ n. n ≤ t .begins + t .came in
-    record {
-      room = omega (arith, s .room);
-      heard = pick-keeps within (eqb (t .number) 0) 1 (t .heard + 1) (λ e. omega arith) (λ e. omega (arith, s .heard));
-      captures =
-          pick-keeps within (eqb (t .number) 0) (t .captures + 1) (t .captures)
-          (λ e. omega (arith, s .captures)) (λ e. omega (arith, s .captures));
-      position = fits;
-    }
+counted-accepting t c some opened fits = by (eqb (t .number) 0) refl
+  where
+    by : (zeroth : Bool) → eqb (t .number) 0 ≡ zeroth → Counted (accepting t)
+    by true e =
+        rw e
+        (record {
+          heard = omega (arith, some);
+          captures = omega (arith, c .captures, some);
+          position = omega arith;
+          number = omega arith;
+          least = omega arith;
+          most = omega arith;
+        })
+    by false e =
+        let begun : eqb (t .heard) 0 ≡ false = rw e at opened in
+        let some′ : 0 < t .heard = omega (arith, eqb-false (t .heard) 0 begun) in
+        let above : 0 < t .number = omega (arith, eqb-false (t .number) 0 e) in
+        let step = is-step (t .position) (t .number) above (c .number) in
+        rw e
+        (record {
+          heard = omega (arith, c .heard, some);
+          captures = omega (arith, c .captures);
+          position = rw e at fits;
+          number = omega arith;
+          least = omega (arith, c .least, step .0);
+          most = omega (arith, c .most, step .1);
+        })
+
+pub sane-accepting : (rest : ℕ) (t : Tally) → Sane rest t → 0 < t .came → lacksFirst t ≡ false → positionNow t ≤ last
+    → Sane rest (accepting t)
+unfolding accepting
+sane-accepting rest t s some opened fits =
+    record { room = omega (arith, s .room); counted = counted-accepting t (s .counted) some opened fits }
 
 -- so does each byte
+field-small : (place came field b : ℕ) → field ≤ 65_535 → fieldWith place came field b ≤ 65_535
+field-small place came field b small =
+    let fits : ℕ → Type 0 = λ n. n ≤ 65_535 in
+    pick-keeps fits (eqb came place) (b % 256) (pick (eqb came (place + 1)) (lowHigh field b) field) (λ e. omega arith)
+    (λ e. pick-keeps fits (eqb came (place + 1)) (lowHigh field b) field (λ q. omega arith) (λ q. small))
+
 pub sane-taking : (rest : ℕ) (t : Tally) (b : ℕ) → Sane (rest + 1) t → Sane rest (takingByte t b)
 unfolding takingByte
-sane-taking rest t b s = record { room = omega (arith, s .room); heard = s .heard; captures = s .captures; position = s .position }
+sane-taking rest t b s =
+    let c = s .counted in
+    record {
+      room = omega (arith, s .room);
+      counted =
+          record {
+            heard = c .heard;
+            captures = c .captures;
+            position = c .position;
+            number = field-small 2 (t .came) (t .number) b (c .number);
+            least = c .least;
+            most = c .most;
+          };
+    }
 
 pub sane-settled : (rest n : ℕ) (f : Form) (t : Tally) → Sane rest t → 0 < t .came → Sane rest (settled n f t .tally)
 unfolding settled
@@ -113,8 +162,10 @@ sane-settled rest n f t s some =
     pick-keeps (λ (r : Reach). Sane rest (r .tally)) (eqb (heardCode f t) 0) _ _ (λ e. s)
     (λ e.
     pick-keeps (λ (r : Reach). Sane rest (r .tally)) (eqb (heardCode f t) 1 && not (closes t)) _ _
-    (λ q. sane-accepting rest t s some (accepted-fits f t (eqb-true _ _ (and-left (eqb (heardCode f t) 1) (not (closes t)) q))))
+    (λ q.
+    let one = eqb-true _ _ (and-left (eqb (heardCode f t) 1) (not (closes t)) q) in
+    sane-accepting rest t s some (accepted-open f t one) (accepted-fits f t one))
     (λ q. s))
 
 pub sane-less : {rest : ℕ} (less : ℕ) {t : Tally} → less ≤ rest → Sane rest t → Sane less t
-sane-less less h s = record { room = omega (arith, s .room); heard = s .heard; captures = s .captures; position = s .position }
+sane-less less h s = record { room = omega (arith, s .room); counted = s .counted }

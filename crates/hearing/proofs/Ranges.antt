@@ -1,43 +1,119 @@
 -- A tally in range, and what is reached from it.
-use Prim.Native.Nat.{ℕ, _+_, _<_}
-use mathlib.Core.Path.{_≡_}
-use mathlib.Core.Bool.{Bool, true, false, _&&_}
+use Prim.Native.Nat.{ℕ, zero, suc, _+_, _*_, _-_, _≤_, _<_}
+use mathlib.Core.Path.{_≡_, refl}
+use mathlib.Core.Bool.{Bool, true, false, _&&_, and-false}
 use mathlib.Core.List.{List, [], _∷_}
 use native.Mathlib.Omega.{arith}
 use lib.Dec.{eqb, leb}
 use lib.ListN.{length}
-use borrow.Author.Tests.{leb-true}
+use borrow.Author.Tests.{lt-leb, le-leb, leb-true, eq-eqb, ne-eqb, eqb-true}
 use Rattle.wire.proofs.Laws.{and-left, and-right, and-both, pick-keeps}
 use Rattle.packets.specs.declared.Form.{Form}
 use Rattle.packets.specs.Forms.{listedForm}
 use Rattle.packets.specs.Numbers.{last}
+use Rattle.packets.specs.Missed.{missedOf, couldBeGiven}
+use Rattle.packets.proofs.Missed.{given-by, given-within}
 use Rattle.hearing.specs.declared.Tally.{Tally}
 use Rattle.hearing.specs.declared.Reach.{Reach}
-use Rattle.hearing.specs.Hearing.{farthest, tallyInRange, takingByte, settled, reaching, outcome, hearingOf}
-use Rattle.hearing.specs.Inside.{Sane}
+use Rattle.hearing.specs.Hearing.{farthest, heardGiven, tallyInRange, takingByte, settled, reaching, outcome, hearingOf}
+use Rattle.hearing.specs.Inside.{Counted, Sane}
 use Rattle.hearing.proofs.Heard.{sane-taking, sane-settled, sane-less}
 use Rattle.hearing.proofs.Goings.{taken-some}
 
 pub range-by : (t : Tally) {a b c d : Bool} → leb (t .begins + t .came) farthest ≡ a → leb (t .heard) (t .begins) ≡ b
-    → leb (t .captures) (t .begins) ≡ c → leb (t .position) last ≡ d
+    → leb (t .captures) (t .begins) ≡ c → (leb (t .position) last && heardGiven (t .heard) (t .position)) ≡ d
     → tallyInRange t ≡ a && b && c && d
 range-by t p q r s = rw (p, q, r, s)
 
--- a tally in range is sane while a piece is taken
-pub range-sane : (t : Tally) (n : ℕ) → tallyInRange t ≡ true → n < 0x8000_0000_0000_0000 → Sane n t
-range-sane t n e short =
+-- ---- packets heard that steps give, as two inequalities
+
+-- the first packet is at position 0, and each other is one step
+steps-between : (n position : ℕ) → suc n ≤ position + 1 → position - missedOf (suc n) position ≡ n
+steps-between n position few = omega arith
+
+given-steps : (heard position : ℕ) → heardGiven heard position ≡ true → (heard ≤ position + 1) × (position ≤ 65_535 * (heard - 1))
+given-steps zero position e = (omega arith, omega (arith, eqb-true position 0 e))
+given-steps (suc n) position e =
+    let few = leb (suc n) (position + 1) in
+    let given = couldBeGiven position (missedOf (suc n) position) in
+    let both : few && given ≡ true = rw (ne-eqb (suc n) 0 (λ z. omega arith)) at e in
+    let least : suc n ≤ position + 1 = leb-true (suc n) (position + 1) (and-left few given both) in
+    let far = given-within position (missedOf (suc n) position) (and-right few given both) .1 in
+    let count = steps-between n position least in
+    (least, omega (arith, rw count at far))
+
+pub steps-given : (heard position : ℕ) → heard ≤ position + 1 → position ≤ 65_535 * (heard - 1) → heardGiven heard position ≡ true
+steps-given zero position least most = eq-eqb position 0 (omega arith)
+steps-given (suc n) position least most =
+    let missed : ℕ = missedOf (suc n) position in
+    rw (ne-eqb (suc n) 0 (λ z. omega arith))
+    (and-both (leb (suc n) (position + 1)) (couldBeGiven position missed) (le-leb (suc n) (position + 1) least)
+    (given-by position missed (omega arith) (rw (steps-between n position least) (omega arith))))
+
+-- the tests of `is_heard`, and what it answers then
+module _ (heard position : ℕ) where
+  abbrev Answer : Bool
+  Answer = leb position last && heardGiven heard position
+
+  pub none-heard : heard ≡ 0 → eqb position 0 ≡ Answer
+  none-heard z = by (eqb position 0) refl
+    where
+      by : (nowhere : Bool) → eqb position 0 ≡ nowhere → eqb position 0 ≡ Answer
+      by true e = let none : position ≡ 0 = eqb-true position 0 e in rw (z, none)
+      by false e = rw (z, e, and-false)
+
+  module _ (some : heard ≡ 0 → ⊥) where
+    pub some-past : last < position → false ≡ Answer
+    some-past l = rw (lt-leb position last l)
+
+    pub some-few : position ≤ last → position + 1 < heard → false ≡ Answer
+    some-few near l = rw (le-leb position last near, ne-eqb heard 0 some, lt-leb heard (position + 1) l)
+
+    pub some-given : heard ≤ position + 1
+        → (leb position last && couldBeGiven position (missedOf heard position)) ≡ Answer
+    some-given few = rw (ne-eqb heard 0 some, le-leb heard (position + 1) few)
+
+-- ---- a tally in range
+
+-- has counts, with a number of 16 bits
+pub range-counted : (t : Tally) → tallyInRange t ≡ true → t .number ≤ 65_535 → Counted t
+range-counted t e small =
     let a : Bool = leb (t .begins + t .came) farthest in
     let b : Bool = leb (t .heard) (t .begins) in
     let c : Bool = leb (t .captures) (t .begins) in
-    let d : Bool = leb (t .position) last in
-    let abc = and-left (a && b && c) d e in
+    let near : Bool = leb (t .position) last in
+    let given : Bool = heardGiven (t .heard) (t .position) in
+    let abc = and-left (a && b && c) (near && given) e in
     let ab = and-left (a && b) c abc in
+    let d = and-right (a && b && c) (near && given) e in
+    let steps = given-steps (t .heard) (t .position) (and-right near given d) in
     record {
-      room = omega (arith, leb-true (t .begins + t .came) farthest (and-left a b ab));
       heard = leb-true _ _ (and-right a b ab);
       captures = leb-true _ _ (and-right (a && b) c abc);
-      position = leb-true _ _ (and-right (a && b && c) d e);
+      position = leb-true _ _ (and-left near given d);
+      number = small;
+      least = steps .0;
+      most = steps .1;
     }
+
+range-near : (t : Tally) → tallyInRange t ≡ true → t .begins + t .came ≤ farthest
+range-near t e =
+    let a : Bool = leb (t .begins + t .came) farthest in
+    let b : Bool = leb (t .heard) (t .begins) in
+    let c : Bool = leb (t .captures) (t .begins) in
+    let d : Bool = leb (t .position) last && heardGiven (t .heard) (t .position) in
+    leb-true (t .begins + t .came) farthest (and-left a b (and-left (a && b) c (and-left (a && b && c) d e)))
+
+-- a tally with counts, near enough, is in range
+pub counted-range : (t : Tally) → Counted t → t .begins + t .came ≤ farthest → tallyInRange t ≡ true
+counted-range t c near =
+    let given = steps-given (t .heard) (t .position) (c .least) (c .most) in
+    range-by t (le-leb (t .begins + t .came) farthest near) (le-leb _ _ (c .heard)) (le-leb _ _ (c .captures))
+    (and-both (leb (t .position) last) (heardGiven (t .heard) (t .position)) (le-leb _ _ (c .position)) given)
+
+-- one in range is sane while a piece is taken
+pub range-sane : (t : Tally) (n : ℕ) → tallyInRange t ≡ true → t .number ≤ 65_535 → n < 0x8000_0000_0000_0000 → Sane n t
+range-sane t n e small short = record { room = omega (arith, range-near t e); counted = range-counted t e small }
 
 -- so is what is reached
 pub reach-sane : (bs : List ℕ) (n rest : ℕ) (f : Form) (t : Tally) → Sane (rest + length bs) t → Sane rest (reaching n f t bs .tally)

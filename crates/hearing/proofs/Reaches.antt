@@ -1,5 +1,5 @@
 -- Where the bytes of a piece lead: a byte that waits, samples that are skipped, a whole packet.
-use Prim.Native.Nat.{ℕ, suc, _+_, _-_, _≤_, _<_}
+use Prim.Native.Nat.{ℕ, suc, _+_, _-_, _%_, _≤_, _<_}
 use mathlib.Core.Path.{_≡_, refl, sym, ap, _∙_}
 use mathlib.Core.Bool.{true, false, _&&_, not}
 use mathlib.Core.List.{List, [], _∷_, _++_}
@@ -89,17 +89,24 @@ tallied t came header number =
       position = t .position;
     }
 
+-- of a low byte the last eight bits count, once or twice
+pub low-again : (low high : ℕ) → lowHigh (low % 256) high ≡ lowHigh low high
+low-again low high = omega arith
+
 -- the first four bytes of a packet whose header is listed
 pub reach-front : (n : ℕ) (f : Form) (t : Tally) (a b c d : ℕ) (rest : List ℕ) → t .came ≡ 0
     → listedForm (formWithHeader (lowHigh a b)) ≡ true → 4 < totalOf (formWithHeader (lowHigh a b))
     → reaching n f t (a ∷ b ∷ c ∷ d ∷ rest) ≡ reaching (n + 4) f (tallied t 4 (lowHigh a b) (lowHigh c d)) rest
 unfolding takingByte
-reach-front n f t a b c d rest none ok long =
+reach-front n f t a b c d rest none listed more =
     let none-in : Tally = tallied t 0 (t .header) (t .number) in
-    let one-in : Tally = tallied t 1 a (t .number) in
-    let two-in : Tally = tallied t 2 (lowHigh a b) (t .number) in
-    let three-in : Tally = tallied t 3 (lowHigh a b) c in
-    let four-in : Tally = tallied t 4 (lowHigh a b) (lowHigh c d) in
+    let one-in : Tally = tallied t 1 (a % 256) (t .number) in
+    let two-in : Tally = tallied t 2 (lowHigh (a % 256) b) (t .number) in
+    let three-in : Tally = tallied t 3 (lowHigh (a % 256) b) (c % 256) in
+    let four-in : Tally = tallied t 4 (lowHigh (a % 256) b) (lowHigh (c % 256) d) in
+    let same-front : four-in ≡ tallied t 4 (lowHigh a b) (lowHigh c d) = rw (low-again a b, low-again c d) in
+    let ok : listedForm (formWithHeader (lowHigh (a % 256) b)) ≡ true = rw (low-again a b) listed in
+    let long : 4 < totalOf (formWithHeader (lowHigh (a % 256) b)) = rw (low-again a b) more in
     let start : t ≡ none-in = ap (λ (k : ℕ). tallied t k (t .header) (t .number)) none in
     let first : heardCode f (takingByte none-in a) ≡ 0 = heard-by f one-in refl refl refl refl refl refl in
     let second : heardCode f (takingByte one-in b) ≡ 0 = heard-waits f two-in (omega arith) ok (omega arith) in
@@ -112,6 +119,7 @@ reach-front n f t a b c d rest none ok long =
     ∙ reach-wait (n + 1 + 1) f two-in c (d ∷ rest) third
     ∙ reach-wait (n + 1 + 1 + 1) f three-in d rest fourth
     ∙ ap (λ (k : ℕ). reaching k f four-in rest) count
+    ∙ ap (λ (u : Tally). reaching (n + 4) f u rest) same-front
 
 -- all bytes of a packet whose header is listed: the last one decides
 pub reach-whole : (n : ℕ) (f : Form) (t : Tally) (a b c d : ℕ) (xs : List ℕ) (z : ℕ) (ys : List ℕ) → t .came ≡ 0

@@ -1,5 +1,5 @@
 -- Whole packets, one behind the other, that bring no line: what holds from packet to packet.
-use Prim.Native.Nat.{ℕ, zero, suc, _+_, _-_, _%_, _≤_, _<_}
+use Prim.Native.Nat.{ℕ, zero, suc, _+_, _*_, _-_, _%_, _≤_, _<_}
 use mathlib.Core.Path.{_≡_, refl, sym, ap, _∙_}
 use mathlib.Core.Bool.{true}
 use mathlib.Core.List.{List}
@@ -11,6 +11,7 @@ use Rattle.packets.specs.declared.Form.{Form}
 use Rattle.packets.specs.Forms.{totalOf, listedForm, formWithHeader}
 use Rattle.packets.specs.Numbers.{numberAt, stepOf, last}
 use Rattle.packets.proofs.Numbers.{step-above, step-not-above}
+use Rattle.packets.proofs.Missed.{is-step}
 use Rattle.hearing.specs.declared.Tally.{Tally}
 use Rattle.hearing.specs.declared.Reach.{Reach}
 use Rattle.hearing.specs.Hearing.{reaching}
@@ -59,6 +60,8 @@ pub record Onward (t : Tally) (piece : List ℕ) (from total front at heard posi
   pub some : 0 < heard
   pub few : heard ≤ t .begins + (at - from)
   pub allowed : position ≤ last
+  pub least : heard ≤ position + 1
+  pub most : position ≤ 65_535 * (heard - 1)
   pub numbered : number ≡ numberAt position
   pub follows : 0 < next → Follows piece at front total number position next
   pub same :
@@ -80,8 +83,10 @@ module _
         low = omega arith;
         inside = inside;
         some = b .heard;
-        few = omega (arith, s .heard);
-        allowed = s .position;
+        few = omega (arith, s .counted .heard);
+        allowed = s .counted .position;
+        least = s .counted .least;
+        most = s .counted .most;
         numbered = numbered;
         follows = follows;
         same =
@@ -99,6 +104,7 @@ module _
       let go : next ≡ position + stepOf (numberAt position) after = x .here ∙ rw (r .numbered, is) in
       let packet : Follows piece at (headerOf typeData (totalOf f)) total (numberAt position) position next
       = rw (is-front, r .numbered) at x in
+      let stepped = is-step position after (omega (arith, is, x .above)) small in
       let now : Tally = tallyAt t from at heard position in
       let ahead : Tally → Reach = λ u. reaching (at + total) (formWithHeader front) u (drop (at + total) piece) in
       let step : reaching at (formWithHeader front) now (drop at piece) ≡ ahead (followed now total next)
@@ -110,6 +116,8 @@ module _
         some = omega arith;
         few = omega (arith, r .few, r .low, long, least);
         allowed = x .fits;
+        least = omega (arith, r .least, go, stepped .0);
+        most = omega (arith, r .most, r .some, go, stepped .1);
         numbered = sym (ap numberAt go ∙ number-step position after (omega (arith, is, x .above)) small);
         follows = follows;
         same = ap ahead (same-tally (followed now total next) (sym on) refl refl refl) ∙ sym step ∙ r .same;
@@ -126,8 +134,14 @@ module _
         sane =
             record {
               room = omega (arith, r .low, r .inside, s .room);
-              heard = r .few;
-              captures = omega (arith, s .captures);
-              position = r .allowed;
+              counted =
+                  record {
+                    heard = r .few;
+                    captures = omega (arith, s .counted .captures);
+                    position = r .allowed;
+                    number = omega arith;
+                    least = r .least;
+                    most = r .most;
+                  };
             };
       }

@@ -10,6 +10,7 @@ use Rattle.wire.specs.Codes as Code
 use Rattle.packets.specs.declared.Form.{Form}
 use Rattle.packets.specs.Forms.{sameForm, totalOf, listedForm, formWithHeader}
 use Rattle.packets.specs.Numbers.{last}
+use Rattle.packets.specs.Missed.{missedOf, couldBeGiven}
 use Rattle.reader.specs.declared.Reader.{Reader}
 use Rattle.reader.specs.Reading.{positionAfter}
 use Rattle.hearing.specs.declared.Tally.{Tally}
@@ -22,24 +23,30 @@ use Rattle.hearing.specs.declared.Outcome.{Outcome}
 abbrev pub farthest : ℕ
 farthest = 0x8000_0000_0000_0000
 
--- Each count within its range: the input byte, no more packets or captures than bytes, and a position that there is. A tally
--- outside it is broken (21).
+-- Packets heard, and the position of the last of them: some steps from the first, at position 0, lead there past all that are
+-- missed; where none is heard there is no position. (A reader is broken by the same rule: "whose total no steps give".)
+abbrev pub heardGiven : ℕ → ℕ → Bool
+heardGiven heard position =
+    pick (eqb heard 0) (eqb position 0) (leb heard (position + 1) && couldBeGiven position (missedOf heard position))
+
+-- Each count within its range: the input byte, no more packets or captures than bytes, a position that there is, and as many
+-- packets heard as steps lead there. A tally outside it is broken (21).
 abbrev pub tallyInRange : Tally → Bool
 tallyInRange t =
     leb (t .begins + t .came) farthest
     && leb (t .heard) (t .begins)
     && leb (t .captures) (t .begins)
-    && leb (t .position) last
+    && (leb (t .position) last && heardGiven (t .heard) (t .position))
 
 -- ---- one byte
 
--- the number of a low byte and a high byte. (Of a low byte that is none its last eight bits count.)
+-- the number of a low byte and a high byte. (Of what is no byte only the last eight bits count.)
 abbrev pub lowHigh : ℕ → ℕ → ℕ
-lowHigh low high = low % 256 + 256 * high
+lowHigh low high = low % 256 + 256 * (high % 256)
 
 -- a 16-bit field that begins at a place of the packet, after one byte more
 abbrev pub fieldWith : ℕ → ℕ → ℕ → ℕ → ℕ
-fieldWith place came field b = pick (eqb came place) b (pick (eqb came (place + 1)) (lowHigh field b) field)
+fieldWith place came field b = pick (eqb came place) (b % 256) (pick (eqb came (place + 1)) (lowHigh field b) field)
 
 -- One byte of the packet more. "Header, 16-bit packet number, then I and Q in turn": all but the first four are skipped.
 unfoldable pub takingByte : Tally → ℕ → Tally
@@ -60,7 +67,13 @@ formComing t = formWithHeader (t .header)
 
 -- the packet reader in the open capture
 abbrev pub readerNow : Tally → Reader
-readerNow t = record { heard = not (eqb (t .heard) 0); position = t .position; form = formComing t }
+readerNow t =
+    record {
+      heard = not (eqb (t .heard) 0);
+      position = t .position;
+      total = pick (eqb (t .heard) 0) 0 (missedOf (t .heard) (t .position));
+      form = formComing t;
+    }
 
 -- the position that the packet has
 abbrev pub positionNow : Tally → ℕ

@@ -19,12 +19,20 @@ use Rattle.hearing.specs.Hearing.{lowHigh, formComing, reaching}
 unfoldable pub goesOn : Form → Reach → List ℕ → Reach
 goesOn f r rest = pick (eqb (r .code) Code.waiting) (reaching (r .at) f (r .tally) rest) r
 
--- a tally whose sums fit 64 bits while the rest of a piece is taken
-pub record Sane (rest : ℕ) (t : Tally) : Type 0 where
-  pub room : t .begins + t .came + rest < 0x1_0000_0000_0000_0000
+-- the counts of a tally: no more packets or captures than bytes, a position that there is, a number of 16 bits, and as many
+-- packets heard as steps lead to the position
+pub record Counted (t : Tally) : Type 0 where
   pub heard : t .heard ≤ t .begins
   pub captures : t .captures ≤ t .begins
   pub position : t .position ≤ last
+  pub number : t .number ≤ 65_535
+  pub least : t .heard ≤ t .position + 1
+  pub most : t .position ≤ 65_535 * (t .heard - 1)
+
+-- and its sums fit 64 bits while the rest of a piece is taken
+pub record Sane (rest : ℕ) (t : Tally) : Type 0 where
+  pub room : t .begins + t .came + rest < 0x1_0000_0000_0000_0000
+  pub counted : Counted t
 
 -- what a part of the way through a piece is: nothing is changed of where it all leads
 pub record Goes (f : Form) (t : Tally) (piece : List ℕ) (at : ℕ) (r : Reach) : Type 0 where

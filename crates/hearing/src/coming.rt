@@ -1,14 +1,32 @@
 // A packet as it comes, byte by byte: its header and its number are read, its samples are counted.
 ghost use mathlib.Core.Path.{_≡_};
 ghost use Prim.Native.Nat.{_+_, _≤_, _<_};
+ghost use mathlib.Core.Bool.{_&&_};
+ghost use lib.Dec.{leb};
 ghost use Rattle.packets.specs.Numbers.{last};
-ghost use Rattle.hearing.specs.Hearing.{tallyInRange, fieldWith, takingByte, positionNow, lacksFirst, heardCode, accepting, closes, settled};
+ghost use Rattle.hearing.specs.Hearing.{heardGiven, tallyInRange, fieldWith, takingByte, positionNow, lacksFirst, heardCode, accepting, closes, settled};
 ghost use Rattle.hearing.specs.Inside.{Sane};
 use crate::FARTHEST;
 use crate::Reach;
 use crate::Tally;
 use packets::Form;
 use wire::codes;
+
+// Whether a position is one that a capture can have, and steps lead there with so many packets heard; 0 where none is.
+fn is_heard(heard: u64, position: u64) -> bool
+    ensures { λ r. ⌜ r ≡ leb position last && heardGiven heard position ⌝ }
+{
+    if heard == 0 {
+        return position == 0;
+    }
+    if packets::LAST < position {
+        return false;
+    }
+    if position + 1 < heard {
+        return false;
+    }
+    packets::is_given(position, position + 1 - heard)
+}
 
 // Whether each count of a tally is within its range. A tally that is not is broken.
 pub fn in_range(t: Tally) -> bool
@@ -26,7 +44,7 @@ pub fn in_range(t: Tally) -> bool
     if t.begins < t.captures {
         return false;
     }
-    t.position <= packets::LAST
+    is_heard(t.heard, t.position)
 }
 
 // A 16-bit field that begins at a place of the packet, after one byte more.

@@ -101,12 +101,15 @@ fn measure(s: Span, piece: &[u8]) -> Span {
     eaten.span
 }
 
-// Reads a packet that was heard, and tells its number, its position, its first sample's position and its first numbers.
+// Reads a packet that was heard, and tells its number, its position, its first sample's position, how many were missed just
+// before it and in all, and its first numbers.
 fn read_packet(r: Reader, packet: &[u8]) -> Reader {
     let heard = reader::read(r, packet);
     say_number(b"number", packets::number_in(packet) as u64);
     say_number(b" position", heard.position);
     say_number(b" sample", heard.sample);
+    say_number(b" missed", heard.missed);
+    say_number(b" of", heard.total);
     say_numbers(packet);
     say(b"\n");
     heard.reader

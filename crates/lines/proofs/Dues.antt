@@ -27,11 +27,11 @@ text-append (l ∷ ls) ms = ap (λ (t : List ℕ). lineText l ++ t) (text-append
 
 -- the three parts, one behind the other
 pub due-stored : (d : Due) (a b c e : List ℕ) (first second end : ℕ) → Stored 26 a 0 (textOf (openingIf (d .opening))) b first
-    → Stored 149 b first (textOf (captureIf d)) c second → Stored 44 c second (textOf (endingLines (d .ending))) e end
-    → Stored 219 a 0 (textOf (dueLines d)) e end
+    → Stored 170 b first (textOf (captureIf d)) c second → Stored 44 c second (textOf (endingLines (d .ending))) e end
+    → Stored 240 a 0 (textOf (dueLines d)) e end
 due-stored d a b c e first second end x y z =
     rw (text-append (openingIf (d .opening)) (captureIf d ++ endingLines (d .ending)), text-append (captureIf d) (endingLines (d .ending)))
-    (stored-within 219 (omega arith) (stored-after x (stored-after y z)))
+    (stored-within 240 (omega arith) (stored-after x (stored-after y z)))
 
 -- ---- the products of a capture's line
 
@@ -39,26 +39,30 @@ pub record Sized (d : Due) : Type 0 where
   pub position : d .position ≤ 3_999_999_999
   pub pairs : d .pairs ≤ 256
   pub divisor : d .divisor ≤ 625
+  pub heard : d .heard ≤ d .position + 1
 
-pub sized-by : (d : Due) {a b c : Bool} → leb (d .position) 3_999_999_999 ≡ a → leb (d .pairs) 256 ≡ b → leb (d .divisor) 625 ≡ c
-    → sized d ≡ a && b && c
+pub sized-by : (d : Due) {a b c e : Bool} → leb (d .position) 3_999_999_999 ≡ a → leb (d .pairs) 256 ≡ b → leb (d .divisor) 625 ≡ c
+    → leb (d .heard) (d .position + 1) ≡ e → sized d ≡ a && b && c && e
 unfolding sized
-sized-by d p q r = rw (p, q, r)
+sized-by d p q r s = rw (p, q, r, s)
 
-pub is-sized : (d : Due) → d .position ≤ 3_999_999_999 → d .pairs ≤ 256 → d .divisor ≤ 625 → sized d ≡ true
-is-sized d p q r = sized-by d (le-leb _ _ p) (le-leb _ _ q) (le-leb _ _ r)
+pub is-sized : (d : Due) → Sized d → sized d ≡ true
+is-sized d s = sized-by d (le-leb _ _ (s .position)) (le-leb _ _ (s .pairs)) (le-leb _ _ (s .divisor)) (le-leb _ _ (s .heard))
 
 pub sizes : (d : Due) → sized d ≡ true → Sized d
 unfolding sized
-sizes d e =
+sizes d all =
     let a : Bool = leb (d .position) 3_999_999_999 in
     let b : Bool = leb (d .pairs) 256 in
     let c : Bool = leb (d .divisor) 625 in
-    let ab = and-left (a && b) c e in
+    let e : Bool = leb (d .heard) (d .position + 1) in
+    let abc = and-left (a && b && c) e all in
+    let ab = and-left (a && b) c abc in
     record {
       position = leb-true _ _ (and-left a b ab);
       pairs = leb-true _ _ (and-right a b ab);
-      divisor = leb-true _ _ (and-right (a && b) c e);
+      divisor = leb-true _ _ (and-right (a && b) c abc);
+      heard = leb-true _ _ (and-right (a && b && c) e all);
     }
 
 pub samples-fit : (positions pairs : ℕ) → positions ≤ 4_000_000_000 → pairs ≤ 256 → positions * pairs ≤ 1_024_000_000_000

@@ -1,6 +1,6 @@
 -- The lines that are due at one moment, and what writing them answers. A reader of 01 needs only Lines and spans/specs/Report,
 -- which says what is printed of the whole input.
-use Prim.Native.Nat.{ℕ}
+use Prim.Native.Nat.{ℕ, _+_}
 use mathlib.Core.Bool.{Bool, _&&_, not}
 use mathlib.Core.List.{List, [], _∷_, _++_}
 use lib.Dec.{eqb, leb, ltb}
@@ -8,6 +8,7 @@ use lib.ListN.{length}
 use Rattle.wire.specs.Choice.{pick}
 use Rattle.wire.specs.Codes as Code
 use Rattle.packets.specs.Numbers.{last}
+use Rattle.packets.specs.Missed.{missedOf}
 use Rattle.lines.specs.declared.Due.{Due}
 use Rattle.lines.specs.declared.Ending.{Ending}
 use Rattle.lines.specs.declared.Ending.the-variants.{Nothing, Refusal, Captures}
@@ -19,7 +20,9 @@ openingIf on = pick on (openingLine ∷ []) []
 
 -- the open capture's line
 abbrev pub captureIn : Due → Line
-captureIn d = captureLine (record { bits = d .bits; pairs = d .pairs }) (d .divisor) (d .capture) (d .heard) (d .position)
+captureIn d =
+    captureLine (record { bits = d .bits; pairs = d .pairs }) (d .divisor) (d .capture) (d .heard) (d .position)
+    (missedOf (d .heard) (d .position))
 
 -- where packets were heard in it
 abbrev pub captureIf : Due → List Line
@@ -33,9 +36,10 @@ endingLines (Captures captures) = endLine captures ∷ []
 abbrev pub dueLines : Due → List Line
 dueLines d = openingIf (d .opening) ++ (captureIf d ++ endingLines (d .ending))
 
--- a position, pairs and a D within what a capture can have: the products of its line fit 64 bits then
+-- A position, pairs and a D within what a capture can have: the products of its line fit 64 bits then. No more packets are heard
+-- than there are positions.
 unfoldable pub sized : Due → Bool
-sized d = leb (d .position) last && leb (d .pairs) 256 && leb (d .divisor) 625
+sized d = leb (d .position) last && leb (d .pairs) 256 && leb (d .divisor) 625 && leb (d .heard) (d .position + 1)
 
 -- what writing answers, and the bytes that it writes at the start of the lent slice
 pub record Telling : Type 0 where

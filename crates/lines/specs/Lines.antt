@@ -55,9 +55,9 @@ abbrev pub endTime : ℕ → ℕ → ℕ
 endTime d samples = samples * d / 20
 
 -- "`C` with capture number, bits, pairs per packet, packets heard, positions covered (last + 1), samples covered, and end
--- time": of a capture of a form at D
-abbrev pub captureLine : Form → ℕ → ℕ → ℕ → ℕ → Line
-captureLine f d capture heard last =
+-- time": of a capture of a form at D. "The span line gets missed packets as a last field."
+abbrev pub captureLine : Form → ℕ → ℕ → ℕ → ℕ → ℕ → Line
+captureLine f d capture heard last missed =
     record {
       word = 0x43 ∷ [];
       numbers =
@@ -68,6 +68,7 @@ captureLine f d capture heard last =
           ∷ (last + 1)
           ∷ samplesOver f (last + 1)
           ∷ endTime d (samplesOver f (last + 1))
+          ∷ missed
           ∷ [];
     }
 

@@ -36,8 +36,8 @@ fn put_opening(on: bool, buf: &mut [u8], at: usize) -> usize
 
 // The line of the capture that ends, where packets were heard in it.
 fn put_capture(d: Due, buf: &mut [u8], at: usize) -> usize
-    requires { ⌜ (at + 149 ≤ length (now buf)) × (sized d ≡ true) ⌝ }
-    ensures { λ r. ⌜ Stored 149 (now (buf .entry)) at (textOf (captureIf d)) (now (buf .exit)) r ⌝ }
+    requires { ⌜ (at + 170 ≤ length (now buf)) × (sized d ≡ true) ⌝ }
+    ensures { λ r. ⌜ Stored 170 (now (buf .entry)) at (textOf (captureIf d)) (now (buf .exit)) r ⌝ }
 {
     if d.heard == 0 {
         return at;
@@ -52,6 +52,7 @@ fn put_capture(d: Due, buf: &mut [u8], at: usize) -> usize
         positions,
         samples,
         samples * d.divisor / 20,
+        positions - d.heard,
     ];
     put_line(C, 1, &ns, buf, at)
 }
@@ -76,8 +77,8 @@ fn put_ending(e: Ending, buf: &mut [u8], at: usize) -> usize
 
 // All lines that are due, at the start of a buffer.
 fn put_due(d: Due, buf: &mut [u8]) -> usize
-    requires { ⌜ (219 ≤ length (now buf)) × (sized d ≡ true) ⌝ }
-    ensures { λ r. ⌜ Stored 219 (now (buf .entry)) 0 (textOf (dueLines d)) (now (buf .exit)) r ⌝ }
+    requires { ⌜ (240 ≤ length (now buf)) × (sized d ≡ true) ⌝ }
+    ensures { λ r. ⌜ Stored 240 (now (buf .entry)) 0 (textOf (dueLines d)) (now (buf .exit)) r ⌝ }
 {
     let first = put_opening(d.opening, buf, 0);
     let second = put_capture(d, buf, first);
@@ -85,7 +86,8 @@ fn put_due(d: Due, buf: &mut [u8]) -> usize
     put_ending(ending, buf, second)
 }
 
-// Whether the products of a capture's line are those of numbers that a capture can have.
+// Whether the products of a capture's line are those of numbers that a capture can have, and it has as many positions as
+// packets heard.
 fn is_sized(d: Due) -> bool
     ensures { λ r. ⌜ r ≡ sized d ⌝ }
 {
@@ -95,11 +97,14 @@ fn is_sized(d: Due) -> bool
     if 256 < d.pairs {
         return false;
     }
-    d.divisor <= 625
+    if 625 < d.divisor {
+        return false;
+    }
+    d.heard <= d.position + 1
 }
 
-// Writes the lines that are due at the start of a slice: 219 bytes are room enough. It refuses with 16 a position, pairs
-// or a D that no capture has, and then with 20 a slice that has no room for all lines; nothing is written then.
+// Writes the lines that are due at the start of a slice: 240 bytes are room enough. It refuses with 16 a position, pairs,
+// a D or a count of packets that no capture has, and then with 20 a slice that has no room for all lines; nothing is written then.
 pub fn tell(d: Due, out: &mut [u8]) -> LinesAnswer
     ensures { λ r.
         ⌜ (r ≡ tellingOf d (length (now (out .entry))) .answer)

@@ -14,9 +14,9 @@ numberAt (suc p) = p % 65_535 + 1
 abbrev pub stepOf : ℕ → ℕ → ℕ
 stepOf s t = pick (ltb s t) (t - s) (t + 65_535 - s)
 
--- the number that a packet carries
+-- the number that a packet carries, "16-bit packet number". (Of what is no byte only the lowest bits count.)
 abbrev pub numberIn : List ℕ → ℕ
-numberIn packet = field 2 2 packet
+numberIn packet = field 2 2 packet % 65_536
 
 -- "capture holds 4,000,000,000 packets"
 abbrev pub most : ℕ

@@ -1,11 +1,14 @@
 // Packets and numbers of document 01: the four forms, and the number at each position. (Crate samples has the loops.)
 ghost use mathlib.Core.Path.{_≡_};
 ghost use Prim.Native.Nat.{_<_};
+ghost use mathlib.Core.Bool.{_&&_};
+ghost use lib.Dec.{leb};
 ghost use lib.ListN.{getD};
 ghost use Rattle.wire.specs.Choice.{pick};
 ghost use Rattle.wire.specs.Number.{field};
 ghost use Rattle.packets.specs.Forms.{formFor, listedForm, sameForm, totalOf, noForm, formWithHeader, wholeOf};
-ghost use Rattle.packets.specs.Numbers.{numberAt, numberIn, stepOf};
+ghost use Rattle.packets.specs.Numbers.{numberAt, numberIn, stepOf, last};
+ghost use Rattle.packets.specs.Missed.{couldBeGiven};
 
 // How many packets a capture can hold, and the position of the last of them.
 pub const MOST: u64 = 4_000_000_000;
@@ -191,4 +194,18 @@ pub fn step(s: u16, t: u16) -> u64
         return t as u64 - s as u64;
     }
     t as u64 + 65535 - s as u64
+}
+
+// Whether the position is one that a capture can have, and the total one that steps to it give: each is 1 to 65,535, and passes
+// over one packet less.
+pub fn is_given(position: u64, total: u64) -> bool
+    ensures { λ r. ⌜ r ≡ leb position last && couldBeGiven position total ⌝ }
+{
+    if LAST < position {
+        return false;
+    }
+    if position < total {
+        return false;
+    }
+    position <= 65535 * (position - total)
 }

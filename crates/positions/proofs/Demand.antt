@@ -1,5 +1,6 @@
 -- Demand 3. What the box cuts is numbered from 0 on in one form; a reader that has heard a position takes each later packet
--- within a turn at its own; and a list of numbers leaves one list of positions, which leaves one choice of what was lost.
+-- within a turn at its own, and misses what was lost between; and a list of numbers leaves one list of positions, which leaves
+-- one choice of what was lost.
 use Prim.Native.Nat.{ℕ, _+_, _≤_, _<_}
 use mathlib.Core.Path.{_≡_, refl, sym, ap, subst, _∙_}
 use mathlib.Core.Bool.{true, false}
@@ -13,8 +14,9 @@ use Rattle.station.specs.declared.Station.{Station}
 use Rattle.station.specs.Feeding.{feedingOf}
 use Rattle.cutting.specs.Cutting.{Cutting, formNow, cuttingOf}
 use Rattle.reader.specs.declared.Reader.{Reader}
+use Rattle.reader.specs.declared.Heard.{Heard}
 use Rattle.reader.specs.Reading.{silent, sound, readingOf, heardAt, afterSlices}
-use Rattle.reader.proofs.Sound.{silent-sound, slices-keep-sound}
+use Rattle.reader.proofs.Sound.{silent-sound, reading-keeps-sound, slices-keep-sound}
 use Rattle.positions.specs.Captures.{Cuts, ends, cuts, feeds, Capture}
 use Rattle.positions.specs.Losses.{Fate, arrives, lost, arriving, bounded, allowedLosses, positionsFrom, answersBy}
 use Rattle.positions.specs.Demand.{saidIn, takenAt, ExactPositions, NeverBroken, ExactAfterAnything, NoTwoAlike}
@@ -57,24 +59,39 @@ cuts-numbered {s} r (cuts {packets = ps} samples room e later) =
 cuts-numbered {s} r (feeds {packets = ps} host room on later) =
     subst (λ (x : Next). Numbered (x .form) (x .position) ps) (feeding-leaves s host room r on) (cuts-numbered on later)
 
--- after position m, with k lost since
-exact-after : (f : Form) (fs : List Fate) (ps : List (List ℕ)) (m k n : ℕ) → n ≡ m + k + 1 → Numbered f n ps → bounded k fs
-    → answersBy readingOf (hasHeard f m) (arriving fs ps) ≡ map (λ p. heardAt p f) (arriving fs (positionsFrom n ps))
-exact-after f [] ps m k n e all b = refl
-exact-after f (arrives ∷ fs) [] m k n e all b = refl
-exact-after f (arrives ∷ fs) (p ∷ ps) m k n e all b =
-    rw (reads-next f p m n (all .0) (omega arith) (omega arith))
-    (ap (λ l. heardAt n f ∷ l) (exact-after f fs ps n 0 (n + 1) (omega arith) (all .1) (b .1)))
-exact-after f (lost ∷ fs) [] m k n e all b = refl
-exact-after f (lost ∷ fs) (p ∷ ps) m k n e all b = exact-after f fs ps m (k + 1) (n + 1) (omega arith) (all .1) b
+-- What is answered to those that arrive of a capture of form f, from position n on: k have been lost since the last that arrived,
+-- and t in all.
+abbrev pub heardsFrom : Form → ℕ → ℕ → ℕ → List Fate → List (List ℕ) → List Heard
+heardsFrom f k t n [] ps = []
+heardsFrom f k t n (arrives ∷ fs) [] = []
+heardsFrom f k t n (arrives ∷ fs) (p ∷ ps) = heardAt n k t f ∷ heardsFrom f 0 t (n + 1) fs ps
+heardsFrom f k t n (lost ∷ fs) [] = []
+heardsFrom f k t n (lost ∷ fs) (p ∷ ps) = heardsFrom f (k + 1) (t + 1) (n + 1) fs ps
 
-exact : (f : Form) (fs : List Fate) (ps : List (List ℕ)) → Numbered f 0 ps → allowedLosses fs → (r : Reader) → sound r ≡ true
-    → answersBy readingOf r (arriving fs ps) ≡ map (λ p. heardAt p f) (arriving fs (positionsFrom 0 ps))
-exact f [] ps all b r s = refl
-exact f (arrives ∷ fs) [] all b r s = refl
-exact f (arrives ∷ fs) (p ∷ ps) all b r s =
-    rw (reads-first f p r (all .0) s) (ap (λ l. heardAt 0 f ∷ l) (exact-after f fs ps 0 0 1 (omega arith) (all .1) b))
-exact f (lost ∷ fs) ps all b r s = absurd b
+-- after position m with a total of u, and k lost since
+hears-after : (f : Form) (fs : List Fate) (ps : List (List ℕ)) (m u k t n : ℕ) → sound (hasHeard f m u) ≡ true
+    → n ≡ m + k + 1 → u + k ≡ t → Numbered f n ps → bounded k fs
+    → answersBy readingOf (hasHeard f m u) (arriving fs ps) ≡ heardsFrom f k t n fs ps
+hears-after f [] ps m u k t n fine e d all b = refl
+hears-after f (arrives ∷ fs) [] m u k t n fine e d all b = refl
+hears-after f (arrives ∷ fs) (p ∷ ps) m u k t n fine e d all b =
+    let here : readingOf (hasHeard f m u) p ≡ heardAt n k t f =
+    reads-next f p m u k n (all .0) fine e (b .0) ∙ ap (λ (x : ℕ). heardAt n k x f) d in
+    let stays : sound (hasHeard f n t) ≡ true = rw here at (reading-keeps-sound (hasHeard f m u) p fine) in
+    rw here (ap (λ l. heardAt n k t f ∷ l) (hears-after f fs ps n t 0 t (n + 1) stays (omega arith) (omega arith) (all .1) (b .1)))
+hears-after f (lost ∷ fs) [] m u k t n fine e d all b = refl
+hears-after f (lost ∷ fs) (p ∷ ps) m u k t n fine e d all b =
+    hears-after f fs ps m u (k + 1) (t + 1) (n + 1) fine (omega arith) (omega arith) (all .1) b
+
+pub hears : (f : Form) (fs : List Fate) (ps : List (List ℕ)) → Numbered f 0 ps → allowedLosses fs → (r : Reader) → sound r ≡ true
+    → answersBy readingOf r (arriving fs ps) ≡ heardsFrom f 0 0 0 fs ps
+hears f [] ps all b r fine = refl
+hears f (arrives ∷ fs) [] all b r fine = refl
+hears f (arrives ∷ fs) (p ∷ ps) all b r fine =
+    let here = reads-first f p r (all .0) fine in
+    let stays : sound (hasHeard f 0 0) ≡ true = rw here at (reading-keeps-sound r p fine) in
+    rw here (ap (λ l. heardAt 0 0 0 f ∷ l) (hears-after f fs ps 0 0 0 0 1 stays (omega arith) (omega arith) (all .1) b))
+hears f (lost ∷ fs) ps all b r fine = absurd b
 
 -- a box that a call of feeding finds idle and leaves running begins a capture
 pub begins : (s : Station) (host : List ℕ) (room : ℕ) (packets : List (List ℕ)) → s .settings .running ≡ false
@@ -88,14 +105,18 @@ pub from-start : {s : Station} {packets : List (List ℕ)} → Capture s packets
 from-start c = rw (c .fresh) at (cuts-numbered (c .running) (c .calls))
 
 -- what is said of packets that are heard so
-said-at : (f : Form) (ps : List ℕ) → map saidIn (map (λ p. heardAt p f) ps) ≡ map (takenAt f) ps
-said-at f [] = refl
-said-at f (p ∷ ps) = ap (λ l. takenAt f p ∷ l) (said-at f ps)
+said-heard : (f : Form) (fs : List Fate) (ps : List (List ℕ)) (k t n : ℕ)
+    → map saidIn (heardsFrom f k t n fs ps) ≡ map (takenAt f) (arriving fs (positionsFrom n ps))
+said-heard f [] ps k t n = refl
+said-heard f (arrives ∷ fs) [] k t n = refl
+said-heard f (arrives ∷ fs) (p ∷ ps) k t n = ap (λ l. takenAt f n ∷ l) (said-heard f fs ps 0 t (n + 1))
+said-heard f (lost ∷ fs) [] k t n = refl
+said-heard f (lost ∷ fs) (p ∷ ps) k t n = said-heard f fs ps (k + 1) (t + 1) (n + 1)
 
 pub exact-positions : ExactPositions
 exact-positions r g s packets c fates b =
     let f = formNow (s .settings) in
-    ap (map saidIn) (exact f fates packets (from-start c) b r g) ∙ said-at f (arriving fates (positionsFrom 0 packets))
+    ap (map saidIn) (hears f fates packets (from-start c) b r g) ∙ said-heard f fates packets 0 0 0
 
 pub never-broken : NeverBroken
 never-broken slices = slices-keep-sound silent slices silent-sound

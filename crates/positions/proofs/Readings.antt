@@ -1,19 +1,17 @@
--- One reading of a packet that the box cut: it is taken, at its position.
+-- One reading of a packet that the box cut: it is taken, at its position, and what was lost before it is missed.
 use Prim.Native.Nat.{ℕ, _+_, _≤_, _<_}
 use mathlib.Core.Path.{_≡_, refl, sym, ap, _∙_}
-use mathlib.Core.Bool.{true, false}
+use mathlib.Core.Bool.{true}
 use mathlib.Core.List.{List}
 use native.Mathlib.Omega.{arith}
-use borrow.Author.Tests.{eq-eqb, ne-eqb, le-leb, le-ltb}
-use lib.Dec.{eqb}
 use Rattle.packets.specs.declared.Form.{Form}
 use Rattle.packets.specs.Forms.{listedForm, wholeOf, sameForm}
-use Rattle.packets.proofs.Forms.{same-self}
+use Rattle.packets.proofs.Forms.{same-self, is-listed-form}
 use Rattle.packets.specs.Numbers.{numberAt, numberIn, stepOf, most, last}
 use Rattle.packets.proofs.Numbers.{number-zero}
 use Rattle.reader.specs.declared.Reader.{Reader}
-use Rattle.reader.specs.Reading.{sound, positionAfter, readingOf, heardAt}
-use Rattle.reader.proofs.Reading.{packet-taken}
+use Rattle.reader.specs.Reading.{sound, readingOf, heardAt}
+use Rattle.reader.proofs.Reading.{first, next}
 use Rattle.positions.proofs.Steps.{position-is-exact, repeated-is-a-turn}
 
 -- the packet at position n of a capture of form f
@@ -23,36 +21,38 @@ pub record At (f : Form) (n : ℕ) (packet : List ℕ) : Type 0 where
   pub number : numberIn packet ≡ numberAt n
   pub below : n < most
 
--- a reader that has heard position n of a capture of form f
-abbrev pub hasHeard : Form → ℕ → Reader
-hasHeard f n = record { heard = true; position = n; form = f }
+-- it has pairs, so it is a packet
+has-pairs : {f : Form} {n : ℕ} {packet : List ℕ} → At f n packet → wholeOf packet .pairs ≡ 0 → ⊥
+has-pairs {f} a z = omega (arith, is-listed-form f (a .fine) .some, sym (ap (λ (g : Form). g .pairs) (a .form)) ∙ z)
+
+-- a reader that has heard position n of a capture of form f, and before it missed total
+abbrev pub hasHeard : Form → ℕ → ℕ → Reader
+hasHeard f n total = record { heard = true; position = n; total = total; form = f }
 
 -- "Number 0 begins a new capture, at any moment."
-pub reads-first : (f : Form) (packet : List ℕ) (r : Reader) → At f 0 packet → sound r ≡ true → readingOf r packet ≡ heardAt 0 f
-reads-first f packet r a s =
-    let zeroth : eqb (numberIn packet) 0 ≡ true = eq-eqb (numberIn packet) 0 (a .number) in
-    let there : positionAfter r (numberIn packet) ≡ 0 = rw zeroth in
-    packet-taken r packet s (rw (a .form) (a .fine)) (rw zeroth) (rw zeroth) (rw there)
-    ∙ rw (there, a .form)
+pub reads-first : (f : Form) (packet : List ℕ) (r : Reader) → At f 0 packet → sound r ≡ true → readingOf r packet ≡ heardAt 0 0 0 f
+reads-first f packet r a fine = sym (first r packet fine (has-pairs a) (a .number)) ∙ ap (heardAt 0 0 0) (a .form)
 
--- A later packet of the same form is taken where its step leads, if that is not past the last position.
-reads-at : (f : Form) (packet : List ℕ) (m p n : ℕ) → At f p packet → 0 < p → m ≤ last → n ≤ last
-    → m + stepOf (numberAt m) (numberAt p) ≡ n → readingOf (hasHeard f m) packet ≡ heardAt n f
-reads-at f packet m p n a above before within there =
-    let later : eqb (numberIn packet) 0 ≡ false = ne-eqb (numberIn packet) 0 (λ z. omega (arith, number-zero p (sym (a .number) ∙ z))) in
-    let leads : positionAfter (hasHeard f m) (numberIn packet) ≡ n = rw (later, a .number) there in
+-- A later packet of the same form is taken where its step leads, if that is not past the last position, and the positions that
+-- the step passes over are missed.
+reads-at : (f : Form) (packet : List ℕ) (m t p k n : ℕ) → At f p packet → 0 < p → sound (hasHeard f m t) ≡ true → n ≤ last
+    → m + stepOf (numberAt m) (numberAt p) ≡ n → n ≡ m + k + 1 → readingOf (hasHeard f m t) packet ≡ heardAt n k (t + k) f
+reads-at f packet m t p k n a above fine within there over =
+    let later : numberIn packet ≡ 0 → ⊥ = λ z. omega (arith, number-zero p (sym (a .number) ∙ z)) in
     let same : sameForm (wholeOf packet) f ≡ true = rw (a .form) (same-self f) in
-    packet-taken (hasHeard f m) packet (rw (le-leb m last before) (a .fine)) (rw (a .form) (a .fine)) (rw later) (rw (later, same))
-    (rw leads (le-ltb last n within))
-    ∙ rw (leads, a .form)
+    let leads : n ≡ m + stepOf (numberAt m) (numberIn packet) = rw (a .number) (sym there) in
+    sym (next (hasHeard f m t) packet fine (has-pairs a) later refl same n leads within k (omega arith))
+    ∙ ap (heardAt n k (t + k)) (a .form)
 
-pub reads-next : (f : Form) (packet : List ℕ) (m n : ℕ) → At f n packet → m < n → n ≤ m + 65_535
-    → readingOf (hasHeard f m) packet ≡ heardAt n f
-reads-next f packet m n a h l =
+-- k lost since position m
+pub reads-next : (f : Form) (packet : List ℕ) (m t k n : ℕ) → At f n packet → sound (hasHeard f m t) ≡ true → n ≡ m + k + 1 → k < 65_535
+    → readingOf (hasHeard f m t) packet ≡ heardAt n k (t + k) f
+reads-next f packet m t k n a fine e few =
     let below = a .below in
-    reads-at f packet m n n a (omega arith) (omega arith) (omega arith) (position-is-exact m n h l)
+    reads-at f packet m t n k n a (omega arith) fine (omega arith) (position-is-exact m n (omega arith) (omega arith)) e
 
--- "A repeated number reads as a full turn; hence the premise "once each"."
-pub reads-twice : (f : Form) (packet : List ℕ) (n : ℕ) → At f n packet → 0 < n → n + 65_535 ≤ last
-    → readingOf (hasHeard f n) packet ≡ heardAt (n + 65_535) f
-reads-twice f packet n a h l = reads-at f packet n n (n + 65_535) a h (omega arith) l (ap (λ k. n + k) (repeated-is-a-turn (numberAt n)))
+-- "A repeated number reads as a full turn; hence the premise "once each"." So it reads as 65,534 missed.
+pub reads-twice : (f : Form) (packet : List ℕ) (n t : ℕ) → At f n packet → sound (hasHeard f n t) ≡ true → 0 < n → n + 65_535 ≤ last
+    → readingOf (hasHeard f n t) packet ≡ heardAt (n + 65_535) 65_534 (t + 65_534) f
+reads-twice f packet n t a fine h l =
+    reads-at f packet n t n 65_534 (n + 65_535) a h fine l (ap (λ k. n + k) (repeated-is-a-turn (numberAt n))) (omega arith)

@@ -23,6 +23,6 @@ neverMoving held number = held
 abbrev pub oneTurnOnly : ℕ → ℕ → ℕ
 oneTurnOnly held number = number
 
--- the reader of a rule, which takes every packet
+-- the reader of a rule, which takes every packet and says that none was missed
 abbrev pub readBy : (ℕ → ℕ → ℕ) → WayToRead
-readBy rule r packet = heardAt (rule (r .position) (numberIn packet)) (wholeOf packet)
+readBy rule r packet = heardAt (rule (r .position) (numberIn packet)) 0 0 (wholeOf packet)

@@ -2,3 +2,4 @@ pub mod Reading
 pub mod Steps
 pub mod Unpacking
 pub mod Sound
+pub mod Lost

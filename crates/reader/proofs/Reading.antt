@@ -1,21 +1,22 @@
 -- Reading by its checks: what each refusal and each acceptance says, in the order of checking, and what a packet's form bounds.
 use Prim.Native.Nat.{ℕ, _+_, _-_, _≤_, _<_}
-use mathlib.Core.Path.{_≡_, sym, ap, _∙_}
+use mathlib.Core.Path.{_≡_, refl, sym, ap, _∙_}
 use mathlib.Core.Bool.{Bool, true, false, _&&_, not}
 use mathlib.Core.Logic.{⊎-elim}
 use mathlib.Core.List.{List, []}
 use native.Mathlib.Omega.{arith}
-use borrow.Author.Tests.{leb-true, le-leb, lt-leb, eq-eqb, ne-eqb, lt-ltb, le-ltb}
+use borrow.Author.Tests.{leb-true, eq-eqb, ne-eqb, lt-ltb, le-ltb}
 use lib.Dec.{eqb, leb, ltb}
 use lib.ListN.{length, take, drop, length-drop}
 use lib.Seq.{take-all}
-use Rattle.wire.proofs.Laws.{pick-true, pick-false, and-left, and-not-left}
+use Rattle.wire.proofs.Laws.{and-left, and-right}
 use Rattle.packets.specs.declared.Form.{Form}
 use Rattle.packets.specs.Forms.{noForm, sameForm, listedForm, wholeOf, isPacket, totalOf}
 use Rattle.packets.specs.Numbers.{numberAt, stepOf, numberIn, last}
 use Rattle.packets.proofs.Forms.{is-listed-form, Whole, whole-is, packet-is}
 use Rattle.reader.specs.declared.Reader.{Reader}
-use Rattle.reader.specs.Reading.{sound, positionAfter, readingChecks, readingCode, readingOf, heardAt, unheard, sampleBytesOf}
+use Rattle.packets.specs.Missed.{missedIn, couldBeGiven}
+use Rattle.reader.specs.Reading.{sound, stepTo, positionAfter, readingChecks, readingCode, readingOf, heardAt, hearing, unheard, sampleBytesOf}
 use Rattle.wire.proofs.Checks.{clear}
 
 -- a slice is a packet where the form found has pairs
@@ -48,32 +49,23 @@ no-samples p z = rw (no-packet p z)
 pub samples-there : (p : List ℕ) → (wholeOf p .pairs ≡ 0 → ⊥) → take (length p - 4) (drop 4 p) ≡ sampleBytesOf p
 samples-there p some = rw (a-packet p some) (take-all (length p - 4) (drop 4 p) (simp length-drop (omega arith)))
 
--- soundness, of a reader that has heard a packet and of one that has not
-module _ (r : Reader) (h : r .heard ≡ true) where
-  heard-sound : sound r ≡ (leb (r .position) last && listedForm (r .form))
-  heard-sound = pick-true (r .heard) _ _ h
+-- soundness, of a reader that has heard a packet, by what its tests come to, and of one that has not
+pub heard-sound : (r : Reader) {a b : Bool} → r .heard ≡ true → (leb (r .position) last && couldBeGiven (r .position) (r .total)) ≡ a
+    → listedForm (r .form) ≡ b → sound r ≡ (a && b)
+heard-sound r h p q = rw (h, p, q)
 
-  pub sound-past : last < r .position → false ≡ sound r
-  sound-past l = sym (heard-sound ∙ and-not-left _ _ (lt-leb (r .position) last l))
-
-  pub sound-within : r .position ≤ last → listedForm (r .form) ≡ sound r
-  sound-within l = sym (heard-sound ∙ ap (λ (t : Bool). t && listedForm (r .form)) (le-leb (r .position) last l))
-
-module _ (r : Reader) (h : r .heard ≡ false) where
-  unheard-sound : sound r ≡ (eqb (r .position) 0 && sameForm (r .form) noForm)
-  unheard-sound = pick-false (r .heard) _ _ h
-
-  pub sound-nowhere : r .position ≡ 0 → sameForm (r .form) noForm ≡ sound r
-  sound-nowhere z = sym (unheard-sound ∙ ap (λ (t : Bool). t && sameForm (r .form) noForm) (eq-eqb (r .position) 0 z))
-
-  pub sound-somewhere : (r .position ≡ 0 → ⊥) → false ≡ sound r
-  sound-somewhere z = sym (unheard-sound ∙ and-not-left _ _ (ne-eqb (r .position) 0 z))
+pub unheard-sound : (r : Reader) {a b c : Bool} → r .heard ≡ false → eqb (r .position) 0 ≡ a → eqb (r .total) 0 ≡ b
+    → sameForm (r .form) noForm ≡ c → sound r ≡ (a && b && c)
+unheard-sound r h p q t = rw (h, p, q, t)
 
 -- "A reader that has heard a packet holds its position (at most 3,999,999,999) and a listed form"
-pub heard-within : (r : Reader) → sound r ≡ true → r .heard ≡ true → r .position ≤ last
+pub heard-within : (r : Reader) → sound r ≡ true → r .heard ≡ true
+    → (r .position ≤ last) × (couldBeGiven (r .position) (r .total) ≡ true)
 heard-within r fine begun =
-    let held : leb (r .position) last && listedForm (r .form) ≡ true = sym (heard-sound r begun) ∙ fine in
-    leb-true (r .position) last (and-left (leb (r .position) last) (listedForm (r .form)) held)
+    let near = leb (r .position) last in
+    let steps = couldBeGiven (r .position) (r .total) in
+    let held = and-left (near && steps) (listedForm (r .form)) (sym (heard-sound r begun refl refl) ∙ fine) in
+    (leb-true (r .position) last (and-left near steps held), and-right near steps held)
 
 module _ (r : Reader) (p : List ℕ) where
   refusal : (c : ℕ) → (c ≡ 1 → ⊥) → readingCode r p ≡ c → unheard c r ≡ readingOf r p
@@ -84,7 +76,7 @@ module _ (r : Reader) (p : List ℕ) where
   pub packet-taken : sound r ≡ true → isPacket p ≡ true → not (eqb (numberIn p) 0) && not (r .heard) ≡ false
       → not (eqb (numberIn p) 0) && not (sameForm (wholeOf p) (r .form)) ≡ false
       → ltb last (positionAfter r (numberIn p)) ≡ false
-      → readingOf r p ≡ heardAt (positionAfter r (numberIn p)) (wholeOf p)
+      → readingOf r p ≡ hearing r (numberIn p) (wholeOf p)
   unfolding readingCode readingOf
   packet-taken a b c d e =
       let one : readingCode r p ≡ 1 = clear (readingChecks r p) 1 (ap not a, (ap not b, (c, (d, (e, tt))))) in
@@ -100,11 +92,10 @@ module _ (r : Reader) (p : List ℕ) where
     no-slice z = refusal 30 (omega arith) (rw (fine, no-packet p z))
 
     module _ (some : wholeOf p .pairs ≡ 0 → ⊥) where
-      pub first : numberIn p ≡ 0 → heardAt 0 (wholeOf p) ≡ readingOf r p
+      pub first : numberIn p ≡ 0 → heardAt 0 0 0 (wholeOf p) ≡ readingOf r p
       first z =
           let zeroth : eqb (numberIn p) 0 ≡ true = eq-eqb _ _ z in
-          let there : positionAfter r (numberIn p) ≡ 0 = rw zeroth in
-          sym (packet-taken fine (a-packet p some) (rw zeroth) (rw zeroth) (rw there) ∙ rw there)
+          sym (packet-taken fine (a-packet p some) (rw zeroth) (rw zeroth) (rw zeroth) ∙ rw zeroth)
 
       module _ (later : numberIn p ≡ 0 → ⊥) where
         pub unbegun : r .heard ≡ false → unheard 31 r ≡ readingOf r p
@@ -123,8 +114,11 @@ module _ (r : Reader) (p : List ℕ) where
             unfolding readingCode
             past l = refusal 33 (omega arith) (rw (fine, a-packet p some, ne-eqb _ _ later, begun, same, ← leads, lt-ltb last n l))
 
-            pub next : n ≤ last → heardAt n (wholeOf p) ≡ readingOf r p
-            next l =
+            pub next : n ≤ last → (missed : ℕ) → missed ≡ n - r .position - 1
+                → heardAt n missed (r .total + missed) (wholeOf p) ≡ readingOf r p
+            next l missed over =
                 let nonzero : eqb (numberIn p) 0 ≡ false = ne-eqb _ _ later in
                 let there : positionAfter r (numberIn p) ≡ n = rw nonzero (sym leads) in
-                sym (packet-taken fine (a-packet p some) (rw (nonzero, begun)) (rw (nonzero, same)) (rw there (le-ltb last n l)) ∙ rw there)
+                let less : missedIn (stepTo r (numberIn p)) ≡ missed = omega arith in
+                sym (packet-taken fine (a-packet p some) (rw (nonzero, begun)) (rw (nonzero, same)) (rw there (le-ltb last n l))
+                ∙ rw (nonzero, ← leads, less))

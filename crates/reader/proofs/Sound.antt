@@ -1,38 +1,62 @@
 -- A reader keeps sound: nothing that it is handed breaks it. What refuses returns the reader given; what is taken leaves the
--- form of a packet, which is listed, and a position that is not past the last.
-use Prim.Native.Nat.{ℕ}
+-- form of a packet, which is listed, a position that is not past the last, and a total that steps to it give.
+use Prim.Native.Nat.{ℕ, _+_, _≤_, _<_}
 use mathlib.Core.Path.{_≡_, refl}
-use mathlib.Core.Bool.{true}
+use mathlib.Core.Bool.{Bool, true, false, _&&_, not}
 use mathlib.Core.List.{List, [], _∷_}
-use borrow.Author.Tests.{eqb-true, le-leb, ltb-false, not-false}
+use native.Mathlib.Omega.{arith}
+use borrow.Author.Tests.{eqb-true, eqb-false, le-leb, ltb-false, not-false}
 use lib.Dec.{eqb, leb}
 use Rattle.wire.proofs.Laws.{and-both, pick-keeps}
 use Rattle.wire.proofs.Checks.{absent}
-use Rattle.packets.specs.Forms.{wholeOf, isPacket}
+use Rattle.packets.specs.declared.Form.{Form}
+use Rattle.packets.specs.Forms.{listedForm, wholeOf, isPacket}
 use Rattle.packets.specs.Numbers.{numberIn, last}
+use Rattle.packets.specs.Missed.{missedIn, couldBeGiven}
+use Rattle.packets.proofs.Missed.{is-step, given-at-start, given-step}
 use Rattle.reader.specs.declared.Reader.{Reader}
 use Rattle.reader.specs.declared.Heard.{Heard}
-use Rattle.reader.specs.Reading.{silent, sound, positionAfter, readingChecks, readingCode, heardAt, readingOf, afterSlices}
+use Rattle.reader.specs.Reading.{silent, sound, stepTo, positionAfter, readingChecks, readingCode, heardAt, hearing, readingOf, afterSlices}
+use Rattle.reader.proofs.Reading.{heard-within}
 
 pub silent-sound : sound silent ≡ true
 silent-sound = refl
 
+-- a step more of the same capture: a total that steps give is one again
+step-sound : (r : Reader) (number : ℕ) (f : Form) → sound r ≡ true → r .heard ≡ true → 0 < number → number ≤ 65_535
+    → listedForm f ≡ true → r .position + stepTo r number ≤ last
+    → sound (heardAt (r .position + stepTo r number) 0 (r .total + missedIn (stepTo r number)) f .reader) ≡ true
+step-sound r number f fine begun some small listed near =
+    let position = r .position + stepTo r number in
+    let total = r .total + missedIn (stepTo r number) in
+    let step = given-step (r .position) (r .total) (stepTo r number) (heard-within r fine begun .1) (is-step (r .position) number some small) in
+    let held = and-both (leb position last) (couldBeGiven position total) (le-leb position last near) step in
+    and-both (leb position last && couldBeGiven position total) (listedForm f) held listed
+
 -- none of the five refusals: the position is not past the last, and the packet's form is listed
-taken-sound : (r : Reader) (slice : List ℕ) → readingCode r slice ≡ 1
-    → sound (heardAt (positionAfter r (numberIn slice)) (wholeOf slice) .reader) ≡ true
+taken-sound : (r : Reader) (slice : List ℕ) → sound r ≡ true → readingCode r slice ≡ 1
+    → sound (hearing r (numberIn slice) (wholeOf slice) .reader) ≡ true
 unfolding readingCode
-taken-sound r slice one =
-    let position = positionAfter r (numberIn slice) in
+taken-sound r slice fine one =
     let none = absent (readingChecks r slice) 1 refl one in
-    let within : leb position last ≡ true = le-leb position last (ltb-false last position (none .1 .1 .1 .1 .0)) in
-    and-both (leb position last) (isPacket slice) within (not-false (isPacket slice) (none .1 .0))
+    by (eqb (numberIn slice) 0) refl (not-false (isPacket slice) (none .1 .0)) (none .1 .1 .0)
+    (ltb-false last (positionAfter r (numberIn slice)) (none .1 .1 .1 .1 .0))
+  where
+    by : (zeroth : Bool) → eqb (numberIn slice) 0 ≡ zeroth → isPacket slice ≡ true → (not (eqb (numberIn slice) 0) && not (r .heard)) ≡ false
+        → positionAfter r (numberIn slice) ≤ last
+        → sound (hearing r (numberIn slice) (wholeOf slice) .reader) ≡ true
+    by true e listed lone within = rw (e, given-at-start) listed
+    by false e listed lone within =
+        let begun : r .heard ≡ true = not-false (r .heard) (rw e at lone) in
+        let some : 0 < numberIn slice = omega (arith, eqb-false (numberIn slice) 0 e) in
+        rw e (step-sound r (numberIn slice) (wholeOf slice) fine begun some (omega arith) listed (rw e at within))
 
 -- whatever the slice is
 pub reading-keeps-sound : (r : Reader) (slice : List ℕ) → sound r ≡ true → sound (readingOf r slice .reader) ≡ true
 unfolding readingOf
 reading-keeps-sound r slice fine =
     pick-keeps (λ (h : Heard). sound (h .reader) ≡ true) (eqb (readingCode r slice) 1) _ _
-    (λ done. taken-sound r slice (eqb-true (readingCode r slice) 1 done))
+    (λ done. taken-sound r slice fine (eqb-true (readingCode r slice) 1 done))
     (λ refused. fine)
 
 -- whatever the slices are

@@ -11,6 +11,7 @@ use Rattle.wire.specs.Codes as Code
 use Rattle.packets.specs.declared.Form.{Form}
 use Rattle.packets.specs.Forms.{noForm, sameForm, listedForm, wholeOf, isPacket}
 use Rattle.packets.specs.Numbers.{numberAt, stepOf, numberIn, last}
+use Rattle.packets.specs.Missed.{missedIn, couldBeGiven}
 use Rattle.packets.specs.Samples.{samplesFrom}
 use Rattle.reader.specs.declared.Reader.{Reader}
 use Rattle.reader.specs.declared.Heard.{Heard}
@@ -18,15 +19,30 @@ use Rattle.reader.specs.declared.Unpacked.{Unpacked}
 
 -- a reader that has heard nothing
 abbrev pub silent : Reader
-silent = record { heard = false; position = 0; form = noForm }
+silent = record { heard = false; position = 0; total = 0; form = noForm }
 
--- "A reader that has heard a packet holds its position (at most 3,999,999,999) and a listed form; other states are broken."
+-- "A reader that has heard a packet holds its position (at most 3,999,999,999) and a listed form; other states are broken." "A
+-- reader whose total no steps give is broken."
 abbrev pub sound : Reader → Bool
-sound r = pick (r .heard) (leb (r .position) last && listedForm (r .form)) (eqb (r .position) 0 && sameForm (r .form) noForm)
+sound r =
+    pick (r .heard) (leb (r .position) last && couldBeGiven (r .position) (r .total) && listedForm (r .form))
+    (eqb (r .position) 0 && eqb (r .total) 0 && sameForm (r .form) noForm)
 
--- "Number 0 begins a new capture, at any moment. From number s to number t above 0 the step is .."
+-- "From number s to number t above 0 the step is .."
+abbrev pub stepTo : Reader → ℕ → ℕ
+stepTo r number = stepOf (numberAt (r .position)) number
+
+-- "Number 0 begins a new capture, at any moment."
 abbrev pub positionAfter : Reader → ℕ → ℕ
-positionAfter r number = pick (eqb number 0) 0 (r .position + stepOf (numberAt (r .position)) number)
+positionAfter r number = pick (eqb number 0) 0 (r .position + stepTo r number)
+
+-- "how many were missed just before this packet (step less one; 0 at a start) .."
+abbrev pub missedBefore : Reader → ℕ → ℕ
+missedBefore r number = pick (eqb number 0) 0 (missedIn (stepTo r number))
+
+-- ".. and the capture's total"
+abbrev pub totalAfter : Reader → ℕ → ℕ
+totalAfter r number = pick (eqb number 0) 0 (r .total + missedIn (stepTo r number))
 
 -- "Packet reading 21, 30, 31, 32, 33."
 abbrev pub readingChecks : Reader → List ℕ → List Check
@@ -41,22 +57,29 @@ readingChecks r packet =
 unfoldable pub readingCode : Reader → List ℕ → ℕ
 readingCode r packet = firstOf (readingChecks r packet) Code.done
 
--- "The answer is the packet's position and its first sample's position (packet position times I/Q pairs)."
-abbrev pub heardAt : ℕ → Form → Heard
-heardAt position f =
+-- "The answer is the packet's position and its first sample's position (packet position times I/Q pairs)." "The packet reader
+-- shall also answer how many were missed just before this packet .. and the capture's total."
+abbrev pub heardAt : ℕ → ℕ → ℕ → Form → Heard
+heardAt position missed total f =
     record {
       code = Code.done;
       position = position;
       sample = position * f .pairs;
-      reader = record { heard = true; position = position; form = f };
+      missed = missed;
+      total = total;
+      reader = record { heard = true; position = position; total = total; form = f };
     }
 
+-- a packet of a form that carries a number
+abbrev pub hearing : Reader → ℕ → Form → Heard
+hearing r number f = heardAt (positionAfter r number) (missedBefore r number) (totalAfter r number) f
+
 abbrev pub unheard : ℕ → Reader → Heard
-unheard code r = record { code = code; position = 0; sample = 0; reader = r }
+unheard code r = record { code = code; position = 0; sample = 0; missed = 0; total = 0; reader = r }
 
 unfoldable pub readingOf : Reader → List ℕ → Heard
 readingOf r packet =
-    pick (eqb (readingCode r packet) Code.done) (heardAt (positionAfter r (numberIn packet)) (wholeOf packet))
+    pick (eqb (readingCode r packet) Code.done) (hearing r (numberIn packet) (wholeOf packet))
     (unheard (readingCode r packet) r)
 
 -- The reader that slice after slice makes of one. A slice is anything that it is handed: a packet of any capture, or rubbish.

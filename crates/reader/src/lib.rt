@@ -8,20 +8,24 @@ ghost use lib.Seq.{sets};
 ghost use Rattle.packets.specs.Numbers.{numberAt, stepOf, most};
 ghost use Rattle.reader.specs.Reading.{silent, sound, unheard, heardAt, readingOf, sampleBytesOf, unpackingOf, numbersWritten};
 
-// What a reader has heard of the capture so far: the position and form of the last packet; before the first packet
-// nothing, and then all is zero.
+// What a reader has heard of the capture so far: the position and form of the last packet, and how many packets were missed
+// up to it; before the first packet nothing, and then all is zero.
 pub struct Reader {
     pub heard: bool,
     pub position: u64,
+    pub total: u64,
     pub form: Form,
 }
 
-// What one call of reading answered: its code, the packet's position, its first sample's position, and the reader after
-// it. Where it refuses, both positions are 0 and the reader is the one given.
+// What one call of reading answered: its code, the packet's position, its first sample's position, how many packets were
+// missed just before it and in the capture so far, and the reader after it. Where it refuses, these numbers are 0 and the
+// reader is the one given.
 pub struct Heard {
     pub code: u8,
     pub position: u64,
     pub sample: u64,
+    pub missed: u64,
+    pub total: u64,
     pub reader: Reader,
 }
 
@@ -38,25 +42,30 @@ pub fn silent() -> Reader
     Reader {
         heard: false,
         position: 0,
+        total: 0,
         form: packets::no_form(),
     }
 }
 
-// Whether the reader is silent, or holds a position that a capture can have and a listed form: "other states are broken".
+// Whether the reader is silent, or holds a position that a capture can have, a total that steps to it give, and a listed
+// form: "other states are broken".
 pub fn is_sound(r: Reader) -> bool
     ensures { λ ok. ⌜ ok ≡ sound r ⌝ }
 {
     let form = r.form;
     if r.heard {
-        if packets::LAST < r.position {
+        if !packets::is_given(r.position, r.total) {
             return false;
         }
         return packets::is_listed(form);
     }
-    if r.position == 0 {
-        return packets::same_form(form, packets::no_form());
+    if r.position != 0 {
+        return false;
     }
-    false
+    if r.total != 0 {
+        return false;
+    }
+    packets::same_form(form, packets::no_form())
 }
 
 // A refusal: the reader is the one given.
@@ -67,23 +76,28 @@ fn refused(code: u8, r: Reader) -> Heard
         code,
         position: 0,
         sample: 0,
+        missed: 0,
+        total: 0,
         reader: r,
     }
 }
 
-// A packet taken at a position: its first sample stands at that position times the I/Q pairs.
-fn heard_at(position: u64, form: Form) -> Heard
+// A packet taken at a position, with how many were missed: its first sample stands at that position times the I/Q pairs.
+fn heard_at(position: u64, missed: u64, total: u64, form: Form) -> Heard
     requires { ⌜ (position < most) × (form .pairs < 257) ⌝ }
-    ensures { λ h. ⌜ h ≡ heardAt position form ⌝ }
+    ensures { λ h. ⌜ h ≡ heardAt position missed total form ⌝ }
 {
     let sample = position * form.pairs;
     Heard {
         code: codes::DONE,
         position,
         sample,
+        missed,
+        total,
         reader: Reader {
             heard: true,
             position,
+            total,
             form,
         },
     }
@@ -120,7 +134,7 @@ pub fn read(r: Reader, packet: &[u8]) -> Heard
     }
     let number = packets::number_in(packet);
     if number == 0 {
-        return heard_at(0, form);
+        return heard_at(0, 0, 0, form);
     }
     if !r.heard {
         return refused(codes::NO_FIRST_PACKET, r);
@@ -133,7 +147,8 @@ pub fn read(r: Reader, packet: &[u8]) -> Heard
     if packets::LAST < position {
         return refused(codes::PAST_LAST, r);
     }
-    heard_at(position, form)
+    let missed = position - r.position - 1;
+    heard_at(position, missed, r.total + missed, form)
 }
 
 // "A call of its own answers with the sample bytes handed back as that part of the caller's packet, or with an empty part

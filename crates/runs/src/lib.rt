@@ -7,30 +7,36 @@ ghost use Rattle.runs.specs.Cutting.{started, cutRun};
 ghost use Rattle.runs.specs.Reading.{readRun};
 
 // Reads packets of one length one after another by a new reader, to the first that it refuses. Answers the position of the
-// first sample of the last packet heard.
+// first sample of the last packet heard, and leaves how many packets its capture lacks up to it; both are 0 where none was
+// heard.
 #[no_mangle]
-pub extern "C" fn skvornela_read_run(packets: &[u8], total: usize) -> u64
-    ensures { λ r. ⌜ r ≡ readRun total (now (packets .entry)) ⌝ }
+pub extern "C" fn skvornela_read_run(packets: &[u8], total: usize, missed: &mut u64) -> u64
+    ensures { λ r. ⌜ record { sample = r; missed = now (missed .exit) } ≡ readRun total (now (packets .entry)) ⌝ }
 {
     if total == 0 {
+        *missed = 0;
         return 0;
     }
     let mut r = reader::silent();
     let mut sample: u64 = 0;
+    let mut lost: u64 = 0;
     let mut at: usize = 0;
     let mut left = packets.len() / total;
     while 0 < left {
         let end = at + total;
         let h = reader::read(r, &packets[at..end]);
         if h.code != codes::DONE {
+            *missed = lost;
             return sample;
         }
         sample = h.sample;
+        lost = h.total;
         let after = h.reader;
         r = after;
         at = end;
         left -= 1;
     }
+    *missed = lost;
     sample
 }
 

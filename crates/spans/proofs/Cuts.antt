@@ -23,21 +23,22 @@ use Rattle.hearing.specs.declared.Reach.{Reach}
 use Rattle.spans.specs.declared.Span.{Span}
 use Rattle.lines.specs.Lines.{Line, textOf, openingLine, refusalLine}
 use Rattle.hearing.specs.Hearing.{farthest, accepting, reaching}
+use Rattle.hearing.specs.Inside.{Counted, Sane}
 use Rattle.spans.specs.Eating.{freshSpan, validSpan, headOf, withTally, lacking, headTaken, headLines}
 use Rattle.spans.specs.Eating.{headRead, heardLines, heardSpan, Eating, silently, saying, sayingAll}
 use Rattle.spans.specs.Eating.{opening, openingBy, listening, listeningBy, eatingOf, lastLines, finishingOf}
 use Rattle.lines.specs.Due.{Telling, telling}
 use Rattle.spans.specs.Pieces.{room, Handed, handing, handed, handedAll, printedFrom, printed, CutsDoNotMatter}
 use Rattle.lines.proofs.Dues.{text-append}
-use Rattle.hearing.proofs.Heard.{accepted-fits, heard-small, sane-accepting}
+use Rattle.hearing.proofs.Heard.{accepted-fits, accepted-open, heard-small, counted-accepting}
 use Rattle.hearing.proofs.Goings.{Is-due, reach-due}
 use Rattle.spans.proofs.Eats.{opening-waits, opening-says, listening-by, listening-waits, listening-says}
 use Rattle.spans.proofs.Eats.{eating-stopped, eating-head, eating-packets, finishing-stopped, finishing-says}
 use Rattle.spans.proofs.Rooms.{Short, head-room, heard-room, end-room}
 use Rattle.spans.proofs.Telling.{endLines, ifOne, comingBy, reach-ahead, reach-used, coming-on, coming-first}
 use Rattle.spans.proofs.Within.{reach-within}
-use Rattle.spans.proofs.Going.{Counted, Going, fresh-going, going-valid, going-short, stopped-valid}
-use Rattle.spans.proofs.Going.{passedBy, passed-reach, passed-accepting, counted-sane, sane-counted}
+use Rattle.spans.proofs.Going.{Going, fresh-going, going-valid, going-short, stopped-valid}
+use Rattle.spans.proofs.Going.{passedBy, passed-reach, passed-accepting}
 use Rattle.hearing.proofs.Ranges.{reach-sane}
 
 -- ---- all lines of the bytes to come
@@ -124,8 +125,8 @@ module _ (s : Span) (used b : ℕ) (bs rest : List ℕ) (goes : s .stopped ≡ f
 
   counted : Counted (r .tally)
   counted =
-      let sane = counted-sane (s .tally) (0 + length piece) (g .counted) (omega (arith, g .packets whole .2)) in
-      sane-counted (reach-sane piece 0 0 f (s .tally) sane)
+      let sane : Sane (0 + length piece) (s .tally) = record { room = omega (arith, g .packets whole .2); counted = g .counted } in
+      reach-sane piece 0 0 f (s .tally) sane .counted
 
   -- the span with a tally that stands as far
   goes-on-with : (t : Tally) → passedBy t ≡ used + r .at → Counted t → Going (withTally false s t) (used + r .at)
@@ -175,10 +176,9 @@ module _ (s : Span) (used b : ℕ) (bs rest : List ℕ) (goes : s .stopped ≡ f
     -- where the open capture ends, the accepted packet leaves a span that goes on
     accepted-going : r .code ≡ 1 → Going (withTally false s (accepting (r .tally))) (used + r .at)
     accepted-going one =
-        let sane = counted-sane (r .tally) 0 counted (omega (arith, passed, within)) in
-        let fits = accepted-fits f (r .tally) (sym (packet .code) ∙ one) in
+        let done = sym (packet .code) ∙ one in
         goes-on-with (accepting (r .tally)) (passed-accepting (r .tally) ∙ passed)
-        (sane-counted (sane-accepting 0 (r .tally) sane (packet .some) fits))
+        (counted-accepting (r .tally) counted (packet .some) (accepted-open f (r .tally) done) (accepted-fits f (r .tally) done))
 
     abbrev RestComes : Type 0
     RestComes = ifOne (r .code) (comingBy h (accepting (r .tally)) (drop (r .at) (piece ++ rest))) ≡ coming (heardSpan s r) behind

@@ -27,6 +27,7 @@ use Rattle.lines.specs.Lines.{Line, textOf}
 use Rattle.lines.specs.Due.{dueLines, sized, Telling, silentWith, telling, tellingOf}
 use Rattle.lines.proofs.Dues.{is-sized, telling-sized}
 use Rattle.hearing.specs.Hearing.{tallyInRange, reaching}
+use Rattle.hearing.specs.Inside.{Counted}
 use Rattle.spans.specs.Eating.{headOk, validSpan, headOf, withTally, lacking, headTaken, headLines}
 use Rattle.spans.specs.Eating.{headRead, heardLines, heardSpan, Eating, refused, silently, saying, opening}
 use Rattle.spans.specs.Eating.{openingBy, listening, listeningBy, eatingOf, lastLines, finishingOf}
@@ -53,9 +54,15 @@ head-taken s piece head k is stored = rw (stored, is)
 
 -- ---- the lines that are due
 
-pub due-sized : (h : Head) (t : Tally) (ending : Ending) → allowedHead h ≡ true → t .position ≤ last → sized (dueNow h t ending) ≡ true
-due-sized h t ending ok fits =
-    is-sized (dueNow h t ending) fits (is-listed-form (formIn h) (form-listed h ok) .few) (divisor-small h ok)
+pub due-sized : (h : Head) (t : Tally) (ending : Ending) → allowedHead h ≡ true → Counted t → sized (dueNow h t ending) ≡ true
+due-sized h t ending ok c =
+    is-sized (dueNow h t ending)
+    (record {
+      position = c .position;
+      pairs = is-listed-form (formIn h) (form-listed h ok) .few;
+      divisor = divisor-small h ok;
+      heard = c .least;
+    })
 
 -- a record that is another has its lines and its sizes
 pub due-is : {d e : Due} {ls : List Line} → d ≡ e → dueLines e ≡ ls → sized e ≡ true → (dueLines d ≡ ls) × (sized d ≡ true)

@@ -4,6 +4,7 @@ use mathlib.Core.Path.{_≡_, refl}
 use mathlib.Core.List.{List, [], _∷_, _++_}
 use lib.ListN.{replicate}
 use Rattle.wire.specs.Number.{bytes}
+use Rattle.packets.specs.Missed.{couldBeGiven}
 use Rattle.reader.specs.Reading.{readingCode}
 use Rattle.heads.specs.declared.Head.{Head}
 use Rattle.heads.specs.Head.{headBytes}
@@ -23,11 +24,11 @@ packet number = 0x84 ∷ 0x81 ∷ bytes 2 number ++ replicate 384 0
 abbrev example : List ℕ
 example = headBytes head ++ packet 0 ++ packet 1 ++ packet 4
 
--- "SPAN 1", "C 1 24 64 3 5 320 1600", "E 1", a line each
+-- "SPAN 1", "C 1 24 64 3 5 320 1600", "E 1", a line each; and of the five positions two are missed
 pub worked-text : report example
     ≡ 0x53 ∷ 0x50 ∷ 0x41 ∷ 0x4E ∷ 0x20 ∷ 0x31 ∷ 0x0A
     ∷ 0x43 ∷ 0x20 ∷ 0x31 ∷ 0x20 ∷ 0x32 ∷ 0x34 ∷ 0x20 ∷ 0x36 ∷ 0x34 ∷ 0x20 ∷ 0x33 ∷ 0x20 ∷ 0x35
-    ∷ 0x20 ∷ 0x33 ∷ 0x32 ∷ 0x30 ∷ 0x20 ∷ 0x31 ∷ 0x36 ∷ 0x30 ∷ 0x30 ∷ 0x0A
+    ∷ 0x20 ∷ 0x33 ∷ 0x32 ∷ 0x30 ∷ 0x20 ∷ 0x31 ∷ 0x36 ∷ 0x30 ∷ 0x30 ∷ 0x20 ∷ 0x32 ∷ 0x0A
     ∷ 0x45 ∷ 0x20 ∷ 0x31 ∷ 0x0A ∷ []
-unfolding headBytes headReadCode linesOf linesFrom packetsIn packetCode readingCode report decimal digitsIn
+unfolding headBytes headReadCode linesOf linesFrom packetsIn packetCode readingCode report decimal digitsIn couldBeGiven
 worked-text = refl

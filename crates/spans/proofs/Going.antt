@@ -7,10 +7,9 @@ use native.Mathlib.Decide.{decLt}
 use native.Mathlib.Omega.{arith}
 use lib.Dec.{eqb, ltb}
 use lib.ListN.{length}
-use borrow.Author.Tests.{lt-ltb, le-leb, eq-eqb}
+use borrow.Author.Tests.{lt-ltb, eq-eqb}
 use Rattle.wire.proofs.Laws.{pick-keeps, or-right, or-left, and-both}
 use Rattle.packets.specs.declared.Form.{Form}
-use Rattle.packets.specs.Numbers.{last}
 use Rattle.heads.specs.Head.{headLength}
 use Rattle.heads.specs.Head.{headReadCode}
 use Rattle.heads.proofs.Rounds.{passed}
@@ -18,20 +17,14 @@ use Rattle.hearing.specs.declared.Tally.{Tally}
 use Rattle.hearing.specs.declared.Reach.{Reach}
 use Rattle.spans.specs.declared.Span.{Span}
 use Rattle.hearing.specs.Hearing.{farthest, tallyInRange, takingByte, accepting, heardCode, closes, settled, reaching}
-use Rattle.hearing.specs.Inside.{Sane}
+use Rattle.hearing.specs.Inside.{Counted}
 use Rattle.spans.specs.Eating.{freshTally, freshSpan, headOk, validSpan, headOf}
 use Rattle.hearing.proofs.Reaches.{settled-at}
-use Rattle.hearing.proofs.Ranges.{range-by}
+use Rattle.hearing.proofs.Ranges.{counted-range}
 use Rattle.spans.proofs.Eats.{valid-by}
 use Rattle.spans.proofs.Rooms.{Short}
 
 -- ---- spans that bytes have left
-
--- the counts of a tally: no more packets or captures than bytes
-pub record Counted (t : Tally) : Type 0 where
-  pub heard : t .heard ≤ t .begins
-  pub captures : t .captures ≤ t .begins
-  pub position : t .position ≤ last
 
 -- A span that has not stopped, after so many bytes of input.
 pub record Going (s : Span) (used : ℕ) : Type 0 where
@@ -41,7 +34,15 @@ pub record Going (s : Span) (used : ℕ) : Type 0 where
   pub counted : Counted (s .tally)
 
 pub fresh-counted : Counted freshTally
-fresh-counted = record { heard = omega arith; captures = omega arith; position = omega arith }
+fresh-counted =
+    record {
+      heard = omega arith;
+      captures = omega arith;
+      position = omega arith;
+      number = omega arith;
+      least = omega arith;
+      most = omega arith;
+    }
 
 pub fresh-going : Going freshSpan 0
 fresh-going = record { long = refl; head = λ h. (refl, refl); packets = λ h. absurd (omega arith); counted = fresh-counted }
@@ -54,10 +55,7 @@ module _ (s : Span) (used : ℕ) (g : Going s used) (near : used ≤ farthest) w
       opened e = omega (arith, ap (λ (t : Tally). t .begins) e, ap (λ (t : Tally). t .came) e)
 
   going-range : tallyInRange (s .tally) ≡ true
-  going-range =
-      let c = g .counted in
-      range-by (s .tally) (le-leb (s .tally .begins + s .tally .came) farthest near-end)
-      (le-leb _ _ (c .heard)) (le-leb _ _ (c .captures)) (le-leb _ _ (c .position))
+  going-range = counted-range (s .tally) (g .counted) near-end
 
   going-head : headOk s ≡ true
   going-head = elim (decLt (s .came) headLength) [ yes h ↦ or-left _ _ (lt-ltb _ _ h) | no h ↦ whole (g .packets (omega arith)) ]
@@ -114,10 +112,3 @@ passed-reach (b ∷ bs) n f t =
     let one = passed-settled (n + 1) f (takingByte t b) in
     pick-keeps (λ (r : Reach). passedBy (r .tally) + n ≡ passedBy t + r .at) (eqb (settled (n + 1) f (takingByte t b) .code) 0) _ _
     (λ e. omega (arith, next, one, passed-taking t b)) (λ e. omega (arith, one, passed-taking t b, settled-at (n + 1) f (takingByte t b)))
-
--- counts stay counts
-pub counted-sane : (t : Tally) (rest : ℕ) → Counted t → passedBy t + rest < 2 ^ 64 → Sane rest t
-counted-sane t rest c near = record { room = near; heard = c .heard; captures = c .captures; position = c .position }
-
-pub sane-counted : {rest : ℕ} {t : Tally} → Sane rest t → Counted t
-sane-counted s = record { heard = s .heard; captures = s .captures; position = s .position }

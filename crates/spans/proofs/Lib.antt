@@ -6,5 +6,7 @@ pub mod Rooms
 pub mod Going
 pub mod Cuts
 pub mod Wholes
+pub mod Told
 pub mod Reported
+pub mod Adds
 pub mod Inputs

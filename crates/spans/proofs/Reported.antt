@@ -1,5 +1,5 @@
 -- The lines that packets bring byte by byte are those of the report.
-use Prim.Native.Nat.{ℕ, zero, suc, _+_, _*_, _-_, _≤_, _<_}
+use Prim.Native.Nat.{ℕ, zero, suc, _+_, _*_, _-_, _%_, _≤_, _<_}
 use mathlib.Core.Path.{_≡_, refl, sym, ap, _∙_}
 use mathlib.Core.Bool.{Bool, true, false, _&&_, not}
 use mathlib.Core.List.{List, [], _∷_, _++_, append-nil}
@@ -17,6 +17,7 @@ use Rattle.wire.proofs.Lists.{byte-at, bytes-drop}
 use Rattle.packets.specs.declared.Form.{Form}
 use Rattle.packets.specs.Forms.{sameForm, totalOf, listedForm, formWithHeader, wholeOf, isPacket}
 use Rattle.packets.specs.Numbers.{numberAt, stepOf, numberIn, last}
+use Rattle.packets.specs.Missed.{missedOf, couldBeGiven}
 use Rattle.packets.proofs.Numbers.{field-two}
 use Rattle.reader.specs.declared.Reader.{Reader}
 use Rattle.reader.specs.Reading.{sound, positionAfter, readingCode}
@@ -25,14 +26,15 @@ use Rattle.heads.specs.Head.{formIn}
 use Rattle.hearing.specs.declared.Tally.{Tally}
 use Rattle.hearing.specs.declared.Reach.{Reach}
 use Rattle.lines.specs.Lines.{Line, refusalLine}
-use Rattle.spans.specs.Report.{Known, lineOf, ended, readerAfter, packetIn, packetCode, begins}
+use Rattle.spans.specs.Report.{Known, missedIn, lineOf, ended, readerAfter, packetIn, packetCode, begins}
 use Rattle.spans.specs.Report.{knownAfter, packetsIn, atPacket, atEnd, atRefusal, linesFrom}
 use Rattle.hearing.specs.Hearing.{lowHigh, takingByte, formComing, positionNow, lacksFirst, heardCode, accepting, closes, settled, reaching}
 use Rattle.hearing.specs.Inside.{goesOn}
 use Rattle.spans.specs.Eating.{endedNow, heardLines}
-use Rattle.hearing.proofs.Heard.{codeBy, heard-by, settled-by, accepted-fits}
-use Rattle.hearing.proofs.Reaches.{heard-waits, tallied, reach-whole, packet-parts, total-least}
+use Rattle.hearing.proofs.Heard.{codeBy, heard-by, settled-by, accepted-fits, accepted-open}
+use Rattle.hearing.proofs.Reaches.{heard-waits, tallied, low-again, reach-whole, packet-parts, total-least}
 use Rattle.spans.proofs.Telling.{endLines, ifOne, byReach, comingBy, coming-wait, coming-due, afterReach, coming-reach, reach-from}
+use Rattle.spans.proofs.Told.{Told, told-adds-up, told-given, told-after}
 use Rattle.spans.proofs.Wholes.{formAt, not-whole, packet-length, whole-form, whole-packet}
 
 -- ---- what is known where a packet begins
@@ -50,15 +52,18 @@ pub record Knows (t : Tally) (k : Known) : Type 0 where
   pub heard : t .heard ≡ length (k .accepted)
   pub position : t .position ≡ lastOf (k .accepted)
   pub allowed : t .position ≤ last
+  pub told : Told (k .accepted)
 
 -- the line of the open capture
 line-by : (h : Head) (captures : ℕ) (accepted : List ℕ) (t : Tally) → t .captures ≡ captures → t .heard ≡ length accepted
-    → t .position ≡ lastOf accepted → endedNow h t ≡ lineOf h captures accepted
-line-by h captures [] t c n p = rw n
-line-by h captures (q ∷ qs) t c n p = rw (n, c, p, ne-eqb (suc (length qs)) 0 (λ e. omega arith))
+    → t .position ≡ lastOf accepted → Told accepted → endedNow h t ≡ lineOf h captures accepted
+line-by h captures [] t c n p told = rw n
+line-by h captures (q ∷ qs) t c n p told =
+    let missed : missedOf (length (q ∷ qs)) q ≡ missedIn (q ∷ qs) = omega (arith, told-adds-up q qs told) in
+    rw (n, c, p, ne-eqb (suc (length qs)) 0 (λ e. omega arith), missed)
 
 pub ended-same : (h : Head) (t : Tally) (k : Known) → Knows t k → endedNow h t ≡ ended h k
-ended-same h t k m = line-by h (k .captures) (k .accepted) t (m .captures) (m .heard) (m .position)
+ended-same h t k m = line-by h (k .captures) (k .accepted) t (m .captures) (m .heard) (m .position) (m .told)
 
 -- ---- a packet that is cut off, or has no listed header
 
@@ -122,24 +127,24 @@ module _ (t : Tally) (none : t .came ≡ 0) where
   pub start-is : t ≡ starts
   start-is = ap (λ (k : ℕ). tallied t k (t .header) (t .number)) none
 
-  first-byte : (a : ℕ) → takingByte t a ≡ tallied t 1 a (t .number)
+  first-byte : (a : ℕ) → takingByte t a ≡ tallied t 1 (a % 256) (t .number)
   unfolding takingByte
   first-byte a = ap (λ (u : Tally). takingByte u a) start-is
 
-  second-byte : (a b : ℕ) → takingByte (tallied t 1 a (t .number)) b ≡ tallied t 2 (lowHigh a b) (t .number)
+  second-byte : (a b : ℕ) → takingByte (tallied t 1 (a % 256) (t .number)) b ≡ tallied t 2 (lowHigh a b) (t .number)
   unfolding takingByte
-  second-byte a b = refl
+  second-byte a b = ap (λ (x : ℕ). tallied t 2 x (t .number)) (low-again a b)
 
-  pub first-coming : (h : Head) (a : ℕ) (bs : List ℕ) → comingBy h t (a ∷ bs) ≡ comingBy h (tallied t 1 a (t .number)) bs
+  pub first-coming : (h : Head) (a : ℕ) (bs : List ℕ) → comingBy h t (a ∷ bs) ≡ comingBy h (tallied t 1 (a % 256) (t .number)) bs
   first-coming h a bs =
       let f : Form = formIn h in
-      let short = heard-by f (tallied t 1 a (t .number)) refl refl refl refl refl refl in
+      let short = heard-by f (tallied t 1 (a % 256) (t .number)) refl refl refl refl refl refl in
       let waits : heardCode f (takingByte t a) ≡ 0 = ap (heardCode f) (first-byte a) ∙ short in
       coming-wait h t a bs waits ∙ ap (λ (x : Tally). comingBy h x bs) (first-byte a)
 
   -- no whole packet is there
   pub coming-no-packet : (h : Head) (a : ℕ) (bs : List ℕ) → allBytes (a ∷ bs) → NoPacket (a ∷ bs) → comingBy h t (a ∷ bs) ≡ refusedAt h t 30
-  coming-no-packet h a [] small no-packet = first-coming h a [] ∙ coming-within h (tallied t 1 a (t .number)) (omega arith)
+  coming-no-packet h a [] small no-packet = first-coming h a [] ∙ coming-within h (tallied t 1 (a % 256) (t .number)) (omega arith)
   coming-no-packet h a (b ∷ bs) small no-packet = first-coming h a (b ∷ bs) ∙ by (listedForm (formAt rest)) refl
     where
       rest : List ℕ
@@ -149,7 +154,7 @@ module _ (t : Tally) (none : t .came ≡ 0) where
       f = formIn h
 
       u : Tally
-      u = tallied t 1 a (t .number)
+      u = tallied t 1 (a % 256) (t .number)
 
       v : Tally
       v = tallied t 2 (lowHigh a b) (t .number)
@@ -158,7 +163,7 @@ module _ (t : Tally) (none : t .came ≡ 0) where
       after = second-byte a b
 
       header : lowHigh a b ≡ field 0 2 rest
-      header = omega (arith, small .0)
+      header = omega (arith, small .0, small .1 .0)
 
       form : formComing v ≡ formAt rest
       form = ap formWithHeader header
@@ -276,15 +281,22 @@ record Reads (h : Head) (t : Tally) (r : Reader) : Type 0 where
   form : eqb (t .heard) 0 ≡ false → r .form ≡ formIn h
 
 reads-by : (h : Head) (accepted : List ℕ) (t : Tally) → listedForm (formIn h) ≡ true → t .heard ≡ length accepted
-    → t .position ≡ lastOf accepted → t .position ≤ last → Reads h t (readerAfter h accepted)
-reads-by h [] t ok n p near = record { sounds = refl; quiet = rw n; position = sym p; form = λ e. absurd (true-not-false (rw n at e)) }
-reads-by h (q ∷ qs) t ok n p near =
+    → t .position ≡ lastOf accepted → t .position ≤ last → Told accepted → Reads h t (readerAfter h accepted)
+reads-by h [] t ok n p near told = record { sounds = refl; quiet = rw n; position = sym p; form = λ e. absurd (true-not-false (rw n at e)) }
+reads-by h (q ∷ qs) t ok n p near told =
+    let given = couldBeGiven q (missedIn (q ∷ qs)) in
     record {
-      sounds = and-both (leb q last) (listedForm (formIn h)) (le-leb q last (omega arith)) ok;
+      sounds =
+          and-both (leb q last && given) (listedForm (formIn h))
+          (and-both (leb q last) given (le-leb q last (omega arith)) (told-given q qs told)) ok;
       quiet = rw n (sym (ne-eqb (suc (length qs)) 0 (λ e. omega arith)));
       position = sym p;
       form = λ e. refl;
     }
+
+-- a field of two bytes
+two-bytes : (rest : List ℕ) → allBytes rest → (at : ℕ) → lowHigh (getD rest at 0) (getD rest (at + 1) 0) ≡ field at 2 rest
+two-bytes rest small at = omega (arith, field-two rest at, byte-at rest small at, byte-at rest small (at + 1))
 
 -- a field within the packet's first bytes
 field-in-packet : (n at : ℕ) (rest : List ℕ) → at + 2 ≤ n → field at 2 (take n rest) ≡ field at 2 rest
@@ -320,7 +332,7 @@ unfolding packetCode readingCode
 packet-code-by h k packet a b c d e f = cc
 
 module _ (h : Head) (t : Tally) (k : Known) (m : Knows t k) (own : listedForm (formIn h) ≡ true)
-    (rest : List ℕ) (ok : listedForm (formAt rest) ≡ true) (room : totalOf (formAt rest) ≤ length rest) where
+    (rest : List ℕ) (small : allBytes rest) (ok : listedForm (formAt rest) ≡ true) (room : totalOf (formAt rest) ≤ length rest) where
   abbrev packet : List ℕ
   packet = packetIn rest
 
@@ -334,18 +346,25 @@ module _ (h : Head) (t : Tally) (k : Known) (m : Knows t k) (own : listedForm (f
   w = tallied t total (field 0 2 rest) number
 
   pub number-same : numberIn packet ≡ number
-  number-same = field-in-packet total 2 rest (omega (arith, total-least (formAt rest) ok))
+  number-same =
+      let same = field-in-packet total 2 rest (omega (arith, total-least (formAt rest) ok)) in
+      omega (arith, same, two-bytes rest small 2)
 
   abbrev r : Reader
   r = readerAfter h (k .accepted)
 
   reader : Reads h t r
-  reader = reads-by h (k .accepted) t own (m .heard) (m .position) (m .allowed)
+  reader = reads-by h (k .accepted) t own (m .heard) (m .position) (m .allowed) (m .told)
 
   pub position-same : positionAfter r (numberIn packet) ≡ positionNow w
   position-same =
       ap (positionAfter r) number-same
       ∙ ap (λ (p : ℕ). pick (eqb number 0) 0 (p + stepOf (numberAt p) number)) (reader .position)
+
+  lone : (not (eqb (numberIn packet) 0) && not (r .heard)) ≡ lacksFirst w
+  lone =
+      ap (λ (n : ℕ). not (eqb n 0) && not (r .heard)) number-same
+      ∙ ap (λ (b : Bool). not (eqb number 0) && b) (reader .quiet)
 
   pub code-same : packetCode h k packet ≡ heardCode (formIn h) w
   code-same =
@@ -355,8 +374,6 @@ module _ (h : Head) (t : Tally) (k : Known) (m : Knows t k) (own : listedForm (f
       let other : Bool = sameForm (formAt rest) (r .form) in
       let past : Bool = ltb last (positionNow w) in
       let form = whole-form rest ok room in
-      let lone : (not (eqb (numberIn packet) 0) && not (r .heard)) ≡ (not zero′ && quiet)
-      = ap (λ (n : ℕ). not (eqb n 0) && not (r .heard)) number-same ∙ ap (λ (b : Bool). not zero′ && b) (reader .quiet) in
       let changed : (not (eqb (numberIn packet) 0) && not (sameForm (wholeOf packet) (r .form))) ≡ (not zero′ && not other)
       = ap (λ (n : ℕ). not (eqb n 0) && not (sameForm (wholeOf packet) (r .form))) number-same
       ∙ ap (λ (x : Form). not zero′ && not (sameForm x (r .form))) form in
@@ -382,6 +399,7 @@ module _ (h : Head) (t : Tally) (k : Known) (m : Knows t k) (own : listedForm (f
             ∙ ap (λ (x : ℕ). suc (length (pick (eqb x 0) [] (k .accepted)))) (sym number-same);
         position = sym position-same;
         allowed = accepted-fits (formIn h) w one;
+        told = told-after h (k .accepted) (numberIn packet) (m .told) (omega arith) (lone ∙ accepted-open (formIn h) w one);
       }
     where
       counts : (zero′ : Bool) (l : List ℕ) → pick zero′ 1 (length l + 1) ≡ suc (length (pick zero′ [] l))
@@ -470,21 +488,20 @@ module _ (n : ℕ) (h : Head) (own : listedForm (formIn h) ≡ true) (t : Tally)
 
     reach : reaching 0 f t rest ≡ goesOn f (settled long f v) then′
     reach =
-        let two : lowHigh (getD rest 0 0) (getD rest 1 0) ≡ field 0 2 rest = omega (arith, field-two rest 0, byte-at rest small 0) in
-        let four : lowHigh (getD rest 2 0) (getD rest 3 0) ≡ field 2 2 rest = omega (arith, field-two rest 2, byte-at rest small 2) in
-        reach-of f t rest long (field 0 2 rest) (field 2 2 rest) (m .came) (omega (arith, least)) room two four ok refl
+        reach-of f t rest long (field 0 2 rest) (field 2 2 rest) (m .came) (omega (arith, least)) room
+        (two-bytes rest small 0) (two-bytes rest small 2) ok refl
 
     code : packetCode h k first ≡ heardCode f v
-    code = code-same h t k m own rest ok room
+    code = code-same h t k m own rest small ok room
 
     accepted-lines : heardCode f v ≡ 1 → AgreesHere
     accepted-lines one =
-        let known = knows-after h t k m own rest ok room one in
+        let known = knows-after h t k m own rest small ok room one in
         let rest-same : comingBy h (accepting v) then′ ≡ linesLeft n h next′ then′
         = later (accepting v) next′ then′ (simp length-drop (omega (arith, least))) known (bytes-drop long rest small) in
         let line : pick (eqb (field 2 2 rest) 0) (endedNow h t) [] ≡ atPacket h k first
         = ap (λ (ls : List Line). pick (eqb (field 2 2 rest) 0) ls []) (ended-same h t k m)
-        ∙ ap (λ (x : ℕ). pick (eqb x 0) (ended h k) []) (sym (number-same h t k m own rest ok room)) in
+        ∙ ap (λ (x : ℕ). pick (eqb x 0) (ended h k) []) (sym (number-same h t k m own rest small ok room)) in
         whole-accepted h t v rest long reach room one
         ∙ ap (λ (ls : List Line). ls ++ comingBy h (accepting v) then′) line
         ∙ ap (λ (ls : List Line). atPacket h k first ++ ls) rest-same

@@ -9,6 +9,7 @@ use lib.ListN.{length, length-append}
 use Rattle.wire.specs.Choice.{pick}
 use Rattle.wire.proofs.Laws.{pick-keeps}
 use Rattle.packets.specs.Numbers.{last}
+use Rattle.packets.specs.Missed.{missedOf}
 use Rattle.packets.proofs.Forms.{is-listed-form}
 use Rattle.heads.specs.declared.Head.{Head}
 use Rattle.heads.specs.Head.{formIn, allowedHead}
@@ -47,19 +48,19 @@ pub record Short (h : Head) (t : Tally) : Type 0 where
   pub begins : t .begins < 2 ^ 64
 
 module _ (h : Head) (t : Tally) (s : Short h t) where
-  ended-length : length (textOf (endedNow h t)) ≤ 149
+  ended-length : length (textOf (endedNow h t)) ≤ 170
   ended-length =
       let form = is-listed-form (formIn h) (form-listed h (s .ok)) in
       let n : ℕ = samplesOver (formIn h) (t .position + 1) in
       let samples : n ≤ 1_024_000_000_000
       = samples-fit (t .position + 1) (formIn h .pairs) (omega (arith, s .position)) (form .few) in
       let time : n * h .divisor ≤ 640_000_000_000_000 = time-fits n (h .divisor) samples (divisor-small h (s .ok)) in
-      let line : Line = captureLine (formIn h) (h .divisor) (t .captures) (t .heard) (t .position) in
-      let over : allFit ((t .position + 1) ∷ n ∷ endTime (h .divisor) n ∷ [])
-      = (omega (arith, s .position), (omega (arith, samples), (omega (arith, time), tt))) in
+      let line : Line = captureLine (formIn h) (h .divisor) (t .captures) (t .heard) (t .position) (missedOf (t .heard) (t .position)) in
+      let over : allFit ((t .position + 1) ∷ n ∷ endTime (h .divisor) n ∷ missedOf (t .heard) (t .position) ∷ [])
+      = (omega (arith, s .position), (omega (arith, samples), (omega (arith, time), (omega (arith, s .position), tt)))) in
       let fit : allFit (line .numbers)
       = (s .captures, (omega (arith, form .narrow), (omega (arith, form .few), (s .heard, over)))) in
-      pick-keeps (λ (ls : List Line). length (textOf ls) ≤ 149) (eqb (t .heard) 0) _ _ (λ e. omega arith)
+      pick-keeps (λ (ls : List Line). length (textOf ls) ≤ 170) (eqb (t .heard) 0) _ _ (λ e. omega arith)
       (λ e. omega (arith, text-length line [], line-length line fit))
 
   -- a capture that ends, and a refusal

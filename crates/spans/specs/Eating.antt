@@ -9,6 +9,7 @@ use lib.ListN.{length, take, replicate}
 use lib.Seq.{sets}
 use Rattle.wire.specs.Choice.{pick}
 use Rattle.wire.specs.Codes as Code
+use Rattle.packets.specs.Missed.{missedOf}
 use Rattle.heads.specs.declared.Head.{Head}
 use Rattle.heads.specs.Head.{headLength, formIn, headIn}
 use Rattle.heads.specs.Head.{headReadCode}
@@ -106,7 +107,7 @@ opening s piece room = openingBy s room (lacking s piece) (headTaken s piece)
 abbrev pub endedNow : Head → Tally → List Line
 endedNow h t =
     pick (eqb (t .heard) 0) []
-    (captureLine (formIn h) (h .divisor) (t .captures) (t .heard) (t .position) ∷ [])
+    (captureLine (formIn h) (h .divisor) (t .captures) (t .heard) (t .position) (missedOf (t .heard) (t .position)) ∷ [])
 
 -- Packets: where a line is due, the open capture ends; then a new one begins, or a packet is refused and the span stops.
 abbrev pub heardLines : Head → Reach → List Line

@@ -1,16 +1,18 @@
 -- What the span program prints for a whole input: a head, and then packets. Of the crates lines, hearing, spans and span this
 -- is all that a reader of 01 needs, with the text of the lines (lines/specs/Lines); that it is what is printed, however the
 -- input comes, is said in Pieces (`PrintsTheReport`) and proved in proofs/Inputs (`report-is`).
-use Prim.Native.Nat.{ℕ, zero, suc, _+_}
+use Prim.Native.Nat.{ℕ, zero, suc, _+_, _-_}
+use mathlib.Core.Path.{_≡_}
 use mathlib.Core.Bool.{Bool, true, not}
 use mathlib.Core.List.{List, [], _∷_, _++_}
 use lib.Dec.{eqb}
-use lib.ListN.{length, take, drop}
-use Rattle.wire.specs.Choice.{pick, check, firstOf}
+use lib.ListN.{length, getD, take, drop}
+use Rattle.wire.specs.Choice.{pick, Check, check, firstOf}
 use Rattle.wire.specs.Codes as Code
 use Rattle.wire.specs.Number.{field}
 use Rattle.packets.specs.Forms.{sameForm, totalOf, formWithHeader, wholeOf, isPacket}
 use Rattle.packets.specs.Numbers.{numberIn}
+use Rattle.packets.specs.Missed.{missedOver}
 use Rattle.reader.specs.declared.Reader.{Reader}
 use Rattle.reader.specs.Reading.{silent, positionAfter, readingCode}
 use Rattle.heads.specs.declared.Head.{Head}
@@ -44,18 +46,31 @@ pub record Known : Type 0 where
 abbrev pub nothing : Known
 nothing = record { captures = 0; accepted = []; offset = headLength }
 
+-- "the list of steps": from each of them to the next, the last first
+abbrev pub stepsOver : List ℕ → List ℕ
+stepsOver [] = []
+stepsOver (start ∷ []) = []
+stepsOver (next ∷ (before ∷ earlier)) = (next - before) ∷ stepsOver (before ∷ earlier)
+
+-- "missed packets": the capture's total, "defined from the list of steps"
+abbrev pub missedIn : List ℕ → ℕ
+missedIn accepted = missedOver (stepsOver accepted)
+
 -- the packet reader after the packets accepted
 abbrev pub readerAfter : Head → List ℕ → Reader
 readerAfter h [] = silent
-readerAfter h (last ∷ before) = record { heard = true; position = last; form = formIn h }
+readerAfter h (last ∷ before) =
+    record { heard = true; position = last; total = missedIn (last ∷ before); form = formIn h }
 
 -- ---- one packet
 
 -- "A form unlike the head's is 32, checked after 30 and before 31; a cut-off packet is 30." The rest is the packet reader's.
+abbrev pub formChecks : Head → List ℕ → List Check
+formChecks h packet =
+    check Code.notAPacket (not (isPacket packet)) ∷ check Code.formChanged (not (sameForm (wholeOf packet) (formIn h))) ∷ []
+
 unfoldable pub packetCode : Head → Known → List ℕ → ℕ
-packetCode h k packet =
-    firstOf (check Code.notAPacket (not (isPacket packet)) ∷ check Code.formChanged (not (sameForm (wholeOf packet) (formIn h))) ∷ [])
-    (readingCode (readerAfter h (k .accepted)) packet)
+packetCode h k packet = firstOf (formChecks h packet) (readingCode (readerAfter h (k .accepted)) packet)
 
 -- "done": the packet is accepted
 abbrev pub accepts : Head → Known → List ℕ → Bool
@@ -77,10 +92,12 @@ knownAfter h k packet =
 
 -- ---- the lines
 
--- the line of a capture that ends: packets heard are those accepted, and positions are covered up to the last one's
+-- the line of a capture that ends: packets heard are those accepted, positions are covered up to the last one's, and missed is
+-- what the steps between them pass over
 abbrev pub lineOf : Head → ℕ → List ℕ → List Line
 lineOf h capture [] = []
-lineOf h capture (last ∷ before) = captureLine (formIn h) (h .divisor) capture (length (last ∷ before)) last ∷ []
+lineOf h capture (last ∷ before) =
+    captureLine (formIn h) (h .divisor) capture (length (last ∷ before)) last (missedIn (last ∷ before)) ∷ []
 
 -- the open capture's line
 abbrev pub ended : Head → Known → List Line
@@ -116,3 +133,17 @@ linesOf input =
 -- what is printed
 unfoldable pub report : List ℕ → List ℕ
 report input = textOf (linesOf input)
+
+-- ---- what is proved of it: proofs/Adds
+
+-- "heard plus missed equals positions covered": of a line `C` the fourth number and the last make the fifth
+abbrev pub addsUp : Line → Type 0
+addsUp l = l .word ≡ 0x43 ∷ [] → getD (l .numbers) 3 0 + getD (l .numbers) 7 0 ≡ getD (l .numbers) 4 0
+
+abbrev pub allAddUp : List Line → Type 0
+allAddUp [] = Unit {0}
+allAddUp (l ∷ ls) = addsUp l × allAddUp ls
+
+-- of every input, whatever it holds
+abbrev pub EveryLineAddsUp : Type 0
+EveryLineAddsUp = (input : List ℕ) → allAddUp (linesOf input)

@@ -2,8 +2,8 @@
 ghost use mathlib.Core.Path.{_≡_};
 ghost use Prim.Native.Nat.{_≤_};
 ghost use mathlib.Core.Bool.{true};
-ghost use Rattle.packets.specs.Numbers.{last};
 ghost use Rattle.heads.specs.Head.{allowedHead, headLength};
+ghost use Rattle.hearing.specs.Inside.{Counted};
 ghost use Rattle.lines.specs.Due.{dueLines, sized};
 ghost use Rattle.spans.specs.Eating.{headOf, headLines, heardLines, lastLines};
 ghost use Rattle.spans.specs.Inside.{dueNow};
@@ -62,7 +62,7 @@ fn ended_due(h: Head, t: Tally, ending: Ending) -> Due
 
 // The lines that are due where hearing a piece was cut short.
 pub(crate) fn heard_due(h: Head, r: Reach) -> Due
-    requires { ⌜ (allowedHead h ≡ true) × (r .tally .position ≤ last) ⌝ }
+    requires { ⌜ (allowedHead h ≡ true) × Counted (r .tally) ⌝ }
     ensures { λ d. ⌜ (dueLines d ≡ heardLines h r) × (sized d ≡ true) ⌝ }
 {
     let t = r.tally;
@@ -78,7 +78,7 @@ pub(crate) fn heard_due(h: Head, r: Reach) -> Due
 
 // The lines that the end of the input brings.
 pub(crate) fn last_due(s: Span) -> Due
-    requires { ⌜ (s .tally .position ≤ last) × (headLength ≤ s .came → allowedHead (headOf s) ≡ true) ⌝ }
+    requires { ⌜ Counted (s .tally) × (headLength ≤ s .came → allowedHead (headOf s) ≡ true) ⌝ }
     ensures { λ d. ⌜ (dueLines d ≡ lastLines s) × (sized d ≡ true) ⌝ }
 {
     if s.came < heads::LENGTH {

@@ -30,7 +30,7 @@ mod peer {
     extern "C" {
         pub fn peer_serve(host: *const u8, n: usize, replies: *mut u8, room: usize) -> usize;
         pub fn peer_cut_run(mode: u8, size: u8, samples: *const i32, n: usize, packets: *mut u8, room: usize) -> usize;
-        pub fn peer_read_run(packets: *const u8, n: usize, total: usize) -> u64;
+        pub fn peer_read_run(packets: *const u8, n: usize, total: usize, missed: *mut u64) -> u64;
         pub fn peer_unpack(packet: *const u8, n: usize, numbers: *mut i32, room: usize, count: *mut usize) -> i32;
     }
 }
@@ -70,10 +70,14 @@ fn cut(what: &str, form: Form, mode: u8, size: u8, rounds: usize, wanted: Option
 }
 
 fn read(what: &str, packets: &[u8], total: usize, rounds: usize, wanted: Option<f64>) {
+    let both = |answer| {
+        let (sample, missed): (u64, u64) = black_box(answer);
+        sample + missed
+    };
     let mut runners = runners(
-        || read_run(black_box(packets), black_box(total)),
-        || reader::read_run(black_box(packets), black_box(total)),
-        || c_read_run(black_box(packets), black_box(total)),
+        || both(read_run(black_box(packets), black_box(total))),
+        || both(reader::read_run(black_box(packets), black_box(total))),
+        || both(c_read_run(black_box(packets), black_box(total))),
     );
     let found = best(&mut runners, (packets.len() / total) as f64, rounds);
     drop(runners);
@@ -143,8 +147,10 @@ fn c_cut_run(mode: u8, size: u8, samples: &[i32], packets: &mut [u8]) -> usize {
 }
 
 #[cfg(peer)]
-fn c_read_run(packets: &[u8], total: usize) -> u64 {
-    unsafe { peer::peer_read_run(packets.as_ptr(), packets.len(), total) }
+fn c_read_run(packets: &[u8], total: usize) -> (u64, u64) {
+    let mut missed = 0;
+    let sample = unsafe { peer::peer_read_run(packets.as_ptr(), packets.len(), total, &mut missed) };
+    (sample, missed)
 }
 
 #[cfg(peer)]
@@ -166,8 +172,8 @@ fn c_cut_run(_: u8, _: u8, _: &[i32], _: &mut [u8]) -> usize {
 }
 
 #[cfg(not(peer))]
-fn c_read_run(_: &[u8], _: usize) -> u64 {
-    0
+fn c_read_run(_: &[u8], _: usize) -> (u64, u64) {
+    (0, 0)
 }
 
 #[cfg(not(peer))]
@@ -238,7 +244,7 @@ fn span(program: &str, folder: &Path, bytes: u64, rounds: usize) {
 /// What span prints of the capture.
 fn lines(count: u64) -> String {
     let samples = count * 240;
-    format!("SPAN 1\nC 1 24 240 {count} {count} {samples} {}\nE 1\n", samples * 100 / 20)
+    format!("SPAN 1\nC 1 24 240 {count} {count} {samples} {} 0\nE 1\n", samples * 100 / 20)
 }
 
 fn main() {

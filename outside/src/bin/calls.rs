@@ -116,8 +116,8 @@ fn read(what: &str, form: Form, packets: &[u8], rounds: usize) {
     fn run(library: impl Library, packets: &[u8], total: usize, reader: &mut [u8]) -> u64 {
         reader.fill(0);
         let places = packets.chunks_exact(total).map(|packet| {
-            let (code, position, sample) = library.read(reader, packet);
-            u64::from(code) + position + sample
+            let (code, place) = library.read(reader, packet);
+            u64::from(code) + place.position + place.sample + place.missed + place.total
         });
         places.sum()
     }

@@ -1,31 +1,56 @@
 -- The tests are those of `sound`, for a reader that has heard a packet and for one that has not.
-use mathlib.Core.Path.{ap, _∙_}
-use Rattle.packets.specs.Forms.{sameForm}
+use mathlib.Core.Path.{_≡_, refl, sym, ap, _∙_}
+use mathlib.Core.Bool.{Bool, _&&_}
+use lib.Dec.{leb}
+use borrow.Author.Tests.{not-true, not-false, eq-eqb, ne-eqb}
+use Rattle.packets.specs.Forms.{sameForm, listedForm}
+use Rattle.packets.specs.Numbers.{last}
+use Rattle.packets.specs.Missed.{couldBeGiven}
 use Rattle.reader.specs.declared.Reader.{Reader}
-use Rattle.reader.proofs.Reading.{sound-past, sound-within, sound-nowhere, sound-somewhere}
+use Rattle.reader.proofs.Reading.{heard-sound, unheard-sound}
 use borrow.Author.Needs.{needs}
 use Rattle.reader.proofs.is_sound.Statement.{statement}
 use Rattle.reader.proofs.is_sound.Tie as tie
 
--- the reader, where a packet has been heard and where none has
-abbrev heard : tie.After-struct-known → Reader
+-- the reader has heard a packet, and position and total are looked at
+abbrev heard : tie.After-is-given → Reader
 heard c = c .before .before .before .args .r
 
-abbrev unheard : tie.After-struct-known2 → Reader
-unheard c = c .before .before .before .args .r
+given : (c : tie.After-is-given) {a : Bool} → c .is-given .result ≡ a
+    → (leb (heard c .position) last && couldBeGiven (heard c .position) (heard c .total)) ≡ a
+given c p = sym (c .is-given .ensures) ∙ p
+
+-- it has not
+abbrev silent : tie.Else1 → Reader
+silent c = c .before .before .args .r
+
+is-given-requires : tie.Need-is-given-requires
+is-given-requires c κs = search needs
 
 returns : tie.Need-returns
 returns c =
-    let h = c .before in
-    sound-past (heard h) (h .before .if1 .taken) (c .if2 .taken)
+    let g = c .before in
+    sym (heard-sound (heard g) (g .before .if1 .taken) (given g (not-true _ (c .if2 .taken))) refl)
 
 is-listed-requires : tie.Need-is-listed-requires
 is-listed-requires c κs = search needs
 
 returns-2 : tie.Need-returns-2
 returns-2 c =
-    let h = c .before .before in
-    c .is-listed .ensures ∙ sound-within (heard h) (h .before .if1 .taken) (c .before .if2 .left)
+    let g = c .before .before in
+    c .is-listed .ensures
+    ∙ sym (heard-sound (heard g) (g .before .if1 .taken) (given g (not-false _ (c .before .if2 .left))) refl)
+
+returns-3 : tie.Need-returns-3
+returns-3 c =
+    let u = c .before .before in
+    sym (unheard-sound (silent u) (u .if1 .left) (ne-eqb _ 0 (c .if3 .taken)) refl refl)
+
+returns-4 : tie.Need-returns-4
+returns-4 c =
+    let z = c .before .before in
+    let u = z .before .before in
+    sym (unheard-sound (silent u) (u .if1 .left) (eq-eqb _ 0 (z .if3 .left)) (ne-eqb _ 0 (c .if4 .taken)) refl)
 
 no-form-requires : tie.Need-no-form-requires
 no-form-requires c κs = search needs
@@ -33,27 +58,26 @@ no-form-requires c κs = search needs
 same-form-requires : tie.Need-same-form-requires
 same-form-requires c κs = search needs
 
-returns-3 : tie.Need-returns-3
-returns-3 c =
+returns-5 : tie.Need-returns-5
+returns-5 c =
     let f = c .before in
-    let u = f .before .before in
+    let n = f .before in
+    let z = n .before .before in
+    let u = z .before .before in
     c .same-form .ensures
-    ∙ ap (sameForm (unheard u .form)) (f .no-form .ensures)
-    ∙ sound-nowhere (unheard u) (u .before .if1 .left) (f .before .if3 .taken)
-
-returns-4 : tie.Need-returns-4
-returns-4 c =
-    let u = c .before in
-    sound-somewhere (unheard u) (u .before .if1 .left) (c .if3 .left)
+    ∙ ap (sameForm (silent u .form)) (f .no-form .ensures)
+    ∙ sym (unheard-sound (silent u) (u .if1 .left) (eq-eqb _ 0 (z .if3 .left)) (eq-eqb _ 0 (n .if4 .left)) refl)
 
 pub is-sound-spec : {M : Type 1} → statement M
 is-sound-spec =
     tie.close
     (tie.spec
+    is-given-requires
     returns
     is-listed-requires
     returns-2
+    returns-3
+    returns-4
     no-form-requires
     same-form-requires
-    returns-3
-    returns-4)
+    returns-5)

@@ -1,6 +1,6 @@
 -- Each answer of `read` is the one that the checks of `readingOf` give, in their order; `Reading` has a law for each.
-use Prim.Native.Nat.{ℕ, _+_, _<_}
-use mathlib.Core.Path.{_≡_, sym, ap, _∙_}
+use Prim.Native.Nat.{ℕ, _+_, _≤_, _<_}
+use mathlib.Core.Path.{_≡_, refl, sym, ap, _∙_}
 use mathlib.Core.Bool.{true}
 use mathlib.Core.List.{List}
 use native.Mathlib.Omega.{arith}
@@ -9,6 +9,7 @@ use borrow.Author.Needs.{needs}
 use Rattle.packets.specs.declared.Form.{Form}
 use Rattle.packets.specs.Forms.{wholeOf, sameForm}
 use Rattle.packets.specs.Numbers.{numberIn, numberAt, stepOf}
+use Rattle.packets.proofs.Missed.{is-step, given-within}
 use Rattle.reader.specs.declared.Reader.{Reader}
 use Rattle.reader.specs.Reading.{sound, heardAt}
 use Rattle.reader.proofs.Reading.{pairs-few, heard-within, broken, no-slice, first, unbegun, changed, past, next}
@@ -84,6 +85,21 @@ leads c =
     let h = place (c .before) in
     c .position-after .ensures ∙ ap (stepped (given h .position)) (later-at h .before .number-in .ensures)
 
+-- it lies a step above the last packet's
+further : (c : tie.After-position-after) → (let h = place (c .before) in
+    (given h .position < c .position-after .result) × (c .position-after .result ≤ given h .position + 65_535))
+further c =
+    let h = place (c .before) in
+    let n = numberIn (slice h) in
+    let some : 0 < n = omega (arith, later (later-at h)) in
+    let s = is-step (given h .position) n some (omega arith) in
+    (omega (arith, leads c, s .0), omega (arith, leads c, s .1))
+
+few-missed : (h : tie.Else4) → given h .total ≤ given h .position
+few-missed h =
+    let r = given h in
+    given-within (r .position) (r .total) (heard-within r (fine (sound-at (packet-at (later-at h)))) (begun h) .1) .0
+
 is-sound-requires : tie.Need-is-sound-requires
 is-sound-requires c κs = search needs
 
@@ -117,7 +133,7 @@ returns-3 c =
     let p = n .before in
     let w = p .before .before in
     c .heard-at .ensures
-    ∙ ap (heardAt 0) (w .whole .ensures)
+    ∙ ap (heardAt 0 0 0) (w .whole .ensures)
     ∙ first _ _ (fine (sound-at p)) (some p) (sym (n .number-in .ensures) ∙ c .before .if3 .taken)
 
 refused-requires-3 : tie.Need-refused-requires-3
@@ -148,7 +164,7 @@ returns-5 c =
 position-after-requires : tie.Need-position-after-requires
 position-after-requires c κs =
     let h = place c in
-    omega (arith, heard-within (given h) (fine (sound-at (packet-at (later-at h)))) (begun h))
+    omega (arith, heard-within (given h) (fine (sound-at (packet-at (later-at h)))) (begun h) .0)
 
 refused-requires-5 : tie.Need-refused-requires-5
 refused-requires-5 c κs = search needs
@@ -163,20 +179,32 @@ returns-6 c =
     c .refused5 .ensures
     ∙ past _ _ (fine (sound-at p)) (some p) (later n) (begun h) (same e) _ (leads t) (c .before .if6 .taken)
 
+sub-missed : tie.Need-sub-missed
+sub-missed c = omega (arith, further (c .before .before) .0)
+
+sub-missed-2 : tie.Need-sub-missed-2
+sub-missed-2 c = omega (arith, further (c .before .before) .0)
+
+add-heard-at : tie.Need-add-heard-at
+add-heard-at c =
+    let t = c .before .before .before in
+    let h = place (t .before) in
+    omega (arith, further t .1, few-missed h, heard-within (given h) (fine (sound-at (packet-at (later-at h)))) (begun h) .0)
+
 heard-at-requires-2 : tie.Need-heard-at-requires-2
-heard-at-requires-2 c κs = (omega arith, few (packet-at (later-at (place (c .before .before)))))
+heard-at-requires-2 c κs = (omega arith, few (packet-at (later-at (place (c .before .before .before .before)))))
 
 returns-7 : tie.Need-returns-7
 returns-7 c =
-    let t = c .before .before in
+    let t = c .before .before .before .before in
     let e = t .before in
     let h = place e in
     let n = later-at h in
     let p = packet-at n in
     let w = p .before .before in
     c .heard-at2 .ensures
-    ∙ ap (heardAt (t .position-after .result)) (w .whole .ensures)
-    ∙ next _ _ (fine (sound-at p)) (some p) (later n) (begun h) (same e) _ (leads t) (omega arith)
+    ∙ ap (heardAt (t .position-after .result) _ _) (w .whole .ensures)
+    ∙ next _ _ (fine (sound-at p)) (some p) (later n) (begun h) (same e) _ (leads t) (omega arith) _ refl
 
 pub read-spec : {M : Type 1} → statement M
 read-spec =
@@ -199,5 +227,8 @@ read-spec =
     position-after-requires
     refused-requires-5
     returns-6
+    sub-missed
+    sub-missed-2
+    add-heard-at
     heard-at-requires-2
     returns-7)

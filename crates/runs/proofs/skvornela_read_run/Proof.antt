@@ -7,17 +7,17 @@ use borrow.Author.Needs.{needs}
 use borrow.Author.Tests.{eq-eqb, ne-eqb}
 use lib.ListN.{length, take, drop}
 use Rattle.reader.specs.Reading.{readingOf}
-use Rattle.runs.specs.Reading.{heardRun, readRun}
+use Rattle.runs.specs.Reading.{runRead, heardRun, readRun}
 use Rattle.runs.proofs.Turns.{run-heard, run-refused, run-over, one-more}
 use Rattle.runs.proofs.skvornela_read_run.Statement.{statement}
 use Rattle.runs.proofs.skvornela_read_run.Tie as tie
 
 abbrev Inv-loop : tie.InvT-loop
-Inv-loop packets total r₀ sample₀ at₀ left₀ r sample at left =
-    (at + left * total ≤ length packets) × (heardRun left total r sample (drop at packets) ≡ readRun total packets)
+Inv-loop packets total missed₀ r₀ sample₀ lost₀ at₀ left₀ missed r sample lost at left =
+    (at + left * total ≤ length packets) × (heardRun left total r (runRead sample lost) (drop at packets) ≡ readRun total packets)
 
 abbrev μ-loop : tie.MeasureT-loop
-μ-loop packets total r₀ sample₀ at₀ left₀ r sample at left = left
+μ-loop packets total missed₀ r₀ sample₀ lost₀ at₀ left₀ missed r sample lost at left = left
 
 -- the call's arguments, from the loop
 abbrev from : tie.At-loop Inv-loop μ-loop → tie.Start Inv-loop μ-loop
@@ -74,7 +74,7 @@ returns-2 c =
     let read = c .before .before in
     let l = turn read .loop in
     let a = start read .args in
-    run-refused (l .left) (a .total) (l .sample) (l .at) (l .r) (a .packets .now) (read .read .result) (omega arith)
+    run-refused (l .left) (a .total) (l .at) (l .r) (runRead (l .sample) (l .lost)) (a .packets .now) (read .read .result) (omega arith)
     (heard read) (c .if2 .taken) (l .inv .1)
 
 sub-left : tie.Need-sub-left Inv-loop μ-loop
@@ -90,7 +90,7 @@ loop-again c =
     let a = start read .args in
     let some : 0 < l .left = omega arith in (
       omega (arith, one-more (l .left) (a .total) some),
-      run-heard (l .left) (a .total) (l .sample) (l .at) (l .r) (a .packets .now) (read .read .result) some
+      run-heard (l .left) (a .total) (l .at) (l .r) (runRead (l .sample) (l .lost)) (a .packets .now) (read .read .result) some
           (heard read) (c .before .if2 .left) (l .inv .1),
     )
 
@@ -98,7 +98,7 @@ returns-3 : tie.Need-returns-3 Inv-loop μ-loop
 returns-3 c =
     let l = c .before .loop in
     let a = from (c .before) .args in
-    run-over (l .left) (a .total) (l .sample) (l .r) (drop (l .at) (a .packets .now)) (omega arith) (l .inv .1)
+    run-over (l .left) (a .total) (l .r) (runRead (l .sample) (l .lost)) (drop (l .at) (a .packets .now)) (omega arith) (l .inv .1)
 
 pub skvornela-read-run-spec : {M : Type 1} → statement M
 skvornela-read-run-spec =

@@ -367,6 +367,21 @@ pub fn packet(r: &mut Random, form: Form, number: u16) -> Vec<u8> {
     packet
 }
 
+/// The most packets that can be missed up to a position: those that the fewest steps there pass over.
+pub fn most_missed(position: u64) -> u64 {
+    position - position.div_ceil(65_535)
+}
+
+/// A total that some steps to a position give.
+fn total(r: &mut Random, position: u64) -> u64 {
+    let most = most_missed(position);
+    match r.below(4) {
+        0 => 0,
+        1 => most - r.below(3).min(most),
+        _ => r.below(most + 1),
+    }
+}
+
 /// A reader in bytes and a packet for it to read.
 pub fn reading(r: &mut Random) -> (Vec<u8>, Vec<u8>) {
     let mut reader = Reader::default();
@@ -390,6 +405,7 @@ pub fn reading(r: &mut Random) -> (Vec<u8>, Vec<u8>) {
             1 => r.within(3_999_930_000, 3_999_999_999),
             _ => r.below(4_000_000_000),
         };
+        reader.total = total(r, reader.position);
     }
     let last = number_at(reader.position);
     let number = match r.below(6) {
@@ -402,12 +418,14 @@ pub fn reading(r: &mut Random) -> (Vec<u8>, Vec<u8>) {
     };
     let of_packet = if reader.heard && !r.once_in(8) { reader.form } else { form(r) };
     if r.once_in(8) {
-        match r.below(6) {
+        let (position, most) = (reader.position, most_missed(reader.position));
+        match r.below(7) {
             0 => reader.position = r.of(&[4_000_000_000, 4_000_000_001, u64::MAX]),
             1 => reader.form.bits = r.of(&[0, 8, 16, 24, 32]),
             2 => reader.form.pairs = r.of(&[0, 63, 64, 128, 240, 256, u64::MAX]),
             3 => reader.heard = !reader.heard,
-            4 => reader = Reader { heard: false, position: r.below(2), form: reader.form },
+            4 => reader = Reader { heard: false, position: r.below(2), total: r.below(2), form: reader.form },
+            5 => reader.total = r.of(&[most + 1, most + 2, position, position + 1, 4_000_000_000, u64::MAX]),
             _ => reader = Reader { heard: true, ..Reader::default() },
         }
     }
@@ -415,7 +433,7 @@ pub fn reading(r: &mut Random) -> (Vec<u8>, Vec<u8>) {
     match r.below(200) {
         0 => bytes.truncate(r.size(READER_BYTES)),
         1 => bytes.push(0),
-        2 => bytes[24] = r.byte(),
+        2 => bytes[READER_BYTES - 1] = r.byte(),
         _ => {}
     }
     (bytes, packet(r, of_packet, number))

@@ -7,14 +7,15 @@
 
 mod inputs;
 
-use std::collections::BTreeMap;
+use std::collections::{BTreeMap, BTreeSet};
 use std::fmt::Debug;
 use std::process::{exit, ExitCode};
 
-use outside::boundary::{station_in, Library, Plain, WishFields, READER_BYTES, STATION_BYTES};
+use outside::boundary::{reader_bytes, station_in, Library, Plain, WishFields, READER_BYTES, STATION_BYTES};
 use outside::boundary::{ASK_RATE, ASK_VERSION, SET_CLOCK, SET_FREQUENCY, SET_GAIN, SET_RATE, SET_SIZE, SET_STATE};
+use outside::packet::number_at;
 use outside::random::Random;
-use outside::{rate, Form, Reader};
+use outside::{head, rate, Form, Reader};
 
 /// After so many differences the rest would say nothing new.
 const MOST_SHOWN: u64 = 10;
@@ -145,6 +146,15 @@ impl Comparison<'_> {
         self.note("serve", 1, (done, ours), (other, theirs), || format!("host {host:02X?} room {room}"));
     }
 
+    fn read_run(&mut self, packets: &[u8], total: usize) {
+        let done = self.plain.read_run(packets, total);
+        let other = self.other.read_run(packets, total);
+        self.note("read run", 1, done, other, || {
+            let starts = packets.chunks(total.max(1)).map(|packet| &packet[..packet.len().min(4)]);
+            format!("packets of {total} in {} {:02X?}", packets.len(), starts.collect::<Vec<_>>())
+        });
+    }
+
     fn span(&mut self, input: &[u8]) {
         let (Some(ours), Some(theirs)) = (self.plain.span(input), self.other.span(input)) else { return };
         let (ours, theirs) = (String::from_utf8_lossy(&ours), String::from_utf8_lossy(&theirs));
@@ -246,6 +256,17 @@ fn random_reading(c: &mut Comparison, r: &mut Random, times: u64) {
             let packet = inputs::packet(r, form, number);
             reader = c.read(&reader, &packet);
         }
+    }
+}
+
+/// The packets of a capture, now and then cut by another length than theirs.
+fn random_runs(c: &mut Comparison, r: &mut Random, times: u64) {
+    for _ in 0..times {
+        let capture = inputs::capture(r);
+        let packets = capture.get(head::LENGTH..).unwrap_or_default();
+        let form = packets.first_chunk().and_then(|&header| Form::of_header(header)).unwrap_or(Form::LARGE_24);
+        let total = if r.once_in(12) { r.of(&[0, 1, 4, form.total() - 1, form.total() + 1]) } else { form.total() };
+        c.read_run(packets, total);
     }
 }
 
@@ -441,10 +462,55 @@ fn every_number(c: &mut Comparison, r: &mut Random) {
     for form in Form::LISTED {
         let mut packet = inputs::plain_packet(r, form, 0);
         for position in [0, 1, 65_535, 65_536, 131_071, 3_999_934_000, 3_999_999_999] {
-            let reader = outside::boundary::reader_bytes(&Reader { heard: true, position, form });
+            let total = inputs::most_missed(position);
+            let reader = reader_bytes(&Reader { heard: true, position, total, form });
             for number in 0..=u16::MAX {
                 packet[2..4].copy_from_slice(&number.to_le_bytes());
                 c.read(&reader, &packet);
+            }
+        }
+    }
+}
+
+/// Readers with totals at and beside each bound, of each form and of none, and what each makes of packets that it would hear
+/// and of one that it would not.
+fn every_total(c: &mut Comparison, r: &mut Random) {
+    const POSITIONS: [u64; 16] = [
+        0,
+        1,
+        2,
+        10,
+        65_534,
+        65_535,
+        65_536,
+        65_537,
+        131_069,
+        131_070,
+        131_071,
+        131_072,
+        3_999_999_999,
+        4_000_000_000,
+        u64::MAX - 1,
+        u64::MAX,
+    ];
+    let none = Reader::default().form;
+    for form in [none].into_iter().chain(Form::LISTED) {
+        let packet = inputs::plain_packet(r, if form == none { Form::LARGE_24 } else { form }, 0);
+        for position in POSITIONS {
+            let bounds = [0, inputs::most_missed(position), position, u64::MAX];
+            let totals: BTreeSet<u64> =
+                bounds.iter().flat_map(|bound| bound.saturating_sub(2)..=bound.saturating_add(2)).collect();
+            for total in totals {
+                for heard in [false, true] {
+                    let reader = reader_bytes(&Reader { heard, position, total, form });
+                    for number in [0, 1, number_at(position), number_at(position.saturating_add(1)), 65_535] {
+                        let mut packet = packet.clone();
+                        packet[2..4].copy_from_slice(&number.to_le_bytes());
+                        let after = c.read(&reader, &packet);
+                        c.read(&after, &packet);
+                    }
+                    c.read(&reader, &packet[1..]);
+                }
             }
         }
     }
@@ -611,7 +677,15 @@ fn every_span(c: &mut Comparison, r: &mut Random) {
     for length in 0..=bytes.len() {
         c.span(&bytes[..length]);
     }
-    for numbers in [&[0, 65_535, 65_535, 1, 1, 65_534][..], &[0, 0, 0], &[7], &[65_535], &[0, 7, 7, 7], &[0, 1, 0, 9]] {
+    for numbers in [
+        &[0, 65_535, 65_535, 1, 1, 65_534][..],
+        &[0, 0, 0],
+        &[7],
+        &[65_535],
+        &[0, 7, 7, 7],
+        &[0, 1, 0, 9],
+        &[0, 2, 0, 3, 3],
+    ] {
         let mut bytes = bytes[..14].to_vec();
         for &number in numbers {
             bytes.extend(inputs::plain_packet(r, Form::SMALL_24, number));
@@ -646,7 +720,7 @@ fn fresh_state() -> Vec<u8> {
 }
 
 /// The codes that a call can give at all; each has to have been seen.
-const POSSIBLE: [(&str, &[u8]); 13] = [
+const POSSIBLE: [(&str, &[u8]); 14] = [
     ("fresh", &[1, 21, 26]),
     ("feed", &[0, 1, 2, 10, 11, 12, 13, 14, 15, 16, 17, 20, 21]),
     ("word", &[1, 21]),
@@ -659,6 +733,7 @@ const POSSIBLE: [(&str, &[u8]); 13] = [
     ("head written", &[1, 16, 20]),
     ("head read", &[1, 40, 41]),
     ("serve", &[1]),
+    ("read run", &[1]),
     ("span", &[1, 30, 31, 32, 33, 40, 41]),
 ];
 
@@ -680,6 +755,7 @@ fn main() -> ExitCode {
     every_room(&mut c);
     every_serial(&mut c, r);
     every_number(&mut c, r);
+    every_total(&mut c, r);
     every_packet_header(&mut c);
     every_sample(&mut c);
     every_wish(&mut c);
@@ -694,6 +770,7 @@ fn main() -> ExitCode {
         random_words(&mut c, r, 100_000);
         random_cutting(&mut c, r, 100_000);
         random_reading(&mut c, r, 200_000);
+        random_runs(&mut c, r, 20_000);
         random_unpacking(&mut c, r, 100_000);
         random_wishes(&mut c, r, 500_000);
         random_heads(&mut c, r, 200_000);

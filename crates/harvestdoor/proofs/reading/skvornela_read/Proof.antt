@@ -6,13 +6,13 @@ use lib.Dec.{eqb}
 use borrow.Author.Tests.{eq-eqb, ne-eqb}
 use Rattle.wire.specs.Choice.{pick}
 use Rattle.harvestdoor.specs.States.{readerBytes}
-use Rattle.harvestdoor.specs.Reading.{readOver}
+use Rattle.harvestdoor.specs.Reading.{readLeaving, readOver}
 use Rattle.harvestdoor.proofs.Heard.{read-whole, read-broken}
 use borrow.Author.Needs.{needs}
 use Rattle.harvestdoor.proofs.reading.skvornela_read.Statement.{statement}
 use Rattle.harvestdoor.proofs.reading.skvornela_read.Tie as tie
 
--- the packet was read by the reader of the 25 bytes
+-- the packet was read by the reader of the 33 bytes
 abbrev whole : tie.After-read → tie.Then1
 whole c = c .before .before .before
 
@@ -22,8 +22,7 @@ start c = whole c .before .before .before
 -- and the bytes that are left are those of the reader after it, if it was heard
 read-over : (c : tie.After-read) (after : List ℕ) → (let h = c .read .result in
     after ≡ pick (eqb (h .code) 1) (readerBytes (h .reader)) (start c .args .state .now)
-    → record { code = h .code; position = h .position; sample = h .sample; state = after }
-    ≡ readOver (start c .args .state .now) (start c .args .packet .now))
+    → readLeaving h after ≡ readOver (start c .args .state .now) (start c .args .packet .now))
 read-over c after is =
     let a = start c .args in
     read-whole (a .state .now) (a .packet .now) after _ _ (whole c .if1 .taken) (c .before .reader-in .ensures) (c .read .ensures) is

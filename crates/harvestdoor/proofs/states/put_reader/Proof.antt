@@ -1,4 +1,4 @@
--- Four fields fill the 25 bytes.
+-- Five fields fill the 33 bytes.
 use Rattle.harvestdoor.proofs.Fields.{reader-stored}
 use borrow.Author.Needs.{needs}
 use Rattle.harvestdoor.proofs.states.put_reader.Statement.{statement}
@@ -13,24 +13,29 @@ put-requires-2 c κs = search needs
 put-requires-3 : tie.Need-put-requires-3
 put-requires-3 c κs = search needs
 
+put-requires-4 : tie.Need-put-requires-4
+put-requires-4 c κs = search needs
+
 cast-put : tie.Need-cast-put
 cast-put c = search needs
 
-put-requires-4 : tie.Need-put-requires-4
-put-requires-4 c κs = search needs
+put-requires-5 : tie.Need-put-requires-5
+put-requires-5 c κs = search needs
 
 same-length : tie.Need-same-length
 same-length c = search needs
 
 returns : tie.Need-returns
 returns c =
-    let fourth = c .before .before in
-    let third = fourth .before .before .before .before .before in
+    let fifth = c .before .before in
+    let fourth = fifth .before .before .before .before .before in
+    let third = fourth .before .before .before .before in
     let second = third .before .before .before .before in
     let first = second .before .before .before .before in
     let start = first .before .before .before .before in
-    reader-stored (start .args .r) (start .args .b .now) _ _ _ _ (start .pre)
+    reader-stored (start .args .r) (start .args .b .now) _ _ _ _ _ (start .pre)
     (first .put .ensures) (second .put2 .ensures) (third .put3 .ensures) (fourth .put4 .ensures)
+    (fifth .put5 .ensures)
 
 pub put-reader-spec : {M : Type 1} → statement M
 put-reader-spec =
@@ -39,7 +44,8 @@ put-reader-spec =
     put-requires
     put-requires-2
     put-requires-3
-    cast-put
     put-requires-4
+    cast-put
+    put-requires-5
     same-length
     returns)

@@ -16,9 +16,15 @@ number-at-requires-2 c κs = search needs
 number-at-requires-3 : tie.Need-number-at-requires-3
 number-at-requires-3 c κs = search needs
 
+number-at-requires-4 : tie.Need-number-at-requires-4
+number-at-requires-4 c κs = search needs
+
 returns : tie.Need-returns
 unfolding readerIn
-returns c = rw (c .before .before .number-at .ensures, c .before .number-at2 .ensures, c .number-at3 .ensures)
+returns c =
+    let third = c .before in
+    let second = third .before in
+    rw (second .before .number-at .ensures, second .number-at2 .ensures, third .number-at3 .ensures, c .number-at4 .ensures)
 
 pub reader-in-spec : {M : Type 1} → statement M
 reader-in-spec =
@@ -28,4 +34,5 @@ reader-in-spec =
     number-at-requires
     number-at-requires-2
     number-at-requires-3
+    number-at-requires-4
     returns)

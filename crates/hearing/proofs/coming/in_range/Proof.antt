@@ -1,5 +1,6 @@
 -- Each test that fails says no, and the last is the answer.
-use mathlib.Core.Path.{_≡_, refl, sym}
+use borrow.Author.Needs.{needs}
+use mathlib.Core.Path.{_≡_, refl, sym, _∙_}
 use mathlib.Core.Bool.{true}
 use native.Mathlib.Omega.{arith}
 use lib.Dec.{leb}
@@ -57,12 +58,15 @@ returns-4 c =
     let n = reached h in
     sym (range-by (tally n) (near n) (few h) (lt-leb _ _ (c .if4 .taken)) refl)
 
+is-heard-requires : tie.Need-is-heard-requires
+is-heard-requires c κs = search needs
+
 returns-5 : tie.Need-returns-5
 returns-5 c =
     let k = c .before in
     let h = counted k in
     let n = reached h in
-    sym (range-by (tally n) (near n) (few h) (fewer k) refl)
+    c .is-heard .ensures ∙ sym (range-by (tally n) (near n) (few h) (fewer k) refl)
 
 pub in-range-spec : {M : Type 1} → statement M
-in-range-spec = tie.close (tie.spec returns returns-2 returns-3 returns-4 returns-5)
+in-range-spec = tie.close (tie.spec returns returns-2 returns-3 returns-4 is-heard-requires returns-5)

@@ -58,7 +58,7 @@ returns-2 c =
 hear-all-requires : tie.Need-hear-all-requires
 hear-all-requires c κs =
     let s = given (c .before) in
-    (known c, range-sane (s .args .t) _ (ranged (c .before .before)) (omega (arith, s .good)))
+    (known c, range-sane (s .args .t) _ (ranged (c .before .before)) (omega arith) (omega (arith, s .good)))
 
 next-tally-requires : tie.Need-next-tally-requires
 next-tally-requires c κs =

@@ -97,7 +97,7 @@ follow-requires : tie.Need-follow-requires Inv-loop μ-loop
 follow-requires c κs =
     let d = c .before .before in
     let pre = given d .pre in
-    (pre .1, omega (arith, least d .0), pre .2 .position)
+    (pre .1, omega (arith, least d .0), pre .2 .counted .position)
 
 loop-holds : tie.Need-loop-holds Inv-loop μ-loop
 loop-holds c =

@@ -20,7 +20,7 @@ samples c =
     samples-fit _ _ (omega (arith, p .position)) (p .pairs)
 
 returns : tie.Need-returns
-returns c = rw (eq-eqb _ 0 (c .if1 .taken)) (stored-within 149 (omega arith) (nothing-stored _ _))
+returns c = rw (eq-eqb _ 0 (c .if1 .taken)) (stored-within 170 (omega arith) (nothing-stored _ _))
 
 add-positions : tie.Need-add-positions
 add-positions c =
@@ -35,6 +35,11 @@ mul-t8 c =
     let s = start (c .before) in
     omega (arith, time-fits _ _ (samples (c .before)) (sizes (s .args .d) (s .pre .1) .divisor))
 
+sub-t10 : tie.Need-sub-t10
+sub-t10 c =
+    let s = start (c .before .before) in
+    sizes (s .args .d) (s .pre .1) .heard
+
 slice-aggregate-put-line : tie.Need-slice-aggregate-put-line
 slice-aggregate-put-line c = search needs
 
@@ -47,7 +52,7 @@ same-length c = search needs
 returns-2 : tie.Need-returns-2
 returns-2 c =
     let put = c .before .before in
-    let tested = put .before .before .before .before .before .before in
+    let tested = put .before .before .before .before .before .before .before in
     let d = tested .before .before .before .args .d in
     rw (ne-eqb _ 0 (tested .if1 .left)) (one-line (captureIn d) (put .put-line .ensures))
 
@@ -59,6 +64,7 @@ put-capture-spec =
     add-positions
     mul-samples
     mul-t8
+    sub-t10
     slice-aggregate-put-line
     put-line-requires
     same-length

@@ -11,7 +11,7 @@ use mathlib.Core.List.{List}
 use Rattle.lines.specs.Lines.{Line, textOf}
 use Rattle.lines.specs.Due.{telling}
 use Rattle.spans.proofs.Eats.{finishes, valid-range, valid-head, finishing-broken, finishing-stopped, finishing-says}
-use Rattle.hearing.proofs.Ranges.{range-sane}
+use Rattle.hearing.proofs.Ranges.{range-counted}
 use Rattle.lines.proofs.Dues.{telling-sized}
 use Rattle.spans.proofs.eating.finish.Statement.{statement}
 use Rattle.spans.proofs.eating.finish.Tie as tie
@@ -43,8 +43,7 @@ last-due-requires : tie.Need-last-due-requires
 last-due-requires c κs =
     let s = start (c .before .before) .args .s in
     let ok = valid (c .before) in
-    let near = range-sane (s .tally) 0 (valid-range s ok (c .if2 .left)) (omega arith) in
-    (near .position, λ whole. valid-head s ok (c .if2 .left) whole)
+    (range-counted (s .tally) (valid-range s ok (c .if2 .left)) (omega arith), λ whole. valid-head s ok (c .if2 .left) whole)
 
 tell-requires : tie.Need-tell-requires
 tell-requires c κs = search needs

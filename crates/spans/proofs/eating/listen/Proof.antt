@@ -1,7 +1,7 @@
 -- The packets wait, or their lines are told or do not fit.
 use borrow.Author.Needs.{needs}
-use Prim.Native.Nat.{ℕ, _+_, _≤_}
-use mathlib.Core.Path.{_≡_, refl, sym, ap, _∙_}
+use Prim.Native.Nat.{ℕ, _+_}
+use mathlib.Core.Path.{_≡_, refl, sym, ap, subst, _∙_}
 use mathlib.Core.Bool.{not}
 use mathlib.Core.List.{List}
 use native.Mathlib.Omega.{arith}
@@ -9,7 +9,6 @@ use denote.Ref.{now}
 use lib.Dec.{eqb}
 use lib.ListN.{length}
 use Rattle.packets.specs.declared.Form.{Form}
-use Rattle.packets.specs.Numbers.{last}
 use Rattle.heads.specs.declared.Head.{Head}
 use Rattle.heads.specs.Head.{formIn, allowedHead}
 use Rattle.heads.proofs.Rounds.{form-listed}
@@ -17,6 +16,7 @@ use Rattle.lines.specs.Due.{dueLines}
 use Rattle.hearing.specs.declared.Reach.{Reach}
 use Rattle.hearing.specs.declared.Outcome.{Outcome}
 use Rattle.hearing.specs.Hearing.{reaching, nextTally, outcome, hearingOf}
+use Rattle.hearing.specs.Inside.{Counted}
 use Rattle.hearing.proofs.Ranges.{range-sane, reach-sane, hearing-is}
 use Rattle.spans.specs.declared.Span.{Span}
 use Rattle.spans.specs.Eating.{headOf, withTally, heardLines, heardSpan, listening, listeningBy}
@@ -61,11 +61,11 @@ listens c = listening-by (given c) (piece c) (length (out c)) (reach c) (reached
 next : (c : tie.After-hear) → c .hear .result .next ≡ nextTally (reach c)
 next c = ap (λ (o : Outcome). o .next) (heard c) ∙ ap nextTally (sym (reached c))
 
-allowed-position : (c : tie.After-hear) → reach c .tally .position ≤ last
-allowed-position c =
-    let before = range-sane (given c .tally) (0 + length (piece c)) (start c .pre .1) (omega (arith, start c .good)) in
+counted : (c : tie.After-hear) → Counted (reach c .tally)
+counted c =
+    let before = range-sane (given c .tally) (0 + length (piece c)) (start c .pre .1) (omega (arith, start c .good)) (omega (arith, start c .good)) in
     let sane = reach-sane (piece c) 0 0 (formIn (head c)) (given c .tally) before in
-    omega (arith, ap (λ (r : Reach). r .tally .position) (reached c), sane .position)
+    subst (λ (r : Reach). Counted (r .tally)) (sym (reached c)) (sane .counted)
 
 -- lines are due, and were told
 abbrev hearing : tie.After-heard-due → tie.After-hear
@@ -118,7 +118,7 @@ returns c =
 heard-due-requires : tie.Need-heard-due-requires
 heard-due-requires c κs =
     let h = c .before .before .before in
-    (ap allowedHead (h .before .before .head-in .ensures) ∙ start h .pre .0, allowed-position h)
+    (ap allowedHead (h .before .before .head-in .ensures) ∙ start h .pre .0, counted h)
 
 tell-requires : tie.Need-tell-requires
 tell-requires c κs = search needs
