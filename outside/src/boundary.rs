@@ -49,7 +49,7 @@ pub trait Library {
     /// Bytes of reply written.
     fn serve(&self, host: &[u8], replies: &mut [u8]) -> usize;
     /// The position of the first sample of the last packet heard, and how many were missed in its capture up to it.
-    fn read_run(&self, packets: &[u8], total: usize) -> (u64, u64);
+    fn read_run(&self, packets: &[u8], each: usize) -> (u64, u64);
     /// What the span program prints, where it is there to be asked.
     fn span(&self, input: &[u8]) -> Option<Vec<u8>>;
 }
@@ -340,11 +340,11 @@ impl Library for Plain {
         station::serve(host, replies)
     }
 
-    fn read_run(&self, packets: &[u8], total: usize) -> (u64, u64) {
-        if total == 0 {
+    fn read_run(&self, packets: &[u8], each: usize) -> (u64, u64) {
+        if each == 0 {
             return (0, 0);
         }
-        reader::read_run(packets, total)
+        reader::read_run(packets, each)
     }
 
     fn span(&self, input: &[u8]) -> Option<Vec<u8>> {

@@ -104,7 +104,7 @@ mod door {
             packets: *mut u8,
             packets_len: usize,
         ) -> usize;
-        pub fn skvornela_read_run(packets: *const u8, packets_len: usize, total: usize, missed: *mut u64) -> u64;
+        pub fn skvornela_read_run(packets: *const u8, packets_len: usize, each: usize, total: *mut u64) -> u64;
     }
 }
 
@@ -249,8 +249,8 @@ impl Library for Proved {
         serve(host, replies)
     }
 
-    fn read_run(&self, packets: &[u8], total: usize) -> (u64, u64) {
-        read_run(packets, total)
+    fn read_run(&self, packets: &[u8], each: usize) -> (u64, u64) {
+        read_run(packets, each)
     }
 
     /// Runs the program that SPAN_PROGRAM names. The input goes to it in pieces of many sizes, cut as its length says.
@@ -297,8 +297,8 @@ pub fn cut_run(mode: u8, size: u8, samples: &[i32], packets: &mut [u8]) -> usize
     }
 }
 
-pub fn read_run(packets: &[u8], total: usize) -> (u64, u64) {
-    let mut missed = u64::MAX;
-    let sample = unsafe { door::skvornela_read_run(packets.as_ptr(), packets.len(), total, &mut missed) };
-    (sample, missed)
+pub fn read_run(packets: &[u8], each: usize) -> (u64, u64) {
+    let mut total = u64::MAX;
+    let sample = unsafe { door::skvornela_read_run(packets.as_ptr(), packets.len(), each, &mut total) };
+    (sample, total)
 }

@@ -116,13 +116,13 @@ pub fn unpack_by_chunks(packet: &[u8], numbers: &mut [i32]) -> Result<usize, Cod
     Ok(numbers.len())
 }
 
-/// Reads packets of one length one after another by a new reader, to the first that is refused: the position of the last
+/// Reads packets of `each` bytes one after another by a new reader, to the first that is refused: the position of the last
 /// packet's first sample, and how many packets were missed in its capture up to it.
 #[inline(never)]
-pub fn read_run(packets: &[u8], total: usize) -> (u64, u64) {
+pub fn read_run(packets: &[u8], each: usize) -> (u64, u64) {
     let mut reader = Reader::default();
     let mut sample = 0;
-    for packet in packets.chunks_exact(total) {
+    for packet in packets.chunks_exact(each) {
         match reader.read(packet) {
             Ok(place) => sample = place.sample,
             Err(_) => break,

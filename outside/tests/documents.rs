@@ -279,6 +279,24 @@ fn totals_that_no_steps_give() {
     assert_eq!(silent, Reader { total: 1, ..Reader::default() });
 }
 
+/// A step leads at most 65,535 on, and all its packets but one are missed: the fewest steps to a position give the greatest
+/// total there.
+#[test]
+fn greatest_totals() {
+    let near_turns = (65_534..=65_537).chain(131_069..=131_073);
+    for position in near_turns.chain([0, 1, 2, 10, 3_999_999_999, 4_000_000_000]) {
+        let greatest = position - u64::div_ceil(position, 65_535);
+        let near_greatest = greatest.saturating_sub(2)..=greatest + 2;
+        for total in near_greatest.chain([0, position, u64::MAX]) {
+            let sound = position <= 3_999_999_999 && total <= greatest;
+            for form in Form::LISTED {
+                let reader = Reader { heard: true, position, total, form };
+                assert_eq!(reader.is_sound(), sound, "{total} missed up to {position}");
+            }
+        }
+    }
+}
+
 #[test]
 fn minus_257_and_every_form_cut_and_unpacked() {
     for (mode, size, header) in

@@ -21,7 +21,7 @@ use Rattle.items.specs.Answer.{Message, codeOf, settingsAfter, replyOf}
 use Rattle.items.proofs.Judging.{reply-by-code}
 use Rattle.reader.specs.declared.Reader.{Reader}
 use Rattle.packets.specs.Numbers.{numberIn}
-use Rattle.reader.specs.Reading.{readingCode, readingOf, hearing, unheard}
+use Rattle.reader.specs.Reading.{readingCode, readingOf, heardWith, unheard}
 use Rattle.station.specs.declared.Station.{Station}
 use Rattle.station.specs.Feeding.{messageIn, feedingOf}
 use Rattle.station.proofs.Kept.{code-below, refused-leaves}
@@ -63,7 +63,7 @@ pub read-refused : (r : Reader) (packet : List ℕ) → HearsNothing r (readingO
 unfolding readingOf
 read-refused r packet =
     pick-keeps (HearsNothing r) (eqb (readingCode r packet) 1)
-    (hearing r (numberIn packet) (wholeOf packet)) (unheard (readingCode r packet) r)
+    (heardWith r (numberIn packet) (wholeOf packet)) (unheard (readingCode r packet) r)
     (λ e h. absurd (omega arith)) (λ e h. refl)
 
 -- ---- a message that is not fully taken

@@ -1,12 +1,10 @@
 -- Fields stored one behind the other are the store of the whole reader.
 use Prim.Native.Nat.{ℕ}
-use mathlib.Core.Path.{_≡_, refl, sym, _∙_}
-use mathlib.Core.Bool.{Bool, true, false}
+use mathlib.Core.Path.{_≡_, sym, _∙_}
 use mathlib.Core.List.{List}
 use mir.Val.{boolByte}
 use lib.ListN.{length}
 use lib.Seq.{sets}
-use Rattle.wire.specs.Choice.{pick}
 use Rattle.wire.specs.Number.{bytes}
 use Rattle.wire.proofs.Laws.{flag-byte}
 use Rattle.wire.proofs.Stores.{sets-whole}

@@ -8,7 +8,7 @@ use lib.ListN.{length}
 use Rattle.wire.specs.Choice.{pick}
 use Rattle.reader.specs.declared.Heard.{Heard}
 use Rattle.reader.specs.declared.Reader.{Reader}
-use Rattle.reader.specs.Reading.{readingOf}
+use Rattle.reader.specs.Reading.{silent, unheard, readingOf}
 use Rattle.harvestdoor.specs.States.{readerIn, readerBytes}
 use Rattle.harvestdoor.specs.Reading.{readLeaving, heardOver, readOver}
 
@@ -20,7 +20,6 @@ unfolding heardOver readOver
 read-whole state packet after r h long p q t = rw (t, q, p, eq-eqb (length state) 33 long)
 
 -- other bytes: 21
-pub read-broken : (state packet : List ℕ) → (length state ≡ 33 → ⊥)
-    → record { code = 21; position = 0; sample = 0; missed = 0; total = 0; state = state } ≡ readOver state packet
+pub read-broken : (state packet : List ℕ) → (length state ≡ 33 → ⊥) → readLeaving (unheard 21 silent) state ≡ readOver state packet
 unfolding heardOver readOver
 read-broken state packet other = rw (ne-eqb (length state) 33 other)

@@ -6,7 +6,7 @@ use lib.ListN.{length, getD}
 use Rattle.wire.specs.Choice.{pick}
 use Rattle.wire.specs.Codes as Code
 use Rattle.reader.specs.declared.Heard.{Heard}
-use Rattle.reader.specs.Reading.{readingOf, sampleBytesOf}
+use Rattle.reader.specs.Reading.{silent, unheard, readingOf, sampleBytesOf}
 use Rattle.harvestdoor.specs.States.{readerSize, readerIn, readerBytes}
 
 -- what a call answers, and the reader's bytes after it
@@ -31,7 +31,7 @@ heardOver state h = readLeaving h (pick (eqb (h .code) Code.done) (readerBytes (
 unfoldable pub readOver : List ℕ → List ℕ → Read
 readOver state packet =
     pick (eqb (length state) readerSize) (heardOver state (readingOf (readerIn state) packet))
-    (record { code = Code.broken; position = 0; sample = 0; missed = 0; total = 0; state = state })
+    (readLeaving (unheard Code.broken silent) state)
 
 -- the byte at a place of a packet's sample bytes, 0 past their end
 abbrev pub sampleByteAt : ℕ → List ℕ → ℕ

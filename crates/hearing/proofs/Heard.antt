@@ -3,7 +3,6 @@ use Prim.Native.Nat.{ℕ, zero, suc, _+_, _/_, _%_, _≤_, _<_}
 use mathlib.Core.Path.{_≡_, refl, sym, ap, _∙_}
 use mathlib.Core.Bool.{Bool, true, false, _&&_, not}
 use mathlib.Core.List.{List, [], _∷_}
-use native.Mathlib.Decide.{decLt}
 use native.Mathlib.Omega.{arith}
 use lib.Dec.{eqb, ltb}
 use lib.ListN.{getD}
@@ -13,9 +12,8 @@ use Rattle.wire.proofs.Checks.{absent, given-below}
 use Rattle.wire.specs.Choice.{pick, check, firstOf}
 use Rattle.packets.specs.declared.Form.{Form}
 use Rattle.packets.specs.Forms.{sameForm, totalOf, listedForm}
-use Rattle.packets.specs.Numbers.{stepOf, last}
-use Rattle.packets.proofs.Numbers.{step-above, step-not-above}
-use Rattle.packets.proofs.Missed.{is-step}
+use Rattle.packets.specs.Numbers.{last}
+use Rattle.packets.proofs.Missed.{step-from}
 use Rattle.hearing.specs.declared.Tally.{Tally}
 use Rattle.hearing.specs.declared.Reach.{Reach}
 use Rattle.hearing.specs.Hearing.{lowHigh, fieldWith, formComing, positionNow, lacksFirst, heardChecks, heardCode}
@@ -53,10 +51,6 @@ heard-small f t = given-below 34 (heardChecks f t) 1 refl (omega arith)
 -- what `total_of` answers for a listed form
 pub total-is : (f g : Form) (n : ℕ) → n ≡ pick (listedForm g) (totalOf g) 0 → g ≡ f → listedForm f ≡ true → n ≡ totalOf f
 total-is f g n is same ok = is ∙ ap (λ (x : Form). pick (listedForm x) (totalOf x) 0) same ∙ rw ok
-
--- a step is at most two turns
-pub step-small : (s t : ℕ) → s ≤ 65_535 → t ≤ 65_535 → stepOf s t ≤ 131_070
-step-small s t p q = elim (decLt s t) [ yes l ↦ omega (arith, step-above s t l) | no l ↦ omega (arith, step-not-above s t (omega arith)) ]
 
 pub not-none : (n : ℕ) → not (eqb n 0) ≡ true → 0 < n
 not-none zero e = absurd (true-not-false (sym e))
@@ -115,7 +109,7 @@ counted-accepting t c some opened fits = by (eqb (t .number) 0) refl
         let begun : eqb (t .heard) 0 ≡ false = rw e at opened in
         let some′ : 0 < t .heard = omega (arith, eqb-false (t .heard) 0 begun) in
         let above : 0 < t .number = omega (arith, eqb-false (t .number) 0 e) in
-        let step = is-step (t .position) (t .number) above (c .number) in
+        let step = step-from (t .position) (t .number) above (c .number) in
         rw e
         (record {
           heard = omega (arith, c .heard, some);
@@ -126,7 +120,7 @@ counted-accepting t c some opened fits = by (eqb (t .number) 0) refl
           most = omega (arith, c .most, step .1);
         })
 
-pub sane-accepting : (rest : ℕ) (t : Tally) → Sane rest t → 0 < t .came → lacksFirst t ≡ false → positionNow t ≤ last
+sane-accepting : (rest : ℕ) (t : Tally) → Sane rest t → 0 < t .came → lacksFirst t ≡ false → positionNow t ≤ last
     → Sane rest (accepting t)
 unfolding accepting
 sane-accepting rest t s some opened fits =

@@ -11,17 +11,17 @@ use Rattle.wire.proofs.Laws.{and-left, and-right, and-both, pick-keeps}
 use Rattle.packets.specs.declared.Form.{Form}
 use Rattle.packets.specs.Forms.{listedForm}
 use Rattle.packets.specs.Numbers.{last}
-use Rattle.packets.specs.Missed.{missedOf, couldBeGiven}
-use Rattle.packets.proofs.Missed.{given-by, given-within}
+use Rattle.packets.specs.Missed.{missedOf, StepsGive, stepsGive}
+use Rattle.packets.proofs.Missed.{steps-give-by, steps-give-within, tested-steps}
 use Rattle.hearing.specs.declared.Tally.{Tally}
 use Rattle.hearing.specs.declared.Reach.{Reach}
-use Rattle.hearing.specs.Hearing.{farthest, heardGiven, tallyInRange, takingByte, settled, reaching, outcome, hearingOf}
+use Rattle.hearing.specs.Hearing.{farthest, heardBySteps, tallyInRange, takingByte, settled, reaching, outcome, hearingOf}
 use Rattle.hearing.specs.Inside.{Counted, Sane}
 use Rattle.hearing.proofs.Heard.{sane-taking, sane-settled, sane-less}
 use Rattle.hearing.proofs.Goings.{taken-some}
 
 pub range-by : (t : Tally) {a b c d : Bool} → leb (t .begins + t .came) farthest ≡ a → leb (t .heard) (t .begins) ≡ b
-    → leb (t .captures) (t .begins) ≡ c → (leb (t .position) last && heardGiven (t .heard) (t .position)) ≡ d
+    → leb (t .captures) (t .begins) ≡ c → (leb (t .position) last && heardBySteps (t .heard) (t .position)) ≡ d
     → tallyInRange t ≡ a && b && c && d
 range-by t p q r s = rw (p, q, r, s)
 
@@ -31,29 +31,29 @@ range-by t p q r s = rw (p, q, r, s)
 steps-between : (n position : ℕ) → suc n ≤ position + 1 → position - missedOf (suc n) position ≡ n
 steps-between n position few = omega arith
 
-given-steps : (heard position : ℕ) → heardGiven heard position ≡ true → (heard ≤ position + 1) × (position ≤ 65_535 * (heard - 1))
+given-steps : (heard position : ℕ) → heardBySteps heard position ≡ true → (heard ≤ position + 1) × (position ≤ 65_535 * (heard - 1))
 given-steps zero position e = (omega arith, omega (arith, eqb-true position 0 e))
 given-steps (suc n) position e =
     let few = leb (suc n) (position + 1) in
-    let given = couldBeGiven position (missedOf (suc n) position) in
+    let given = stepsGive position (missedOf (suc n) position) in
     let both : few && given ≡ true = rw (ne-eqb (suc n) 0 (λ z. omega arith)) at e in
     let least : suc n ≤ position + 1 = leb-true (suc n) (position + 1) (and-left few given both) in
-    let far = given-within position (missedOf (suc n) position) (and-right few given both) .1 in
+    let far = steps-give-within position (missedOf (suc n) position) (and-right few given both) .1 in
     let count = steps-between n position least in
     (least, omega (arith, rw count at far))
 
-pub steps-given : (heard position : ℕ) → heard ≤ position + 1 → position ≤ 65_535 * (heard - 1) → heardGiven heard position ≡ true
+steps-given : (heard position : ℕ) → heard ≤ position + 1 → position ≤ 65_535 * (heard - 1) → heardBySteps heard position ≡ true
 steps-given zero position least most = eq-eqb position 0 (omega arith)
 steps-given (suc n) position least most =
     let missed : ℕ = missedOf (suc n) position in
     rw (ne-eqb (suc n) 0 (λ z. omega arith))
-    (and-both (leb (suc n) (position + 1)) (couldBeGiven position missed) (le-leb (suc n) (position + 1) least)
-    (given-by position missed (omega arith) (rw (steps-between n position least) (omega arith))))
+    (and-both (leb (suc n) (position + 1)) (stepsGive position missed) (le-leb (suc n) (position + 1) least)
+    (steps-give-by position missed (omega arith) (rw (steps-between n position least) (omega arith))))
 
 -- the tests of `is_heard`, and what it answers then
 module _ (heard position : ℕ) where
   abbrev Answer : Bool
-  Answer = leb position last && heardGiven heard position
+  Answer = leb position last && heardBySteps heard position
 
   pub none-heard : heard ≡ 0 → eqb position 0 ≡ Answer
   none-heard z = by (eqb position 0) refl
@@ -63,15 +63,22 @@ module _ (heard position : ℕ) where
       by false e = rw (z, e, and-false)
 
   module _ (some : heard ≡ 0 → ⊥) where
-    pub some-past : last < position → false ≡ Answer
-    some-past l = rw (lt-leb position last l)
+    pub too-few : position < heard - 1 → false ≡ Answer
+    too-few l = rw (ne-eqb heard 0 some, lt-leb heard (position + 1) (omega arith), and-false)
 
-    pub some-few : position ≤ last → position + 1 < heard → false ≡ Answer
-    some-few near l = rw (le-leb position last near, ne-eqb heard 0 some, lt-leb heard (position + 1) l)
+    pub by-steps : heard - 1 ≤ position → (leb position last && stepsGive position (position - (heard - 1))) ≡ Answer
+    by-steps few =
+        let missed : position - (heard - 1) ≡ missedOf heard position = omega arith in
+        rw (missed, ne-eqb heard 0 some, le-leb heard (position + 1) (omega arith))
 
-    pub some-given : heard ≤ position + 1
-        → (leb position last && couldBeGiven position (missedOf heard position)) ≡ Answer
-    some-given few = rw (ne-eqb heard 0 some, le-leb heard (position + 1) few)
+-- "whose total no steps give", of a tally
+pub heard-has-steps : (heard position : ℕ) → heardBySteps heard position ≡ true → 0 < heard
+    → StepsGive position (missedOf heard position)
+heard-has-steps heard position e some =
+    let few = leb heard (position + 1) in
+    let given = stepsGive position (missedOf heard position) in
+    let both : few && given ≡ true = rw (ne-eqb heard 0 (λ z. omega arith)) at e in
+    tested-steps position (missedOf heard position) (and-right few given both)
 
 -- ---- a tally in range
 
@@ -82,7 +89,7 @@ range-counted t e small =
     let b : Bool = leb (t .heard) (t .begins) in
     let c : Bool = leb (t .captures) (t .begins) in
     let near : Bool = leb (t .position) last in
-    let given : Bool = heardGiven (t .heard) (t .position) in
+    let given : Bool = heardBySteps (t .heard) (t .position) in
     let abc = and-left (a && b && c) (near && given) e in
     let ab = and-left (a && b) c abc in
     let d = and-right (a && b && c) (near && given) e in
@@ -101,7 +108,7 @@ range-near t e =
     let a : Bool = leb (t .begins + t .came) farthest in
     let b : Bool = leb (t .heard) (t .begins) in
     let c : Bool = leb (t .captures) (t .begins) in
-    let d : Bool = leb (t .position) last && heardGiven (t .heard) (t .position) in
+    let d : Bool = leb (t .position) last && heardBySteps (t .heard) (t .position) in
     leb-true (t .begins + t .came) farthest (and-left a b (and-left (a && b) c (and-left (a && b && c) d e)))
 
 -- a tally with counts, near enough, is in range
@@ -109,7 +116,7 @@ pub counted-range : (t : Tally) → Counted t → t .begins + t .came ≤ farthe
 counted-range t c near =
     let given = steps-given (t .heard) (t .position) (c .least) (c .most) in
     range-by t (le-leb (t .begins + t .came) farthest near) (le-leb _ _ (c .heard)) (le-leb _ _ (c .captures))
-    (and-both (leb (t .position) last) (heardGiven (t .heard) (t .position)) (le-leb _ _ (c .position)) given)
+    (and-both (leb (t .position) last) (heardBySteps (t .heard) (t .position)) (le-leb _ _ (c .position)) given)
 
 -- one in range is sane while a piece is taken
 pub range-sane : (t : Tally) (n : ℕ) → tallyInRange t ≡ true → t .number ≤ 65_535 → n < 0x8000_0000_0000_0000 → Sane n t

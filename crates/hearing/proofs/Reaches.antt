@@ -9,7 +9,7 @@ use native.Mathlib.Omega.{arith}
 use lib.Dec.{eqb, leb}
 use lib.ListN.{length, getD, take, drop, length-drop, take-append-drop}
 use lib.Seq.{drop-cons, drop-drop, length-take-le}
-use borrow.Author.Tests.{eq-eqb, ne-eqb, lt-ltb, le-ltb, leb-true}
+use borrow.Author.Tests.{ne-eqb, lt-ltb, le-ltb, leb-true}
 use Rattle.wire.proofs.Laws.{pick-keeps, and-not-left, and-not-right}
 use Rattle.wire.specs.Header.{headerOf, typeData}
 use Rattle.packets.specs.declared.Form.{Form}
@@ -48,7 +48,8 @@ unfolding reaching
 reach-wait n f t b bs w = rw (settled-by (n + 1) f (takingByte t b) w refl)
 
 -- the header is listed and the packet not whole
-pub heard-waits : (f : Form) (t : Tally) → 2 ≤ t .came → listedForm (formComing t) ≡ true → t .came < totalOf (formComing t) → heardCode f t ≡ 0
+pub heard-waits : (f : Form) (t : Tally) → 2 ≤ t .came → listedForm (formComing t) ≡ true → t .came < totalOf (formComing t)
+    → heardCode f t ≡ 0
 heard-waits f t some ok short = heard-by f t (le-ltb _ _ some) ok (lt-ltb _ _ short) refl refl refl
 
 -- ---- samples

@@ -1,40 +1,21 @@
 -- Whole packets, one behind the other, that bring no line: what holds from packet to packet.
-use Prim.Native.Nat.{ℕ, zero, suc, _+_, _*_, _-_, _%_, _≤_, _<_}
+use Prim.Native.Nat.{ℕ, _+_, _*_, _-_, _≤_, _<_}
 use mathlib.Core.Path.{_≡_, refl, sym, ap, _∙_}
 use mathlib.Core.Bool.{true}
 use mathlib.Core.List.{List}
-use native.Mathlib.Decide.{decLt}
 use native.Mathlib.Omega.{arith}
 use lib.ListN.{length, drop}
 use Rattle.wire.specs.Header.{headerOf, typeData}
 use Rattle.packets.specs.declared.Form.{Form}
 use Rattle.packets.specs.Forms.{totalOf, listedForm, formWithHeader}
 use Rattle.packets.specs.Numbers.{numberAt, stepOf, last}
-use Rattle.packets.proofs.Numbers.{step-above, step-not-above}
-use Rattle.packets.proofs.Missed.{is-step}
+use Rattle.packets.proofs.Numbers.{number-step}
+use Rattle.packets.proofs.Missed.{step-from}
 use Rattle.hearing.specs.declared.Tally.{Tally}
 use Rattle.hearing.specs.declared.Reach.{Reach}
 use Rattle.hearing.specs.Hearing.{reaching}
 use Rattle.hearing.specs.Inside.{goesOn, Sane, Goes, Between, Follows, twoAt}
 use Rattle.hearing.proofs.Reaches.{followed, reach-follows, form-with-own, total-least}
-
--- the number that a step leads to is the number at the position that it leads to
-pub number-step : (p n : ℕ) → 0 < n → n ≤ 65_535 → numberAt (p + stepOf (numberAt p) n) ≡ n
-number-step zero n some small =
-    let go : 0 + stepOf 0 n ≡ suc (n - 1) = omega (arith, step-above 0 n some) in
-    rw go (omega arith)
-number-step (suc p) n some small = elim (decLt (p % 65_535 + 1) n) [ yes l ↦ up l | no l ↦ over (omega arith) ]
-  where
-    up : p % 65_535 + 1 < n → numberAt (suc p + stepOf (p % 65_535 + 1) n) ≡ n
-    up l =
-        let go : suc p + stepOf (p % 65_535 + 1) n ≡ suc (p + (n - (p % 65_535 + 1))) = omega (arith, step-above (p % 65_535 + 1) n l) in
-        rw go (omega arith)
-
-    over : n ≤ p % 65_535 + 1 → numberAt (suc p + stepOf (p % 65_535 + 1) n) ≡ n
-    over l =
-        let go : suc p + stepOf (p % 65_535 + 1) n ≡ suc (p + (n + 65_535 - (p % 65_535 + 1)))
-        = omega (arith, step-not-above (p % 65_535 + 1) n l) in
-        rw go (omega arith)
 
 -- the tally between two of them
 abbrev pub tallyAt : Tally → ℕ → ℕ → ℕ → ℕ → Tally
@@ -104,7 +85,7 @@ module _
       let go : next ≡ position + stepOf (numberAt position) after = x .here ∙ rw (r .numbered, is) in
       let packet : Follows piece at (headerOf typeData (totalOf f)) total (numberAt position) position next
       = rw (is-front, r .numbered) at x in
-      let stepped = is-step position after (omega (arith, is, x .above)) small in
+      let stepped = step-from position after (omega (arith, is, x .above)) small in
       let now : Tally = tallyAt t from at heard position in
       let ahead : Tally → Reach = λ u. reaching (at + total) (formWithHeader front) u (drop (at + total) piece) in
       let step : reaching at (formWithHeader front) now (drop at piece) ≡ ahead (followed now total next)

@@ -10,7 +10,7 @@ use Rattle.wire.specs.Codes as Code
 use Rattle.packets.specs.declared.Form.{Form}
 use Rattle.packets.specs.Forms.{sameForm, totalOf, listedForm, formWithHeader}
 use Rattle.packets.specs.Numbers.{last}
-use Rattle.packets.specs.Missed.{missedOf, couldBeGiven}
+use Rattle.packets.specs.Missed.{missedOf, stepsGive}
 use Rattle.reader.specs.declared.Reader.{Reader}
 use Rattle.reader.specs.Reading.{positionAfter}
 use Rattle.hearing.specs.declared.Tally.{Tally}
@@ -23,20 +23,20 @@ use Rattle.hearing.specs.declared.Outcome.{Outcome}
 abbrev pub farthest : ℕ
 farthest = 0x8000_0000_0000_0000
 
--- Packets heard, and the position of the last of them: some steps from the first, at position 0, lead there past all that are
--- missed; where none is heard there is no position. (A reader is broken by the same rule: "whose total no steps give".)
-abbrev pub heardGiven : ℕ → ℕ → Bool
-heardGiven heard position =
-    pick (eqb heard 0) (eqb position 0) (leb heard (position + 1) && couldBeGiven position (missedOf heard position))
+-- Packets heard, and the position of the last of them: steps lead there from the first, at position 0, one to each other packet;
+-- where none is heard there is no position. (A reader is broken by the same rule: "whose total no steps give".)
+abbrev pub heardBySteps : ℕ → ℕ → Bool
+heardBySteps heard position =
+    pick (eqb heard 0) (eqb position 0) (leb heard (position + 1) && stepsGive position (missedOf heard position))
 
--- Each count within its range: the input byte, no more packets or captures than bytes, a position that there is, and as many
--- packets heard as steps lead there. A tally outside it is broken (21).
+-- Each count within its range: the input byte, no more packets or captures than bytes, a position that there is, and packets heard
+-- by which steps lead there. A tally outside it is broken (21).
 abbrev pub tallyInRange : Tally → Bool
 tallyInRange t =
     leb (t .begins + t .came) farthest
     && leb (t .heard) (t .begins)
     && leb (t .captures) (t .begins)
-    && (leb (t .position) last && heardGiven (t .heard) (t .position))
+    && (leb (t .position) last && heardBySteps (t .heard) (t .position))
 
 -- ---- one byte
 

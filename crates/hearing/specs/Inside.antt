@@ -19,8 +19,8 @@ use Rattle.hearing.specs.Hearing.{lowHigh, formComing, reaching}
 unfoldable pub goesOn : Form → Reach → List ℕ → Reach
 goesOn f r rest = pick (eqb (r .code) Code.waiting) (reaching (r .at) f (r .tally) rest) r
 
--- the counts of a tally: no more packets or captures than bytes, a position that there is, a number of 16 bits, and as many
--- packets heard as steps lead to the position
+-- the counts of a tally: no more packets or captures than bytes, a position that there is, a number of 16 bits, and packets heard
+-- by which steps lead to the position, one to each but the first
 pub record Counted (t : Tally) : Type 0 where
   pub heard : t .heard ≤ t .begins
   pub captures : t .captures ≤ t .begins

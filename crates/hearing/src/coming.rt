@@ -4,7 +4,8 @@ ghost use Prim.Native.Nat.{_+_, _≤_, _<_};
 ghost use mathlib.Core.Bool.{_&&_};
 ghost use lib.Dec.{leb};
 ghost use Rattle.packets.specs.Numbers.{last};
-ghost use Rattle.hearing.specs.Hearing.{heardGiven, tallyInRange, fieldWith, takingByte, positionNow, lacksFirst, heardCode, accepting, closes, settled};
+ghost use Rattle.hearing.specs.Hearing.{heardBySteps, tallyInRange, fieldWith, takingByte, positionNow};
+ghost use Rattle.hearing.specs.Hearing.{lacksFirst, heardCode, accepting, closes, settled};
 ghost use Rattle.hearing.specs.Inside.{Sane};
 use crate::FARTHEST;
 use crate::Reach;
@@ -12,20 +13,19 @@ use crate::Tally;
 use packets::Form;
 use wire::codes;
 
-// Whether a position is one that a capture can have, and steps lead there with so many packets heard; 0 where none is.
+// Whether a position is one that a capture can have, and steps lead there from the first of so many packets heard, one to each
+// other; where none is heard, whether it is 0.
 fn is_heard(heard: u64, position: u64) -> bool
-    ensures { λ r. ⌜ r ≡ leb position last && heardGiven heard position ⌝ }
+    ensures { λ r. ⌜ r ≡ leb position last && heardBySteps heard position ⌝ }
 {
     if heard == 0 {
         return position == 0;
     }
-    if packets::LAST < position {
+    let steps = heard - 1;
+    if position < steps {
         return false;
     }
-    if position + 1 < heard {
-        return false;
-    }
-    packets::is_given(position, position + 1 - heard)
+    packets::steps_give(position, position - steps)
 }
 
 // Whether each count of a tally is within its range. A tally that is not is broken.

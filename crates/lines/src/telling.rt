@@ -86,8 +86,8 @@ fn put_due(d: Due, buf: &mut [u8]) -> usize
     put_ending(ending, buf, second)
 }
 
-// Whether the products of a capture's line are those of numbers that a capture can have, and it has as many positions as
-// packets heard.
+// Whether the products of a capture's line are those of numbers that a capture can have, and no more packets are heard than
+// there are positions.
 fn is_sized(d: Due) -> bool
     ensures { λ r. ⌜ r ≡ sized d ⌝ }
 {
@@ -103,8 +103,9 @@ fn is_sized(d: Due) -> bool
     d.heard <= d.position + 1
 }
 
-// Writes the lines that are due at the start of a slice: 240 bytes are room enough. It refuses with 16 a position, pairs,
-// a D or a count of packets that no capture has, and then with 20 a slice that has no room for all lines; nothing is written then.
+// Writes the lines that are due at the start of a slice: 240 bytes are room enough. It refuses with 16 a position, pairs
+// or a D that no capture has, or more packets heard than positions, and then with 20 a slice that has no room for all lines;
+// nothing is written then.
 pub fn tell(d: Due, out: &mut [u8]) -> LinesAnswer
     ensures { λ r.
         ⌜ (r ≡ tellingOf d (length (now (out .entry))) .answer)

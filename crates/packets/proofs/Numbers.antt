@@ -42,6 +42,24 @@ step-between (suc p) (suc q) l h =
       | no w ↦ omega (arith, step-not-above (p % 65_535 + 1) (q % 65_535 + 1) (omega arith))
     ]
 
+-- the number that a step leads to is the number at the position that it leads to
+pub number-step : (p n : ℕ) → 0 < n → n ≤ 65_535 → numberAt (p + stepOf (numberAt p) n) ≡ n
+number-step zero n some small =
+    let go : 0 + stepOf 0 n ≡ suc (n - 1) = omega (arith, step-above 0 n some) in
+    rw go (omega arith)
+number-step (suc p) n some small = elim (decLt (p % 65_535 + 1) n) [ yes l ↦ up l | no l ↦ over (omega arith) ]
+  where
+    up : p % 65_535 + 1 < n → numberAt (suc p + stepOf (p % 65_535 + 1) n) ≡ n
+    up l =
+        let go : suc p + stepOf (p % 65_535 + 1) n ≡ suc (p + (n - (p % 65_535 + 1))) = omega (arith, step-above (p % 65_535 + 1) n l) in
+        rw go (omega arith)
+
+    over : n ≤ p % 65_535 + 1 → numberAt (suc p + stepOf (p % 65_535 + 1) n) ≡ n
+    over l =
+        let go : suc p + stepOf (p % 65_535 + 1) n ≡ suc (p + (n + 65_535 - (p % 65_535 + 1)))
+        = omega (arith, step-not-above (p % 65_535 + 1) n l) in
+        rw go (omega arith)
+
 -- ---- the two bytes of a 16-bit field
 
 pub field-two : (s : List ℕ) (at : ℕ) → field at 2 s ≡ getD s at 0 + 256 * getD s (at + 1) 0

@@ -14,9 +14,9 @@ areSteps [] = Unit {0}
 areSteps (step ∷ steps) = isStep step × areSteps steps
 
 -- the position to which steps lead from position 0, where a capture starts
-abbrev pub sumOf : List ℕ → ℕ
-sumOf [] = 0
-sumOf (step ∷ steps) = step + sumOf steps
+abbrev pub leadsTo : List ℕ → ℕ
+leadsTo [] = 0
+leadsTo (step ∷ steps) = step + leadsTo steps
 
 -- "how many were missed just before this packet (step less one ..)"
 abbrev pub missedIn : ℕ → ℕ
@@ -31,14 +31,14 @@ missedOver (step ∷ steps) = missedIn step + missedOver steps
 abbrev pub missedOf : ℕ → ℕ → ℕ
 missedOf heard last = last + 1 - heard
 
--- a position, and a total that steps to it give: "A reader whose total no steps give is broken."
-pub record Given (position total : ℕ) : Type 0 where
+-- steps lead to the position and give the total: "A reader whose total no steps give is broken."
+pub record StepsGive (position total : ℕ) : Type 0 where
   pub steps : List ℕ
   pub allowed : areSteps steps
-  pub leads : sumOf steps ≡ position
+  pub leads : leadsTo steps ≡ position
   pub misses : missedOver steps ≡ total
 
--- The same as a test (proofs/Missed: `given-tested`, `tested-given`). Each step passes over one packet less than it leads on, so
+-- The same as a test (proofs/Missed: `steps-tested`, `tested-steps`). Each step passes over one packet less than it leads on, so
 -- there are position less total of them; and so many lead at most 65,535 times as far.
-unfoldable pub couldBeGiven : ℕ → ℕ → Bool
-couldBeGiven position total = leb total position && leb position (65_535 * (position - total))
+unfoldable pub stepsGive : ℕ → ℕ → Bool
+stepsGive position total = leb total position && leb position (65_535 * (position - total))

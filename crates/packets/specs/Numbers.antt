@@ -14,7 +14,7 @@ numberAt (suc p) = p % 65_535 + 1
 abbrev pub stepOf : ℕ → ℕ → ℕ
 stepOf s t = pick (ltb s t) (t - s) (t + 65_535 - s)
 
--- the number that a packet carries, "16-bit packet number". (Of what is no byte only the lowest bits count.)
+-- the number that a packet carries, "16-bit packet number". (Of entries that are no bytes the lowest 16 bits of their number count.)
 abbrev pub numberIn : List ℕ → ℕ
 numberIn packet = field 2 2 packet % 65_536
 

@@ -8,7 +8,7 @@ ghost use Rattle.wire.specs.Choice.{pick};
 ghost use Rattle.wire.specs.Number.{field};
 ghost use Rattle.packets.specs.Forms.{formFor, listedForm, sameForm, totalOf, noForm, formWithHeader, wholeOf};
 ghost use Rattle.packets.specs.Numbers.{numberAt, numberIn, stepOf, last};
-ghost use Rattle.packets.specs.Missed.{couldBeGiven};
+ghost use Rattle.packets.specs.Missed.{stepsGive};
 
 // How many packets a capture can hold, and the position of the last of them.
 pub const MOST: u64 = 4_000_000_000;
@@ -198,8 +198,8 @@ pub fn step(s: u16, t: u16) -> u64
 
 // Whether the position is one that a capture can have, and the total one that steps to it give: each is 1 to 65,535, and passes
 // over one packet less.
-pub fn is_given(position: u64, total: u64) -> bool
-    ensures { λ r. ⌜ r ≡ leb position last && couldBeGiven position total ⌝ }
+pub fn steps_give(position: u64, total: u64) -> bool
+    ensures { λ r. ⌜ r ≡ leb position last && stepsGive position total ⌝ }
 {
     if LAST < position {
         return false;

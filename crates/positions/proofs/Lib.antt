@@ -2,7 +2,7 @@ pub mod Steps
 pub mod Boxes
 pub mod Readings
 pub mod Demand
-pub mod Counted
+pub mod Lost
 pub mod Exist
 pub mod Wrong
 pub mod Sharp

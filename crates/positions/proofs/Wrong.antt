@@ -1,6 +1,6 @@
 -- The wrong readers do not meet demand 3. Where every packet arrives, the one that always says 0 misses position 1, and the one that
 -- is right for one turn says 1 at position 65,536. The one that never moves says the same of the second packet, and of the third
--- where the second is lost.
+-- where the second is lost. Those that miscount do not tell how much was lost, where it is the second of four packets.
 use Prim.Native.Nat.{ℕ, zero, suc, _+_, _<_}
 use mathlib.Core.Path.{_≡_, refl, sym, ap, _∙_}
 use mathlib.Core.List.{List, [], _∷_, map}
@@ -8,15 +8,18 @@ use native.Mathlib.Omega.{arith}
 use lib.ListN.{length}
 use Rattle.packets.specs.declared.Form.{Form}
 use Rattle.packets.specs.Numbers.{numberAt, numberIn}
+use Rattle.packets.proofs.Missed.{step-from}
 use Rattle.cutting.specs.Cutting.{formNow}
 use Rattle.reader.specs.declared.Reader.{Reader}
-use Rattle.reader.specs.Reading.{silent}
+use Rattle.reader.specs.Reading.{silent, readingOf}
 use Rattle.reader.proofs.Sound.{silent-sound}
 use Rattle.positions.specs.Captures.{Capture}
 use Rattle.positions.specs.Losses.{Fate, arrives, lost, arriving, bounded, allowedLosses, positionsFrom, WayToRead, answersBy}
 use Rattle.positions.specs.Demand.{Said, saidIn, takenAt, GivesExactPositions}
+use Rattle.positions.specs.Lost.{Loss, lossIn, CountsLosses}
 use Rattle.positions.specs.Wrong.{PositionsBy, alwaysZero, neverMoving, oneTurnOnly, readBy}
-use Rattle.positions.proofs.Demand.{from-start, arriving-numbers}
+use Rattle.positions.specs.Wrong.{MissedBy, stepForMissed, TotalOfOne, sayingLost, missingBy, totallingOne}
+use Rattle.positions.proofs.Demand.{from-start, arriving-numbers, exact-positions}
 use Rattle.positions.proofs.Exist.{running, captures-exist}
 
 -- every packet arrives
@@ -115,3 +118,77 @@ one-turn-only-fails read follows exact =
 -- there are such readers
 pub rules-followed : (rule : ℕ → ℕ → ℕ) → PositionsBy rule (readBy rule)
 rules-followed rule r packet = refl
+
+-- so many lost just before, and so many in all
+abbrev lossOf : ℕ → ℕ → Loss
+lossOf k t = record { before = k; inAll = t }
+
+-- What a reader that counts says where the second of four packets is lost: at the third, that one was missed; at the fourth, none,
+-- and one in all.
+record SecondLost (read : WayToRead) : Type 0 where
+  before-third : Reader
+  third : List ℕ
+  before-fourth : Reader
+  fourth : List ℕ
+  at-third : lossIn (read before-third third) ≡ lossOf 1 1
+  at-fourth : lossIn (read before-fourth fourth) ≡ lossOf 0 1
+  number : numberIn fourth ≡ 3
+
+second-lost : (read : WayToRead) → CountsLosses read → SecondLost read
+second-lost read counts = let c = captures-exist 4 (omega arith) in four (c .0) (c .1) (c .2)
+  where
+    four : (packets : List (List ℕ)) → Capture (running 0) packets → length packets ≡ 4 → SecondLost read
+    four [] c l = absurd (omega arith)
+    four (p ∷ []) c l = absurd (omega arith)
+    four (p ∷ q ∷ []) c l = absurd (omega arith)
+    four (p ∷ q ∷ x ∷ []) c l = absurd (omega arith)
+    four (p ∷ q ∷ x ∷ y ∷ ps) c l =
+        let fates = arrives ∷ lost ∷ arrives ∷ arrives ∷ [] in
+        let says : map lossIn (answersBy read silent (p ∷ x ∷ y ∷ [])) ≡ lossOf 0 0 ∷ lossOf 1 1 ∷ lossOf 0 1 ∷ [] =
+        counts silent silent-sound (running 0) (p ∷ q ∷ x ∷ y ∷ ps) c fates (omega arith, (omega arith, tt)) in
+        record {
+          before-third = read silent p .reader;
+          third = x;
+          before-fourth = read (read silent p .reader) x .reader;
+          fourth = y;
+          at-third = cc;
+          at-fourth = cc;
+          number = from-start c .1 .1 .1 .0 .number;
+        }
+
+-- a reader that always says that none was missed
+pub none-missed-fails : (read : WayToRead) → MissedBy alwaysZero read → CountsLosses read → ⊥
+none-missed-fails read follows counts =
+    let w = second-lost read counts in
+    omega (arith, follows (w .before-third) (w .third), ap (λ (l : Loss). l .before) (w .at-third))
+
+-- a reader that says the step, which is never 0
+pub step-for-missed-fails : (read : WayToRead) → MissedBy stepForMissed read → CountsLosses read → ⊥
+step-for-missed-fails read follows counts =
+    let w = second-lost read counts in
+    let r = w .before-fourth in
+    let says = rw (w .number) at (follows r (w .fourth)) in
+    omega (arith, says, ap (λ (l : Loss). l .before) (w .at-fourth), step-from (r .position) 3 (omega arith) (omega arith) .0)
+
+-- a reader whose total is of this packet only
+pub total-of-one-fails : (read : WayToRead) → TotalOfOne read → CountsLosses read → ⊥
+total-of-one-fails read follows counts =
+    let w = second-lost read counts in
+    let says = w .at-fourth in
+    omega (arith, follows (w .before-fourth) (w .fourth), ap (λ (l : Loss). l .before) says, ap (λ (l : Loss). l .inAll) says)
+
+-- There are such readers, and demand 3 does not reject them: whatever is said to be lost, the positions are exact.
+pub missed-rules-followed : (rule : ℕ → ℕ → ℕ) → MissedBy rule (missingBy rule)
+missed-rules-followed rule r packet = refl
+
+pub total-of-one-said : TotalOfOne totallingOne
+total-of-one-said r packet = refl
+
+said-alike : (says : Reader → List ℕ → Loss) (r : Reader) (ps : List (List ℕ))
+    → map saidIn (answersBy (sayingLost says) r ps) ≡ map saidIn (answersBy readingOf r ps)
+said-alike says r [] = refl
+said-alike says r (p ∷ ps) = ap (λ l. saidIn (readingOf r p) ∷ l) (said-alike says (readingOf r p .reader) ps)
+
+pub exact-whatever-is-lost : (says : Reader → List ℕ → Loss) → GivesExactPositions (sayingLost says)
+exact-whatever-is-lost says r fine s packets c fates b =
+    said-alike says r (arriving fates packets) ∙ exact-positions r fine s packets c fates b

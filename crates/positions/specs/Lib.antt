@@ -1,5 +1,5 @@
 pub mod Captures
 pub mod Losses
 pub mod Demand
-pub mod Counted
+pub mod Lost
 pub mod Wrong

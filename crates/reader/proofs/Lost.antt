@@ -1,79 +1,103 @@
 -- How much was lost: by each step the position grows by it and the total by one less; so heard and missed are all positions.
-use Prim.Native.Nat.{ℕ, _+_, _≤_, _<_}
+use Prim.Native.Nat.{ℕ, _+_, _<_}
 use mathlib.Core.Path.{_≡_, refl, sym, ap, _∙_}
-use mathlib.Core.Bool.{true}
+use mathlib.Core.Bool.{Bool, true, false}
 use mathlib.Core.List.{List, [], _∷_}
 use native.Mathlib.Omega.{arith}
-use borrow.Author.Tests.{eq-eqb, ne-eqb}
+use borrow.Author.Tests.{eqb-true, eqb-false, not-false}
+use lib.Dec.{eqb}
 use lib.ListN.{length}
-use Rattle.packets.specs.declared.Form.{Form}
+use Rattle.wire.proofs.Laws.{true-not-false}
+use Rattle.wire.proofs.Checks.{absent}
 use Rattle.packets.specs.Forms.{wholeOf}
-use Rattle.packets.specs.Numbers.{numberIn}
-use Rattle.packets.specs.Missed.{areSteps, sumOf, missedIn, missedOver}
-use Rattle.packets.proofs.Missed.{is-step, steps-add-up}
+use Rattle.packets.specs.Numbers.{numberAt, stepOf, numberIn}
+use Rattle.packets.specs.Missed.{areSteps, leadsTo, missedOver}
+use Rattle.packets.proofs.Numbers.{number-step}
+use Rattle.packets.proofs.Missed.{step-from, steps-add-up, tested-steps}
 use Rattle.reader.specs.declared.Reader.{Reader}
-use Rattle.reader.specs.declared.Heard.{Heard}
-use Rattle.reader.specs.Reading.{stepTo, readingCode, readingOf, heardAt, hearing}
-use Rattle.reader.specs.Lost.{Follow, Hears, stepsFrom, stepsOf, lastAnswer, TotalIsOfTheSteps, HeardAndMissed, MissedIsTheStepLessOne}
+use Rattle.reader.specs.Reading.{silent, sound, stepTo, readingChecks, readingCode, heardWith, readingOf, afterSlices}
+use Rattle.reader.specs.Lost.{withSlice, numbersAfter, numbersHeard, stepsBetween}
+use Rattle.reader.specs.Lost.{TotalIsOfTheSteps, HeardAndMissed, BrokenByItsTotal, SoundHasSteps}
+use Rattle.reader.proofs.Reading.{heard-within, broken}
 
--- ---- one packet that is accepted
+-- what a reader holds of a capture, by the numbers of its packets
+abbrev Holds : Reader → List ℕ → Type 0
+Holds r [] = (r .heard ≡ false) × (r .position ≡ 0) × (r .total ≡ 0)
+Holds r (t ∷ ts) =
+    (r .heard ≡ true)
+    × (numberAt (r .position) ≡ t)
+    × areSteps (stepsBetween (t ∷ ts))
+    × (leadsTo (stepsBetween (t ∷ ts)) ≡ r .position)
+    × (missedOver (stepsBetween (t ∷ ts)) ≡ r .total)
 
-module _ (r : Reader) (packet : List ℕ) (done : readingCode r packet ≡ 1) where
-  pub accepted-is : readingOf r packet ≡ hearing r (numberIn packet) (wholeOf packet)
-  unfolding readingOf
-  accepted-is = rw done
-
-  pub accepted-first : numberIn packet ≡ 0 → readingOf r packet ≡ heardAt 0 0 0 (wholeOf packet)
-  accepted-first z = accepted-is ∙ rw (eq-eqb (numberIn packet) 0 z)
-
-  pub accepted-next : (numberIn packet ≡ 0 → ⊥)
-      → (let step = stepTo r (numberIn packet) in
-      readingOf r packet ≡ heardAt (r .position + step) (missedIn step) (r .total + missedIn step) (wholeOf packet))
-  accepted-next later = accepted-is ∙ rw (ne-eqb (numberIn packet) 0 later)
-
-pub missed-is-the-step-less-one : MissedIsTheStepLessOne
-missed-is-the-step-less-one r packet done =
-    (λ z. ap (λ (h : Heard). h .missed) (accepted-first r packet done z), λ later. ap (λ (h : Heard). h .missed) (accepted-next r packet done later))
-
--- ---- one after another
-
-steps-are : (r : Reader) (packets : List (List ℕ)) → Follow r packets → areSteps (stepsFrom r packets)
-steps-are r [] f = tt
-steps-are r (packet ∷ packets) f =
-    let some : 0 < numberIn packet = omega (arith, f .0) in
-    (is-step (r .position) (numberIn packet) some (omega arith), steps-are (readingOf r packet .reader) packets (f .2))
-
-steps-count : (r : Reader) (packets : List (List ℕ)) → length (stepsFrom r packets) ≡ length packets
-steps-count r [] = refl
-steps-count r (packet ∷ packets) = omega (arith, steps-count (readingOf r packet .reader) packets)
-
--- what is answered to the last, after a reader's position and total
-answers-from : (r : Reader) (packet : List ℕ) (packets : List (List ℕ)) → Follow r (packet ∷ packets)
-    → (lastAnswer r packet packets .total ≡ r .total + missedOver (stepsFrom r (packet ∷ packets)))
-    × (lastAnswer r packet packets .position ≡ r .position + sumOf (stepsFrom r (packet ∷ packets)))
-answers-from r packet [] f =
-    let is = accepted-next r packet (f .1) (f .0) in
-    (omega (arith, ap (λ (h : Heard). h .total) is), omega (arith, ap (λ (h : Heard). h .position) is))
-answers-from r packet (next ∷ packets) f =
-    let is = accepted-next r packet (f .1) (f .0) in
-    let then′ = answers-from (readingOf r packet .reader) next packets (f .2) in (
-      omega (arith, ap (λ (h : Heard). h .reader .total) is, then′ .0),
-      omega (arith, ap (λ (h : Heard). h .reader .position) is, then′ .1),
+-- a later packet of the open capture
+holds-next : (r : Reader) (packet : List ℕ) (numbers : List ℕ) → Holds r numbers → r .heard ≡ true → 0 < numberIn packet
+    → eqb (numberIn packet) 0 ≡ false
+    → Holds (heardWith r (numberIn packet) (wholeOf packet) .reader) (numberIn packet ∷ numbers)
+holds-next r packet [] h begun some e = absurd (true-not-false (sym begun ∙ h .0))
+holds-next r packet (t ∷ ts) h begun some e =
+    let n = numberIn packet in
+    let step = step-from (r .position) n some (omega arith) in
+    let same : stepOf t n ≡ stepTo r n = ap (λ (s : ℕ). stepOf s n) (sym (h .1)) in
+    rw e (
+      refl,
+      number-step (r .position) n some (omega arith),
+      ((omega (arith, step .0, same), omega (arith, step .1, same)), h .2),
+      omega (arith, h .3, same),
+      omega (arith, h .4, same),
     )
+
+-- any slice
+holds-slice : (r : Reader) (slice numbers : List ℕ) → Holds r numbers → Holds (readingOf r slice .reader) (withSlice r numbers slice)
+unfolding readingOf readingCode
+holds-slice r slice numbers h = by (eqb (readingCode r slice) 1) (eqb (numberIn slice) 0) refl refl
+  where
+    by : (done zeroth : Bool) → eqb (readingCode r slice) 1 ≡ done → eqb (numberIn slice) 0 ≡ zeroth
+        → Holds (readingOf r slice .reader) (withSlice r numbers slice)
+    by false zeroth d e = rw d h
+    by true true d e = rw (d, e) (refl, sym (eqb-true (numberIn slice) 0 e), tt, refl, refl)
+    by true false d e =
+        let none = absent (readingChecks r slice) 1 refl (eqb-true (readingCode r slice) 1 d) in
+        let begun : r .heard ≡ true = not-false (r .heard) (rw e at (none .1 .1 .0)) in
+        rw (d, e) (rw e at (holds-next r slice numbers h begun (omega (arith, eqb-false (numberIn slice) 0 e)) e))
+
+holds-all : (r : Reader) (numbers : List ℕ) (slices : List (List ℕ)) → Holds r numbers
+    → Holds (afterSlices r slices) (numbersAfter r numbers slices)
+holds-all r numbers [] h = h
+holds-all r numbers (slice ∷ slices) h =
+    holds-all (readingOf r slice .reader) (withSlice r numbers slice) slices (holds-slice r slice numbers h)
+
+held : (slices : List (List ℕ)) → Holds (afterSlices silent slices) (numbersHeard slices)
+held slices = holds-all silent [] slices (refl, refl, refl)
+
+-- ---- so
+
+steps-count : (t : ℕ) (ts : List ℕ) → length (stepsBetween (t ∷ ts)) ≡ length ts
+steps-count t [] = refl
+steps-count t (s ∷ ts) = omega (arith, steps-count s ts)
+
+total-of : (r : Reader) (numbers : List ℕ) → Holds r numbers
+    → (r .total ≡ missedOver (stepsBetween numbers)) × (r .position ≡ leadsTo (stepsBetween numbers))
+total-of r [] h = (h .2, h .1)
+total-of r (t ∷ ts) h = (sym (h .4), sym (h .3))
+
+adds-up : (r : Reader) (numbers : List ℕ) → Holds r numbers → r .heard ≡ true → length numbers + r .total ≡ r .position + 1
+adds-up r [] h begun = absurd (true-not-false (sym begun ∙ h .0))
+adds-up r (t ∷ ts) h begun =
+    omega (arith, h .3, h .4, steps-add-up (stepsBetween (t ∷ ts)) (h .2), steps-count t ts)
 
 pub total-is-of-the-steps : TotalIsOfTheSteps
-total-is-of-the-steps r start [] h =
-    let is = accepted-first r start (h .accepted) (h .begins) in
-    (ap (λ (a : Heard). a .total) is, ap (λ (a : Heard). a .position) is)
-total-is-of-the-steps r start (next ∷ packets) h =
-    let is = accepted-first r start (h .accepted) (h .begins) in
-    let then′ = answers-from (readingOf r start .reader) next packets (h .follow) in (
-      omega (arith, ap (λ (a : Heard). a .reader .total) is, then′ .0),
-      omega (arith, ap (λ (a : Heard). a .reader .position) is, then′ .1),
-    )
+total-is-of-the-steps slices = total-of (afterSlices silent slices) (numbersHeard slices) (held slices)
 
 pub heard-and-missed : HeardAndMissed
-heard-and-missed r start packets h =
-    let is = total-is-of-the-steps r start packets h in
-    let after = readingOf r start .reader in
-    omega (arith, is .0, is .1, steps-add-up (stepsOf r start packets) (steps-are after packets (h .follow)), steps-count after packets)
+heard-and-missed slices begun = adds-up (afterSlices silent slices) (numbersHeard slices) (held slices) begun
+
+pub sound-has-steps : SoundHasSteps
+sound-has-steps r fine begun = tested-steps (r .position) (r .total) (heard-within r fine begun .1)
+
+pub broken-by-its-total : BrokenByItsTotal
+broken-by-its-total r packet begun none = sym (broken r packet (by (sound r) refl))
+  where
+    by : (fine : Bool) → sound r ≡ fine → sound r ≡ false
+    by true e = absurd (none (sound-has-steps r e begun))
+    by false e = e

@@ -15,8 +15,9 @@ use Rattle.packets.specs.Forms.{noForm, sameForm, listedForm, wholeOf, isPacket
 use Rattle.packets.specs.Numbers.{numberAt, stepOf, numberIn, last}
 use Rattle.packets.proofs.Forms.{is-listed-form, Whole, whole-is, packet-is}
 use Rattle.reader.specs.declared.Reader.{Reader}
-use Rattle.packets.specs.Missed.{missedIn, couldBeGiven}
-use Rattle.reader.specs.Reading.{sound, stepTo, positionAfter, readingChecks, readingCode, readingOf, heardAt, hearing, unheard, sampleBytesOf}
+use Rattle.packets.specs.Missed.{missedIn, stepsGive}
+use Rattle.reader.specs.Reading.{sound, stepTo, positionAfter, readingChecks, readingCode, readingOf}
+use Rattle.reader.specs.Reading.{heardAt, heardWith, unheard, sampleBytesOf}
 use Rattle.wire.proofs.Checks.{clear}
 
 -- a slice is a packet where the form found has pairs
@@ -50,7 +51,7 @@ pub samples-there : (p : List ℕ) → (wholeOf p .pairs ≡ 0 → ⊥) → take
 samples-there p some = rw (a-packet p some) (take-all (length p - 4) (drop 4 p) (simp length-drop (omega arith)))
 
 -- soundness, of a reader that has heard a packet, by what its tests come to, and of one that has not
-pub heard-sound : (r : Reader) {a b : Bool} → r .heard ≡ true → (leb (r .position) last && couldBeGiven (r .position) (r .total)) ≡ a
+pub heard-sound : (r : Reader) {a b : Bool} → r .heard ≡ true → (leb (r .position) last && stepsGive (r .position) (r .total)) ≡ a
     → listedForm (r .form) ≡ b → sound r ≡ (a && b)
 heard-sound r h p q = rw (h, p, q)
 
@@ -60,10 +61,10 @@ unheard-sound r h p q t = rw (h, p, q, t)
 
 -- "A reader that has heard a packet holds its position (at most 3,999,999,999) and a listed form"
 pub heard-within : (r : Reader) → sound r ≡ true → r .heard ≡ true
-    → (r .position ≤ last) × (couldBeGiven (r .position) (r .total) ≡ true)
+    → (r .position ≤ last) × (stepsGive (r .position) (r .total) ≡ true)
 heard-within r fine begun =
     let near = leb (r .position) last in
-    let steps = couldBeGiven (r .position) (r .total) in
+    let steps = stepsGive (r .position) (r .total) in
     let held = and-left (near && steps) (listedForm (r .form)) (sym (heard-sound r begun refl refl) ∙ fine) in
     (leb-true (r .position) last (and-left near steps held), and-right near steps held)
 
@@ -73,10 +74,10 @@ module _ (r : Reader) (p : List ℕ) where
   refusal c other e = rw (e, ne-eqb c 1 other)
 
   -- none of the five refusals
-  pub packet-taken : sound r ≡ true → isPacket p ≡ true → not (eqb (numberIn p) 0) && not (r .heard) ≡ false
+  packet-taken : sound r ≡ true → isPacket p ≡ true → not (eqb (numberIn p) 0) && not (r .heard) ≡ false
       → not (eqb (numberIn p) 0) && not (sameForm (wholeOf p) (r .form)) ≡ false
       → ltb last (positionAfter r (numberIn p)) ≡ false
-      → readingOf r p ≡ hearing r (numberIn p) (wholeOf p)
+      → readingOf r p ≡ heardWith r (numberIn p) (wholeOf p)
   unfolding readingCode readingOf
   packet-taken a b c d e =
       let one : readingCode r p ≡ 1 = clear (readingChecks r p) 1 (ap not a, (ap not b, (c, (d, (e, tt))))) in

@@ -12,11 +12,12 @@ use Rattle.wire.proofs.Checks.{absent}
 use Rattle.packets.specs.declared.Form.{Form}
 use Rattle.packets.specs.Forms.{listedForm, wholeOf, isPacket}
 use Rattle.packets.specs.Numbers.{numberIn, last}
-use Rattle.packets.specs.Missed.{missedIn, couldBeGiven}
-use Rattle.packets.proofs.Missed.{is-step, given-at-start, given-step}
+use Rattle.packets.specs.Missed.{missedIn, stepsGive}
+use Rattle.packets.proofs.Missed.{step-from, start-given, step-more}
 use Rattle.reader.specs.declared.Reader.{Reader}
 use Rattle.reader.specs.declared.Heard.{Heard}
-use Rattle.reader.specs.Reading.{silent, sound, stepTo, positionAfter, readingChecks, readingCode, heardAt, hearing, readingOf, afterSlices}
+use Rattle.reader.specs.Reading.{silent, sound, stepTo, positionAfter, readingChecks, readingCode}
+use Rattle.reader.specs.Reading.{heardAt, heardWith, readingOf, afterSlices}
 use Rattle.reader.proofs.Reading.{heard-within}
 
 pub silent-sound : sound silent ≡ true
@@ -29,23 +30,25 @@ step-sound : (r : Reader) (number : ℕ) (f : Form) → sound r ≡ true → r .
 step-sound r number f fine begun some small listed near =
     let position = r .position + stepTo r number in
     let total = r .total + missedIn (stepTo r number) in
-    let step = given-step (r .position) (r .total) (stepTo r number) (heard-within r fine begun .1) (is-step (r .position) number some small) in
-    let held = and-both (leb position last) (couldBeGiven position total) (le-leb position last near) step in
-    and-both (leb position last && couldBeGiven position total) (listedForm f) held listed
+    let given = heard-within r fine begun .1 in
+    let step = step-more (r .position) (r .total) (stepTo r number) given (step-from (r .position) number some small) in
+    let held = and-both (leb position last) (stepsGive position total) (le-leb position last near) step in
+    and-both (leb position last && stepsGive position total) (listedForm f) held listed
 
 -- none of the five refusals: the position is not past the last, and the packet's form is listed
 taken-sound : (r : Reader) (slice : List ℕ) → sound r ≡ true → readingCode r slice ≡ 1
-    → sound (hearing r (numberIn slice) (wholeOf slice) .reader) ≡ true
+    → sound (heardWith r (numberIn slice) (wholeOf slice) .reader) ≡ true
 unfolding readingCode
 taken-sound r slice fine one =
     let none = absent (readingChecks r slice) 1 refl one in
     by (eqb (numberIn slice) 0) refl (not-false (isPacket slice) (none .1 .0)) (none .1 .1 .0)
     (ltb-false last (positionAfter r (numberIn slice)) (none .1 .1 .1 .1 .0))
   where
-    by : (zeroth : Bool) → eqb (numberIn slice) 0 ≡ zeroth → isPacket slice ≡ true → (not (eqb (numberIn slice) 0) && not (r .heard)) ≡ false
+    by : (zeroth : Bool) → eqb (numberIn slice) 0 ≡ zeroth → isPacket slice ≡ true
+        → (not (eqb (numberIn slice) 0) && not (r .heard)) ≡ false
         → positionAfter r (numberIn slice) ≤ last
-        → sound (hearing r (numberIn slice) (wholeOf slice) .reader) ≡ true
-    by true e listed lone within = rw (e, given-at-start) listed
+        → sound (heardWith r (numberIn slice) (wholeOf slice) .reader) ≡ true
+    by true e listed lone within = rw (e, start-given) listed
     by false e listed lone within =
         let begun : r .heard ≡ true = not-false (r .heard) (rw e at lone) in
         let some : 0 < numberIn slice = omega (arith, eqb-false (numberIn slice) 0 e) in

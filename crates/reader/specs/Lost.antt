@@ -1,59 +1,57 @@
--- How much was lost (request No. 1 of 02): what the packet reader says of one capture, packet after packet.
+-- How much was lost (request No. 1 of 02): what the packet reader says of a capture, whatever it is handed.
 use Prim.Native.Nat.{ℕ, _+_}
 use mathlib.Core.Bool.{true}
 use mathlib.Core.List.{List, [], _∷_}
 use mathlib.Core.Path.{_≡_}
+use lib.Dec.{eqb}
 use lib.ListN.{length}
+use Rattle.wire.specs.Choice.{pick}
 use Rattle.wire.specs.Codes as Code
-use Rattle.packets.specs.Numbers.{numberIn}
-use Rattle.packets.specs.Missed.{sumOf, missedIn, missedOver}
+use Rattle.packets.specs.Numbers.{stepOf, numberIn}
+use Rattle.packets.specs.Missed.{leadsTo, missedOver, StepsGive}
 use Rattle.reader.specs.declared.Reader.{Reader}
-use Rattle.reader.specs.declared.Heard.{Heard}
-use Rattle.reader.specs.Reading.{sound, stepTo, readingCode, readingOf}
+use Rattle.reader.specs.Reading.{silent, sound, readingCode, unheard, readingOf, afterSlices}
 
--- packets of the open capture: each has a number above 0 and is accepted
-abbrev pub Follow : Reader → List (List ℕ) → Type 0
-Follow r [] = Unit {0}
-Follow r (packet ∷ packets) =
-    (numberIn packet ≡ 0 → ⊥) × (readingCode r packet ≡ Code.done) × Follow (readingOf r packet .reader) packets
+-- The numbers of the packets that a capture has had accepted, the last first: number 0 begins anew, and what is refused is passed
+-- over.
+abbrev pub withSlice : Reader → List ℕ → List ℕ → List ℕ
+withSlice r numbers slice =
+    pick (eqb (readingCode r slice) Code.done) (numberIn slice ∷ pick (eqb (numberIn slice) 0) [] numbers) numbers
 
--- one capture, as a reader hears it that is not broken: a packet numbered 0, and those that follow it
-pub record Hears (r : Reader) (start : List ℕ) (packets : List (List ℕ)) : Type 0 where
-  pub fine : sound r ≡ true
-  pub begins : numberIn start ≡ 0
-  pub accepted : readingCode r start ≡ Code.done
-  pub follow : Follow (readingOf r start .reader) packets
+abbrev pub numbersAfter : Reader → List ℕ → List (List ℕ) → List ℕ
+numbersAfter r numbers [] = numbers
+numbersAfter r numbers (slice ∷ slices) = numbersAfter (readingOf r slice .reader) (withSlice r numbers slice) slices
 
--- "the list of steps", from each of its packets to the next
-abbrev pub stepsFrom : Reader → List (List ℕ) → List ℕ
-stepsFrom r [] = []
-stepsFrom r (packet ∷ packets) = stepTo r (numberIn packet) ∷ stepsFrom (readingOf r packet .reader) packets
+abbrev pub numbersHeard : List (List ℕ) → List ℕ
+numbersHeard slices = numbersAfter silent [] slices
 
-abbrev pub stepsOf : Reader → List ℕ → List (List ℕ) → List ℕ
-stepsOf r start packets = stepsFrom (readingOf r start .reader) packets
+-- "the list of steps": "From number s to number t"
+abbrev pub stepsBetween : List ℕ → List ℕ
+stepsBetween [] = []
+stepsBetween (start ∷ []) = []
+stepsBetween (t ∷ (s ∷ earlier)) = stepOf s t ∷ stepsBetween (s ∷ earlier)
 
--- what is answered to the last of packets
-abbrev pub lastAnswer : Reader → List ℕ → List (List ℕ) → Heard
-lastAnswer r packet [] = readingOf r packet
-lastAnswer r packet (next ∷ packets) = lastAnswer (readingOf r packet .reader) next packets
-
--- "the capture's total. The total is defined from the list of steps": with the last packet, whichever it is, the total of all
--- steps so far is answered, and its position is where they lead.
+-- "the capture's total. The total is defined from the list of steps": after any slices, from a silent reader on, the total is
+-- that of the steps, and they lead to the position. (An accepted packet is answered with the total and the position that the
+-- reader has after it.)
 abbrev pub TotalIsOfTheSteps : Type 0
 TotalIsOfTheSteps =
-    (r : Reader) (start : List ℕ) (packets : List (List ℕ)) → Hears r start packets
-    → (lastAnswer r start packets .total ≡ missedOver (stepsOf r start packets))
-    × (lastAnswer r start packets .position ≡ sumOf (stepsOf r start packets))
+    (slices : List (List ℕ))
+    → (afterSlices silent slices .total ≡ missedOver (stepsBetween (numbersHeard slices)))
+    × (afterSlices silent slices .position ≡ leadsTo (stepsBetween (numbersHeard slices)))
 
 -- "heard plus missed equals positions covered"
 abbrev pub HeardAndMissed : Type 0
 HeardAndMissed =
-    (r : Reader) (start : List ℕ) (packets : List (List ℕ)) → Hears r start packets
-    → length (start ∷ packets) + lastAnswer r start packets .total ≡ lastAnswer r start packets .position + 1
+    (slices : List (List ℕ)) → afterSlices silent slices .heard ≡ true
+    → length (numbersHeard slices) + afterSlices silent slices .total ≡ afterSlices silent slices .position + 1
 
--- "how many were missed just before this packet (step less one; 0 at a start)"
-abbrev pub MissedIsTheStepLessOne : Type 0
-MissedIsTheStepLessOne =
-    (r : Reader) (packet : List ℕ) → readingCode r packet ≡ Code.done
-    → (numberIn packet ≡ 0 → readingOf r packet .missed ≡ 0)
-    × ((numberIn packet ≡ 0 → ⊥) → readingOf r packet .missed ≡ missedIn (stepTo r (numberIn packet)))
+-- "A reader whose total no steps give is broken": 21, and the reader given
+abbrev pub BrokenByItsTotal : Type 0
+BrokenByItsTotal =
+    (r : Reader) (packet : List ℕ) → r .heard ≡ true → (StepsGive (r .position) (r .total) → ⊥)
+    → readingOf r packet ≡ unheard Code.broken r
+
+-- and no other is for its total
+abbrev pub SoundHasSteps : Type 0
+SoundHasSteps = (r : Reader) → sound r ≡ true → r .heard ≡ true → StepsGive (r .position) (r .total)

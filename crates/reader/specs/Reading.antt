@@ -11,7 +11,7 @@ use Rattle.wire.specs.Codes as Code
 use Rattle.packets.specs.declared.Form.{Form}
 use Rattle.packets.specs.Forms.{noForm, sameForm, listedForm, wholeOf, isPacket}
 use Rattle.packets.specs.Numbers.{numberAt, stepOf, numberIn, last}
-use Rattle.packets.specs.Missed.{missedIn, couldBeGiven}
+use Rattle.packets.specs.Missed.{missedIn, stepsGive}
 use Rattle.packets.specs.Samples.{samplesFrom}
 use Rattle.reader.specs.declared.Reader.{Reader}
 use Rattle.reader.specs.declared.Heard.{Heard}
@@ -25,7 +25,7 @@ silent = record { heard = false; position = 0; total = 0; form = noForm }
 -- reader whose total no steps give is broken."
 abbrev pub sound : Reader → Bool
 sound r =
-    pick (r .heard) (leb (r .position) last && couldBeGiven (r .position) (r .total) && listedForm (r .form))
+    pick (r .heard) (leb (r .position) last && stepsGive (r .position) (r .total) && listedForm (r .form))
     (eqb (r .position) 0 && eqb (r .total) 0 && sameForm (r .form) noForm)
 
 -- "From number s to number t above 0 the step is .."
@@ -71,15 +71,15 @@ heardAt position missed total f =
     }
 
 -- a packet of a form that carries a number
-abbrev pub hearing : Reader → ℕ → Form → Heard
-hearing r number f = heardAt (positionAfter r number) (missedBefore r number) (totalAfter r number) f
+abbrev pub heardWith : Reader → ℕ → Form → Heard
+heardWith r number f = heardAt (positionAfter r number) (missedBefore r number) (totalAfter r number) f
 
 abbrev pub unheard : ℕ → Reader → Heard
 unheard code r = record { code = code; position = 0; sample = 0; missed = 0; total = 0; reader = r }
 
 unfoldable pub readingOf : Reader → List ℕ → Heard
 readingOf r packet =
-    pick (eqb (readingCode r packet) Code.done) (hearing r (numberIn packet) (wholeOf packet))
+    pick (eqb (readingCode r packet) Code.done) (heardWith r (numberIn packet) (wholeOf packet))
     (unheard (readingCode r packet) r)
 
 -- The reader that slice after slice makes of one. A slice is anything that it is handed: a packet of any capture, or rubbish.

@@ -54,7 +54,7 @@ pub fn is_sound(r: Reader) -> bool
 {
     let form = r.form;
     if r.heard {
-        if !packets::is_given(r.position, r.total) {
+        if !packets::steps_give(r.position, r.total) {
             return false;
         }
         return packets::is_listed(form);

@@ -8,25 +8,25 @@ use Rattle.wire.specs.Codes as Code
 use Rattle.reader.specs.declared.Reader.{Reader}
 use Rattle.reader.specs.Reading.{silent, readingOf}
 
--- of the last packet heard: the position of its first sample, and how many packets its capture lacks up to it; 0 and 0 where
--- none was heard
+-- of the last packet heard: the position of its first sample, and the total of packets missed in its capture up to it; 0 and 0
+-- where none was heard
 pub record RunRead : Type 0 where
   pub sample : ℕ
-  pub missed : ℕ
+  pub total : ℕ
 
 abbrev pub runRead : ℕ → ℕ → RunRead
-runRead sample missed = record { sample = sample; missed = missed }
+runRead sample total = record { sample = sample; total = total }
 
--- Packets of one length, read one after another: what each accepted packet answers takes the place of what the one before
+-- Packets of so many bytes, read one after another: what an accepted packet answers takes the place of what the one before
 -- did, and the first refusal ends it.
 unfoldable pub heardRun : ℕ → ℕ → Reader → RunRead → List ℕ → RunRead
-heardRun zero total r said rest = said
-heardRun (suc left) total r said rest =
-    pick (eqb (readingOf r (take total rest) .code) Code.done)
-    (heardRun left total (readingOf r (take total rest) .reader)
-    (runRead (readingOf r (take total rest) .sample) (readingOf r (take total rest) .total)) (drop total rest))
+heardRun zero each r said rest = said
+heardRun (suc left) each r said rest =
+    pick (eqb (readingOf r (take each rest) .code) Code.done)
+    (heardRun left each (readingOf r (take each rest) .reader)
+    (runRead (readingOf r (take each rest) .sample) (readingOf r (take each rest) .total)) (drop each rest))
     said
 
 -- of packets of no bytes none is heard
 abbrev pub readRun : ℕ → List ℕ → RunRead
-readRun total packets = pick (eqb total 0) (runRead 0 0) (heardRun (length packets / total) total silent (runRead 0 0) packets)
+readRun each packets = pick (eqb each 0) (runRead 0 0) (heardRun (length packets / each) each silent (runRead 0 0) packets)

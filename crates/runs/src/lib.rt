@@ -6,27 +6,27 @@ ghost use mathlib.Core.Path.{_≡_};
 ghost use Rattle.runs.specs.Cutting.{started, cutRun};
 ghost use Rattle.runs.specs.Reading.{readRun};
 
-// Reads packets of one length one after another by a new reader, to the first that it refuses. Answers the position of the
-// first sample of the last packet heard, and leaves how many packets its capture lacks up to it; both are 0 where none was
-// heard.
+// Reads packets of `each` bytes one after another by a new reader, to the first that it refuses. Answers the position of the
+// first sample of the last packet heard, and leaves the total of packets missed in its capture up to it; both are 0 where
+// none was heard.
 #[no_mangle]
-pub extern "C" fn skvornela_read_run(packets: &[u8], total: usize, missed: &mut u64) -> u64
-    ensures { λ r. ⌜ record { sample = r; missed = now (missed .exit) } ≡ readRun total (now (packets .entry)) ⌝ }
+pub extern "C" fn skvornela_read_run(packets: &[u8], each: usize, total: &mut u64) -> u64
+    ensures { λ r. ⌜ record { sample = r; total = now (total .exit) } ≡ readRun each (now (packets .entry)) ⌝ }
 {
-    if total == 0 {
-        *missed = 0;
+    if each == 0 {
+        *total = 0;
         return 0;
     }
     let mut r = reader::silent();
     let mut sample: u64 = 0;
     let mut lost: u64 = 0;
     let mut at: usize = 0;
-    let mut left = packets.len() / total;
+    let mut left = packets.len() / each;
     while 0 < left {
-        let end = at + total;
+        let end = at + each;
         let h = reader::read(r, &packets[at..end]);
         if h.code != codes::DONE {
-            *missed = lost;
+            *total = lost;
             return sample;
         }
         sample = h.sample;
@@ -36,7 +36,7 @@ pub extern "C" fn skvornela_read_run(packets: &[u8], total: usize, missed: &mut 
         at = end;
         left -= 1;
     }
-    *missed = lost;
+    *total = lost;
     sample
 }
 

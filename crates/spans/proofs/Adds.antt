@@ -1,24 +1,20 @@
 -- Every line `C` adds up, of every input.
-use Prim.Native.Nat.{ℕ, _+_, _≤_}
-use mathlib.Core.Path.{_≡_, refl, sym, ap, _∙_}
-use mathlib.Core.Bool.{Bool, true, false, _&&_, not}
+use Prim.Native.Nat.{ℕ, _+_}
+use mathlib.Core.Path.{_≡_, refl}
+use mathlib.Core.Bool.{Bool, true, false}
 use mathlib.Core.List.{List, [], _∷_, _++_}
-use native.Mathlib.Decide.{ℕ-discrete}
 use native.Mathlib.Omega.{arith}
-use borrow.Author.Tests.{eqb-true}
 use lib.Dec.{eqb}
 use lib.ListN.{length, drop}
-use Rattle.wire.specs.Choice.{pick, check}
 use Rattle.wire.proofs.Laws.{pick-keeps}
-use Rattle.wire.proofs.Checks.{absent, not-given}
-use Rattle.packets.specs.Numbers.{numberIn}
-use Rattle.reader.specs.Reading.{readingChecks, readingCode}
 use Rattle.heads.specs.declared.Head.{Head}
 use Rattle.heads.specs.Head.{headLength, headIn, headReadCode}
 use Rattle.lines.specs.Lines.{Line, openingLine, refusalLine, endLine}
-use Rattle.spans.specs.Report.{Known, nothing, packetsIn, readerAfter, formChecks, packetCode, accepts, knownAfter, lineOf, ended, begins}
-use Rattle.spans.specs.Report.{atPacket, atEnd, atRefusal, linesFrom, linesOf, addsUp, allAddUp, EveryLineAddsUp}
-use Rattle.spans.proofs.Told.{Told, told-adds-up, told-after}
+use Rattle.spans.specs.Report.{Known, nothing, packetsIn, packetCode, accepts}
+use Rattle.spans.specs.Report.{knownAfter, lineOf, ended, begins}
+use Rattle.spans.specs.Report.{atPacket, linesFrom, linesOf, addsUp, allAddUp, EveryLineAddsUp}
+use Rattle.spans.proofs.Stepped.{Stepped, stepped-adds-up}
+use Rattle.spans.proofs.Follows.{accepted-stepped}
 
 -- lines that add up, one behind the other
 both : (ls ms : List Line) → allAddUp ls → allAddUp ms → allAddUp (ls ++ ms)
@@ -34,21 +30,11 @@ refusal-adds code offset e = let z : _≡_ {A = ℕ} 0x52 0x43 = cc in absurd (o
 end-adds : (captures : ℕ) → addsUp (endLine captures)
 end-adds captures e = let z : _≡_ {A = ℕ} 0x45 0x43 = cc in absurd (omega arith)
 
-line-adds : (h : Head) (capture : ℕ) (accepted : List ℕ) → Told accepted → allAddUp (lineOf h capture accepted)
+line-adds : (h : Head) (capture : ℕ) (accepted : List ℕ) → Stepped accepted → allAddUp (lineOf h capture accepted)
 line-adds h capture [] t = tt
-line-adds h capture (last ∷ before) t = (λ e. told-adds-up last before t, tt)
+line-adds h capture (last ∷ before) t = (λ e. stepped-adds-up last before t, tt)
 
--- what is known after an accepted packet is told so again
-accepted-told : (h : Head) (k : Known) (packet : List ℕ) → Told (k .accepted) → packetCode h k packet ≡ 1
-    → Told (knownAfter h k packet .accepted)
-unfolding packetCode readingCode
-accepted-told h k packet t one =
-    let r = readerAfter h (k .accepted) in
-    let read : readingCode r packet ≡ 1 =
-    elim (ℕ-discrete (readingCode r packet) 1) [ yes e ↦ e | no e ↦ absurd (not-given (formChecks h packet) (readingCode r packet) 1 refl e one) ] in
-    told-after h (k .accepted) (numberIn packet) t (omega arith) (absent (readingChecks r packet) 1 refl read .1 .1 .0)
-
-lines-add : (packets : List (List ℕ)) (h : Head) (k : Known) → Told (k .accepted) → allAddUp (linesFrom h k packets)
+lines-add : (packets : List (List ℕ)) (h : Head) (k : Known) → Stepped (k .accepted) → allAddUp (linesFrom h k packets)
 unfolding linesFrom
 lines-add [] h k t = both (ended h k) _ (line-adds h (k .captures) (k .accepted) t) (end-adds (k .captures), tt)
 lines-add (packet ∷ packets) h k t = by (accepts h k packet) refl (lines-add packets h (knownAfter h k packet))
@@ -56,12 +42,13 @@ lines-add (packet ∷ packets) h k t = by (accepts h k packet) refl (lines-add p
     own : allAddUp (ended h k)
     own = line-adds h (k .captures) (k .accepted) t
 
-    by : (done : Bool) → accepts h k packet ≡ done → (Told (knownAfter h k packet .accepted) → allAddUp (linesFrom h (knownAfter h k packet) packets))
+    by : (done : Bool) → accepts h k packet ≡ done
+        → (Stepped (knownAfter h k packet .accepted) → allAddUp (linesFrom h (knownAfter h k packet) packets))
         → allAddUp (linesFrom h k (packet ∷ packets))
     by true e later =
         rw e
         (both (atPacket h k packet) _ (pick-keeps allAddUp (begins packet) (ended h k) [] (λ q. own) (λ q. tt))
-        (later (accepted-told h k packet t (eqb-true (packetCode h k packet) 1 e))))
+        (later (accepted-stepped h k packet e t)))
     by false e later = rw e (both (ended h k) _ own (refusal-adds (packetCode h k packet) (k .offset), tt))
 
 pub every-line-adds-up : EveryLineAddsUp

@@ -9,7 +9,6 @@ use lib.ListN.{length, take}
 use lib.Seq.{sets, length-take-le}
 use borrow.Author.Tests.{lt-ltb, le-ltb, eqb-true, eq-eqb, ne-eqb}
 use Rattle.wire.proofs.Laws.{and-left, and-right, or-rest}
-use Rattle.packets.specs.Numbers.{last}
 use Rattle.packets.proofs.Forms.{is-listed-form}
 use Rattle.heads.specs.declared.Opened.{Opened}
 use Rattle.heads.specs.declared.Head.{Head}

@@ -4,7 +4,7 @@ use mathlib.Core.Path.{_≡_, refl}
 use mathlib.Core.List.{List, [], _∷_, _++_}
 use lib.ListN.{replicate}
 use Rattle.wire.specs.Number.{bytes}
-use Rattle.packets.specs.Missed.{couldBeGiven}
+use Rattle.packets.specs.Missed.{stepsGive}
 use Rattle.reader.specs.Reading.{readingCode}
 use Rattle.heads.specs.declared.Head.{Head}
 use Rattle.heads.specs.Head.{headBytes}
@@ -30,5 +30,5 @@ pub worked-text : report example
     ∷ 0x43 ∷ 0x20 ∷ 0x31 ∷ 0x20 ∷ 0x32 ∷ 0x34 ∷ 0x20 ∷ 0x36 ∷ 0x34 ∷ 0x20 ∷ 0x33 ∷ 0x20 ∷ 0x35
     ∷ 0x20 ∷ 0x33 ∷ 0x32 ∷ 0x30 ∷ 0x20 ∷ 0x31 ∷ 0x36 ∷ 0x30 ∷ 0x30 ∷ 0x20 ∷ 0x32 ∷ 0x0A
     ∷ 0x45 ∷ 0x20 ∷ 0x31 ∷ 0x0A ∷ []
-unfolding headBytes headReadCode linesOf linesFrom packetsIn packetCode readingCode report decimal digitsIn couldBeGiven
+unfolding headBytes headReadCode linesOf linesFrom packetsIn packetCode readingCode report decimal digitsIn stepsGive
 worked-text = refl

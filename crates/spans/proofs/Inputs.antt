@@ -60,7 +60,7 @@ head-code-taken s long =
 -- ---- the whole input
 
 nothing-known : Knows freshTally nothing
-nothing-known = record { came = refl; offset = refl; captures = refl; heard = refl; position = refl; allowed = omega arith; told = tt }
+nothing-known = record { came = refl; offset = refl; captures = refl; heard = refl; position = refl; allowed = omega arith; stepped = tt }
 
 module _ (input : List ℕ) where
   -- the head is cut off

@@ -6,7 +6,8 @@ pub mod Rooms
 pub mod Going
 pub mod Cuts
 pub mod Wholes
-pub mod Told
+pub mod Stepped
 pub mod Reported
+pub mod Follows
 pub mod Adds
 pub mod Inputs

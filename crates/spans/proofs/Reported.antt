@@ -17,7 +17,7 @@ use Rattle.wire.proofs.Lists.{byte-at, bytes-drop}
 use Rattle.packets.specs.declared.Form.{Form}
 use Rattle.packets.specs.Forms.{sameForm, totalOf, listedForm, formWithHeader, wholeOf, isPacket}
 use Rattle.packets.specs.Numbers.{numberAt, stepOf, numberIn, last}
-use Rattle.packets.specs.Missed.{missedOf, couldBeGiven}
+use Rattle.packets.specs.Missed.{missedOf, stepsGive}
 use Rattle.packets.proofs.Numbers.{field-two}
 use Rattle.reader.specs.declared.Reader.{Reader}
 use Rattle.reader.specs.Reading.{sound, positionAfter, readingCode}
@@ -26,7 +26,7 @@ use Rattle.heads.specs.Head.{formIn}
 use Rattle.hearing.specs.declared.Tally.{Tally}
 use Rattle.hearing.specs.declared.Reach.{Reach}
 use Rattle.lines.specs.Lines.{Line, refusalLine}
-use Rattle.spans.specs.Report.{Known, missedIn, lineOf, ended, readerAfter, packetIn, packetCode, begins}
+use Rattle.spans.specs.Report.{Known, missedAmong, lineOf, ended, readerAfter, packetIn, packetCode, begins}
 use Rattle.spans.specs.Report.{knownAfter, packetsIn, atPacket, atEnd, atRefusal, linesFrom}
 use Rattle.hearing.specs.Hearing.{lowHigh, takingByte, formComing, positionNow, lacksFirst, heardCode, accepting, closes, settled, reaching}
 use Rattle.hearing.specs.Inside.{goesOn}
@@ -34,7 +34,7 @@ use Rattle.spans.specs.Eating.{endedNow, heardLines}
 use Rattle.hearing.proofs.Heard.{codeBy, heard-by, settled-by, accepted-fits, accepted-open}
 use Rattle.hearing.proofs.Reaches.{heard-waits, tallied, low-again, reach-whole, packet-parts, total-least}
 use Rattle.spans.proofs.Telling.{endLines, ifOne, byReach, comingBy, coming-wait, coming-due, afterReach, coming-reach, reach-from}
-use Rattle.spans.proofs.Told.{Told, told-adds-up, told-given, told-after}
+use Rattle.spans.proofs.Stepped.{Stepped, stepped-adds-up, stepped-given, stepped-after}
 use Rattle.spans.proofs.Wholes.{formAt, not-whole, packet-length, whole-form, whole-packet}
 
 -- ---- what is known where a packet begins
@@ -52,18 +52,18 @@ pub record Knows (t : Tally) (k : Known) : Type 0 where
   pub heard : t .heard ≡ length (k .accepted)
   pub position : t .position ≡ lastOf (k .accepted)
   pub allowed : t .position ≤ last
-  pub told : Told (k .accepted)
+  pub stepped : Stepped (k .accepted)
 
 -- the line of the open capture
 line-by : (h : Head) (captures : ℕ) (accepted : List ℕ) (t : Tally) → t .captures ≡ captures → t .heard ≡ length accepted
-    → t .position ≡ lastOf accepted → Told accepted → endedNow h t ≡ lineOf h captures accepted
-line-by h captures [] t c n p told = rw n
-line-by h captures (q ∷ qs) t c n p told =
-    let missed : missedOf (length (q ∷ qs)) q ≡ missedIn (q ∷ qs) = omega (arith, told-adds-up q qs told) in
+    → t .position ≡ lastOf accepted → Stepped accepted → endedNow h t ≡ lineOf h captures accepted
+line-by h captures [] t c n p stepped = rw n
+line-by h captures (q ∷ qs) t c n p stepped =
+    let missed : missedOf (length (q ∷ qs)) q ≡ missedAmong (q ∷ qs) = omega (arith, stepped-adds-up q qs stepped) in
     rw (n, c, p, ne-eqb (suc (length qs)) 0 (λ e. omega arith), missed)
 
 pub ended-same : (h : Head) (t : Tally) (k : Known) → Knows t k → endedNow h t ≡ ended h k
-ended-same h t k m = line-by h (k .captures) (k .accepted) t (m .captures) (m .heard) (m .position) (m .told)
+ended-same h t k m = line-by h (k .captures) (k .accepted) t (m .captures) (m .heard) (m .position) (m .stepped)
 
 -- ---- a packet that is cut off, or has no listed header
 
@@ -281,14 +281,15 @@ record Reads (h : Head) (t : Tally) (r : Reader) : Type 0 where
   form : eqb (t .heard) 0 ≡ false → r .form ≡ formIn h
 
 reads-by : (h : Head) (accepted : List ℕ) (t : Tally) → listedForm (formIn h) ≡ true → t .heard ≡ length accepted
-    → t .position ≡ lastOf accepted → t .position ≤ last → Told accepted → Reads h t (readerAfter h accepted)
-reads-by h [] t ok n p near told = record { sounds = refl; quiet = rw n; position = sym p; form = λ e. absurd (true-not-false (rw n at e)) }
-reads-by h (q ∷ qs) t ok n p near told =
-    let given = couldBeGiven q (missedIn (q ∷ qs)) in
+    → t .position ≡ lastOf accepted → t .position ≤ last → Stepped accepted → Reads h t (readerAfter h accepted)
+reads-by h [] t ok n p near stepped =
+    record { sounds = refl; quiet = rw n; position = sym p; form = λ e. absurd (true-not-false (rw n at e)) }
+reads-by h (q ∷ qs) t ok n p near stepped =
+    let given = stepsGive q (missedAmong (q ∷ qs)) in
     record {
       sounds =
           and-both (leb q last && given) (listedForm (formIn h))
-          (and-both (leb q last) given (le-leb q last (omega arith)) (told-given q qs told)) ok;
+          (and-both (leb q last) given (le-leb q last (omega arith)) (stepped-given q qs stepped)) ok;
       quiet = rw n (sym (ne-eqb (suc (length qs)) 0 (λ e. omega arith)));
       position = sym p;
       form = λ e. refl;
@@ -354,7 +355,7 @@ module _ (h : Head) (t : Tally) (k : Known) (m : Knows t k) (own : listedForm (f
   r = readerAfter h (k .accepted)
 
   reader : Reads h t r
-  reader = reads-by h (k .accepted) t own (m .heard) (m .position) (m .allowed) (m .told)
+  reader = reads-by h (k .accepted) t own (m .heard) (m .position) (m .allowed) (m .stepped)
 
   pub position-same : positionAfter r (numberIn packet) ≡ positionNow w
   position-same =
@@ -399,7 +400,7 @@ module _ (h : Head) (t : Tally) (k : Known) (m : Knows t k) (own : listedForm (f
             ∙ ap (λ (x : ℕ). suc (length (pick (eqb x 0) [] (k .accepted)))) (sym number-same);
         position = sym position-same;
         allowed = accepted-fits (formIn h) w one;
-        told = told-after h (k .accepted) (numberIn packet) (m .told) (omega arith) (lone ∙ accepted-open (formIn h) w one);
+        stepped = stepped-after h (k .accepted) (numberIn packet) (m .stepped) (omega arith) (lone ∙ accepted-open (formIn h) w one);
       }
     where
       counts : (zero′ : Bool) (l : List ℕ) → pick zero′ 1 (length l + 1) ≡ suc (length (pick zero′ [] l))

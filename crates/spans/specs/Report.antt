@@ -14,7 +14,7 @@ use Rattle.packets.specs.Forms.{sameForm, totalOf, formWithHeader, wholeOf, isP
 use Rattle.packets.specs.Numbers.{numberIn}
 use Rattle.packets.specs.Missed.{missedOver}
 use Rattle.reader.specs.declared.Reader.{Reader}
-use Rattle.reader.specs.Reading.{silent, positionAfter, readingCode}
+use Rattle.reader.specs.Reading.{silent, positionAfter, readingCode, readingOf}
 use Rattle.heads.specs.declared.Head.{Head}
 use Rattle.heads.specs.Head.{headLength, formIn, headIn}
 use Rattle.heads.specs.Head.{headReadCode}
@@ -53,14 +53,14 @@ stepsOver (start ∷ []) = []
 stepsOver (next ∷ (before ∷ earlier)) = (next - before) ∷ stepsOver (before ∷ earlier)
 
 -- "missed packets": the capture's total, "defined from the list of steps"
-abbrev pub missedIn : List ℕ → ℕ
-missedIn accepted = missedOver (stepsOver accepted)
+abbrev pub missedAmong : List ℕ → ℕ
+missedAmong accepted = missedOver (stepsOver accepted)
 
 -- the packet reader after the packets accepted
 abbrev pub readerAfter : Head → List ℕ → Reader
 readerAfter h [] = silent
 readerAfter h (last ∷ before) =
-    record { heard = true; position = last; total = missedIn (last ∷ before); form = formIn h }
+    record { heard = true; position = last; total = missedAmong (last ∷ before); form = formIn h }
 
 -- ---- one packet
 
@@ -97,7 +97,7 @@ knownAfter h k packet =
 abbrev pub lineOf : Head → ℕ → List ℕ → List Line
 lineOf h capture [] = []
 lineOf h capture (last ∷ before) =
-    captureLine (formIn h) (h .divisor) capture (length (last ∷ before)) last (missedIn (last ∷ before)) ∷ []
+    captureLine (formIn h) (h .divisor) capture (length (last ∷ before)) last (missedAmong (last ∷ before)) ∷ []
 
 -- the open capture's line
 abbrev pub ended : Head → Known → List Line
@@ -134,7 +134,13 @@ linesOf input =
 unfoldable pub report : List ℕ → List ℕ
 report input = textOf (linesOf input)
 
--- ---- what is proved of it: proofs/Adds
+-- ---- what is proved of it: proofs/Adds, proofs/Follows
+
+-- An accepted packet leaves the reader that the packet reader has after it: so a line's missed packets are the reader's total.
+abbrev pub FollowsTheReader : Type 0
+FollowsTheReader =
+    (h : Head) (k : Known) (packet : List ℕ) → accepts h k packet ≡ true
+    → readerAfter h (knownAfter h k packet .accepted) ≡ readingOf (readerAfter h (k .accepted)) packet .reader
 
 -- "heard plus missed equals positions covered": of a line `C` the fourth number and the last make the fifth
 abbrev pub addsUp : Line → Type 0

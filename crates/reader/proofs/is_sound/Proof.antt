@@ -3,9 +3,9 @@ use mathlib.Core.Path.{_≡_, refl, sym, ap, _∙_}
 use mathlib.Core.Bool.{Bool, _&&_}
 use lib.Dec.{leb}
 use borrow.Author.Tests.{not-true, not-false, eq-eqb, ne-eqb}
-use Rattle.packets.specs.Forms.{sameForm, listedForm}
+use Rattle.packets.specs.Forms.{sameForm}
 use Rattle.packets.specs.Numbers.{last}
-use Rattle.packets.specs.Missed.{couldBeGiven}
+use Rattle.packets.specs.Missed.{stepsGive}
 use Rattle.reader.specs.declared.Reader.{Reader}
 use Rattle.reader.proofs.Reading.{heard-sound, unheard-sound}
 use borrow.Author.Needs.{needs}
@@ -13,19 +13,19 @@ use Rattle.reader.proofs.is_sound.Statement.{statement}
 use Rattle.reader.proofs.is_sound.Tie as tie
 
 -- the reader has heard a packet, and position and total are looked at
-abbrev heard : tie.After-is-given → Reader
+abbrev heard : tie.After-steps-give → Reader
 heard c = c .before .before .before .args .r
 
-given : (c : tie.After-is-given) {a : Bool} → c .is-given .result ≡ a
-    → (leb (heard c .position) last && couldBeGiven (heard c .position) (heard c .total)) ≡ a
-given c p = sym (c .is-given .ensures) ∙ p
+given : (c : tie.After-steps-give) {a : Bool} → c .steps-give .result ≡ a
+    → (leb (heard c .position) last && stepsGive (heard c .position) (heard c .total)) ≡ a
+given c p = sym (c .steps-give .ensures) ∙ p
 
 -- it has not
 abbrev silent : tie.Else1 → Reader
 silent c = c .before .before .args .r
 
-is-given-requires : tie.Need-is-given-requires
-is-given-requires c κs = search needs
+steps-give-requires : tie.Need-steps-give-requires
+steps-give-requires c κs = search needs
 
 returns : tie.Need-returns
 returns c =
@@ -72,7 +72,7 @@ pub is-sound-spec : {M : Type 1} → statement M
 is-sound-spec =
     tie.close
     (tie.spec
-    is-given-requires
+    steps-give-requires
     returns
     is-listed-requires
     returns-2

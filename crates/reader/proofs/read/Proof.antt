@@ -9,7 +9,7 @@ use borrow.Author.Needs.{needs}
 use Rattle.packets.specs.declared.Form.{Form}
 use Rattle.packets.specs.Forms.{wholeOf, sameForm}
 use Rattle.packets.specs.Numbers.{numberIn, numberAt, stepOf}
-use Rattle.packets.proofs.Missed.{is-step, given-within}
+use Rattle.packets.proofs.Missed.{step-from, steps-give-within}
 use Rattle.reader.specs.declared.Reader.{Reader}
 use Rattle.reader.specs.Reading.{sound, heardAt}
 use Rattle.reader.proofs.Reading.{pairs-few, heard-within, broken, no-slice, first, unbegun, changed, past, next}
@@ -92,13 +92,13 @@ further c =
     let h = place (c .before) in
     let n = numberIn (slice h) in
     let some : 0 < n = omega (arith, later (later-at h)) in
-    let s = is-step (given h .position) n some (omega arith) in
+    let s = step-from (given h .position) n some (omega arith) in
     (omega (arith, leads c, s .0), omega (arith, leads c, s .1))
 
 few-missed : (h : tie.Else4) → given h .total ≤ given h .position
 few-missed h =
     let r = given h in
-    given-within (r .position) (r .total) (heard-within r (fine (sound-at (packet-at (later-at h)))) (begun h) .1) .0
+    steps-give-within (r .position) (r .total) (heard-within r (fine (sound-at (packet-at (later-at h)))) (begun h) .1) .0
 
 is-sound-requires : tie.Need-is-sound-requires
 is-sound-requires c κs = search needs

@@ -13,18 +13,18 @@ use Rattle.runs.proofs.skvornela_read_run.Statement.{statement}
 use Rattle.runs.proofs.skvornela_read_run.Tie as tie
 
 abbrev Inv-loop : tie.InvT-loop
-Inv-loop packets total missed₀ r₀ sample₀ lost₀ at₀ left₀ missed r sample lost at left =
-    (at + left * total ≤ length packets) × (heardRun left total r (runRead sample lost) (drop at packets) ≡ readRun total packets)
+Inv-loop packets each total₀ r₀ sample₀ lost₀ at₀ left₀ total r sample lost at left =
+    (at + left * each ≤ length packets) × (heardRun left each r (runRead sample lost) (drop at packets) ≡ readRun each packets)
 
 abbrev μ-loop : tie.MeasureT-loop
-μ-loop packets total missed₀ r₀ sample₀ lost₀ at₀ left₀ missed r sample lost at left = left
+μ-loop packets each total₀ r₀ sample₀ lost₀ at₀ left₀ total r sample lost at left = left
 
 -- the call's arguments, from the loop
 abbrev from : tie.At-loop Inv-loop μ-loop → tie.Start Inv-loop μ-loop
 from l = l .before .before .before .before
 
 returns : tie.Need-returns Inv-loop μ-loop
-returns c = rw (eq-eqb (c .before .before .args .total) 0 (c .if1 .taken))
+returns c = rw (eq-eqb (c .before .before .args .each) 0 (c .if1 .taken))
 
 silent-requires : tie.Need-silent-requires Inv-loop μ-loop
 silent-requires c κs = search needs
@@ -35,11 +35,11 @@ div-left c = search needs
 loop-holds : tie.Need-loop-holds Inv-loop μ-loop
 loop-holds c =
     let a = c .before .before .before .args in
-    let fits : length (a .packets .now) / a .total * a .total ≤ length (a .packets .now) = div-mul-le-self _ _ in
-    (omega arith, rw (c .silent .ensures, ne-eqb (a .total) 0 (c .before .if1 .left)))
+    let fits : length (a .packets .now) / a .each * a .each ≤ length (a .packets .now) = div-mul-le-self _ _ in
+    (omega arith, rw (c .silent .ensures, ne-eqb (a .each) 0 (c .before .if1 .left)))
 
 add-end : tie.Need-add-end Inv-loop μ-loop
-add-end c = omega (arith, one-more (c .before .loop .left) (from (c .before) .args .total) (omega arith))
+add-end c = omega (arith, one-more (c .before .loop .left) (from (c .before) .args .each) (omega arith))
 
 sub-read : tie.Need-sub-read Inv-loop μ-loop
 sub-read c = search needs
@@ -48,7 +48,7 @@ part-read-start : tie.Need-part-read-start Inv-loop μ-loop
 part-read-start c = search needs
 
 part-read-end : tie.Need-part-read-end Inv-loop μ-loop
-part-read-end c = omega (arith, one-more (c .before .loop .left) (from (c .before) .args .total) (omega arith))
+part-read-end c = omega (arith, one-more (c .before .loop .left) (from (c .before) .args .each) (omega arith))
 
 read-requires : tie.Need-read-requires Inv-loop μ-loop
 read-requires c κs = search needs
@@ -62,11 +62,11 @@ start c = from (turn c)
 
 -- the part that is read is the next packet
 heard : (c : tie.After-read Inv-loop μ-loop)
-    → c .read .result ≡ readingOf (turn c .loop .r) (take (start c .args .total) (drop (turn c .loop .at) (start c .args .packets .now)))
+    → c .read .result ≡ readingOf (turn c .loop .r) (take (start c .args .each) (drop (turn c .loop .at) (start c .args .packets .now)))
 heard c =
     let l = turn c .loop in
-    let total = start c .args .total in
-    let part : l .at + total - l .at ≡ total = omega arith in
+    let each = start c .args .each in
+    let part : l .at + each - l .at ≡ each = omega arith in
     rw part at (c .read .ensures)
 
 returns-2 : tie.Need-returns-2 Inv-loop μ-loop
@@ -74,7 +74,7 @@ returns-2 c =
     let read = c .before .before in
     let l = turn read .loop in
     let a = start read .args in
-    run-refused (l .left) (a .total) (l .at) (l .r) (runRead (l .sample) (l .lost)) (a .packets .now) (read .read .result) (omega arith)
+    run-refused (l .left) (a .each) (l .at) (l .r) (runRead (l .sample) (l .lost)) (a .packets .now) (read .read .result) (omega arith)
     (heard read) (c .if2 .taken) (l .inv .1)
 
 sub-left : tie.Need-sub-left Inv-loop μ-loop
@@ -89,8 +89,8 @@ loop-again c =
     let l = turn read .loop in
     let a = start read .args in
     let some : 0 < l .left = omega arith in (
-      omega (arith, one-more (l .left) (a .total) some),
-      run-heard (l .left) (a .total) (l .at) (l .r) (runRead (l .sample) (l .lost)) (a .packets .now) (read .read .result) some
+      omega (arith, one-more (l .left) (a .each) some),
+      run-heard (l .left) (a .each) (l .at) (l .r) (runRead (l .sample) (l .lost)) (a .packets .now) (read .read .result) some
           (heard read) (c .before .if2 .left) (l .inv .1),
     )
 
@@ -98,7 +98,7 @@ returns-3 : tie.Need-returns-3 Inv-loop μ-loop
 returns-3 c =
     let l = c .before .loop in
     let a = from (c .before) .args in
-    run-over (l .left) (a .total) (l .r) (runRead (l .sample) (l .lost)) (drop (l .at) (a .packets .now)) (omega arith) (l .inv .1)
+    run-over (l .left) (a .each) (l .r) (runRead (l .sample) (l .lost)) (drop (l .at) (a .packets .now)) (omega arith) (l .inv .1)
 
 pub skvornela-read-run-spec : {M : Type 1} → statement M
 skvornela-read-run-spec =

@@ -146,12 +146,12 @@ impl Comparison<'_> {
         self.note("serve", 1, (done, ours), (other, theirs), || format!("host {host:02X?} room {room}"));
     }
 
-    fn read_run(&mut self, packets: &[u8], total: usize) {
-        let done = self.plain.read_run(packets, total);
-        let other = self.other.read_run(packets, total);
+    fn read_run(&mut self, packets: &[u8], each: usize) {
+        let done = self.plain.read_run(packets, each);
+        let other = self.other.read_run(packets, each);
         self.note("read run", 1, done, other, || {
-            let starts = packets.chunks(total.max(1)).map(|packet| &packet[..packet.len().min(4)]);
-            format!("packets of {total} in {} {:02X?}", packets.len(), starts.collect::<Vec<_>>())
+            let starts = packets.chunks(each.max(1)).map(|packet| &packet[..packet.len().min(4)]);
+            format!("packets of {each} in {} {:02X?}", packets.len(), starts.collect::<Vec<_>>())
         });
     }
 
@@ -265,8 +265,8 @@ fn random_runs(c: &mut Comparison, r: &mut Random, times: u64) {
         let capture = inputs::capture(r);
         let packets = capture.get(head::LENGTH..).unwrap_or_default();
         let form = packets.first_chunk().and_then(|&header| Form::of_header(header)).unwrap_or(Form::LARGE_24);
-        let total = if r.once_in(12) { r.of(&[0, 1, 4, form.total() - 1, form.total() + 1]) } else { form.total() };
-        c.read_run(packets, total);
+        let each = if r.once_in(12) { r.of(&[0, 1, 4, form.total() - 1, form.total() + 1]) } else { form.total() };
+        c.read_run(packets, each);
     }
 }
 

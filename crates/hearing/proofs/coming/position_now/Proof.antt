@@ -6,7 +6,7 @@ use mathlib.Core.Path.{ap, _∙_}
 use native.Mathlib.Omega.{arith}
 use Rattle.packets.specs.Numbers.{stepOf}
 use Rattle.packets.proofs.Numbers.{number-le}
-use Rattle.hearing.proofs.Heard.{step-small}
+use Rattle.packets.proofs.Missed.{is-step}
 use Rattle.hearing.proofs.coming.position_now.Statement.{statement}
 use Rattle.hearing.proofs.coming.position_now.Tie as tie
 
@@ -25,7 +25,8 @@ add-result c =
     let n = s .before in
     let a = n .before .before .before .args in
     let small : n .number-at-position .result ≤ 65_535 = omega (arith, n .number-at-position .ensures, number-le (a .t .position)) in
-    omega (arith, s .step .ensures, step-small (n .number-at-position .result) (a .t .number) small (omega arith))
+    let step = is-step (n .number-at-position .result) (a .t .number) small (omega arith) (omega arith) in
+    omega (arith, s .step .ensures, step .1)
 
 returns-2 : tie.Need-returns-2
 returns-2 c =

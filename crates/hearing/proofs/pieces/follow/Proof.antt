@@ -8,7 +8,8 @@ use denote.Ref.{now}
 use lib.ListN.{getD}
 use Rattle.packets.specs.Numbers.{stepOf}
 use Rattle.hearing.specs.Inside.{twoAt}
-use Rattle.hearing.proofs.Heard.{step-small, word-header, word-number}
+use Rattle.hearing.proofs.Heard.{word-header, word-number}
+use Rattle.packets.proofs.Missed.{is-step}
 use Rattle.hearing.proofs.pieces.follow.Statement.{statement}
 use Rattle.hearing.proofs.pieces.follow.Tie as tie
 
@@ -49,7 +50,8 @@ step-requires c κs = search needs
 add-next : tie.Need-add-next
 add-next c =
     let w = c .before .before .before in
-    omega (arith, c .step .ensures, step-small (start w .args .«before») (w .word-at .result / 65536) (omega arith) (omega arith))
+    let some : 0 < w .word-at .result / 65536 = omega (arith, c .before .if3 .left) in
+    omega (arith, c .step .ensures, is-step (start w .args .«before») (w .word-at .result / 65536) (omega arith) some (omega arith) .1)
 
 returns-4 : tie.Need-returns-4
 returns-4 c = search needs

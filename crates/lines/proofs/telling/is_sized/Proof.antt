@@ -18,8 +18,8 @@ returns-3 : tie.Need-returns-3
 returns-3 c =
     let few = c .before .before in
     let near = few .before .before in
-    sym
-    (sized-by (near .before .before .args .d) (le-leb _ _ (near .if1 .left)) (le-leb _ _ (few .if2 .left)) (lt-leb _ _ (c .if3 .taken)) refl)
+    let d = near .before .before .args .d in
+    sym (sized-by d (le-leb _ _ (near .if1 .left)) (le-leb _ _ (few .if2 .left)) (lt-leb _ _ (c .if3 .taken)) refl)
 
 add-result : tie.Need-add-result
 add-result c = omega arith
@@ -29,8 +29,8 @@ returns-4 c =
     let low = c .before .before in
     let few = low .before .before in
     let near = few .before .before in
-    sym
-    (sized-by (near .before .before .args .d) (le-leb _ _ (near .if1 .left)) (le-leb _ _ (few .if2 .left)) (le-leb _ _ (low .if3 .left)) refl)
+    let d = near .before .before .args .d in
+    sym (sized-by d (le-leb _ _ (near .if1 .left)) (le-leb _ _ (few .if2 .left)) (le-leb _ _ (low .if3 .left)) refl)
 
 pub is-sized-spec : {M : Type 1} → statement M
 is-sized-spec = tie.close (tie.spec returns returns-2 returns-3 add-result returns-4)

@@ -63,7 +63,8 @@ next c = ap (λ (o : Outcome). o .next) (heard c) ∙ ap nextTally (sym (reached
 
 counted : (c : tie.After-hear) → Counted (reach c .tally)
 counted c =
-    let before = range-sane (given c .tally) (0 + length (piece c)) (start c .pre .1) (omega (arith, start c .good)) (omega (arith, start c .good)) in
+    let good = start c .good in
+    let before = range-sane (given c .tally) (0 + length (piece c)) (start c .pre .1) (omega (arith, good)) (omega (arith, good)) in
     let sane = reach-sane (piece c) 0 0 (formIn (head c)) (given c .tally) before in
     subst (λ (r : Reach). Counted (r .tally)) (sym (reached c)) (sane .counted)
 
