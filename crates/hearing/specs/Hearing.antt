@@ -11,8 +11,7 @@ use Rattle.packets.specs.declared.Form.{Form}
 use Rattle.packets.specs.Forms.{sameForm, totalOf, listedForm, formWithHeader}
 use Rattle.packets.specs.Numbers.{last}
 use Rattle.packets.specs.Missed.{missedOf, stepsGive}
-use Rattle.reader.specs.declared.Reader.{Reader}
-use Rattle.reader.specs.Reading.{positionAfter}
+use Rattle.reader.specs.Reading.{positionFrom}
 use Rattle.hearing.specs.declared.Tally.{Tally}
 use Rattle.hearing.specs.declared.Reach.{Reach}
 use Rattle.hearing.specs.declared.Outcome.{Outcome}
@@ -65,19 +64,9 @@ takingByte t b =
 abbrev pub formComing : Tally → Form
 formComing t = formWithHeader (t .header)
 
--- the packet reader in the open capture
-abbrev pub readerNow : Tally → Reader
-readerNow t =
-    record {
-      heard = not (eqb (t .heard) 0);
-      position = t .position;
-      total = pick (eqb (t .heard) 0) 0 (missedOf (t .heard) (t .position));
-      form = formComing t;
-    }
-
--- the position that the packet has
+-- the position that the packet has, as the packet reader has it
 abbrev pub positionNow : Tally → ℕ
-positionNow t = positionAfter (readerNow t) (t .number)
+positionNow t = positionFrom (t .position) (t .number)
 
 -- "no packet numbered 0 yet": its number is above 0, and no capture is open
 abbrev pub lacksFirst : Tally → Bool

@@ -10,7 +10,7 @@ use lib.ListN.{length}
 use borrow.Author.Tests.{le-leb, leb-true}
 use Rattle.wire.proofs.Laws.{and-left, and-right, and-both}
 use Rattle.packets.specs.Numbers.{numberAt, stepOf, last}
-use Rattle.packets.specs.Missed.{isStep, areSteps, leadsTo, missedIn, missedOver, StepsGive, stepsGive}
+use Rattle.packets.specs.Missed.{isStep, areSteps, leadsTo, stepsBy, missedIn, missedOver, StepsGive, stepsGive}
 use Rattle.packets.proofs.Numbers.{number-le, step-above, step-not-above}
 
 -- from one number to another above 0 there is a step
@@ -26,9 +26,18 @@ pub step-from : (p t : ℕ) → 0 < t → t ≤ 65_535 → isStep (stepOf (numbe
 step-from p t some small = is-step (numberAt p) t (number-le p) some small
 
 -- "heard plus missed equals positions covered": each step is to one packet that was heard
-pub steps-add-up : (steps : List ℕ) → areSteps steps → length steps + missedOver steps ≡ leadsTo steps
+steps-add-up : (steps : List ℕ) → areSteps steps → length steps + missedOver steps ≡ leadsTo steps
 steps-add-up [] a = refl
 steps-add-up (step ∷ steps) a = omega (arith, a .0 .0, steps-add-up steps (a .1))
+
+steps-count : (step : ℕ → ℕ → ℕ) (t : ℕ) (ts : List ℕ) → length (stepsBy step (t ∷ ts)) ≡ length ts
+steps-count step t [] = refl
+steps-count step t (s ∷ ts) = omega (arith, steps-count step s ts)
+
+-- of the packets themselves, the first of them at position 0
+pub heard-add-up : (step : ℕ → ℕ → ℕ) (t : ℕ) (ts : List ℕ) → areSteps (stepsBy step (t ∷ ts))
+    → length (t ∷ ts) + missedOver (stepsBy step (t ∷ ts)) ≡ leadsTo (stepsBy step (t ∷ ts)) + 1
+heard-add-up step t ts a = omega (arith, steps-add-up (stepsBy step (t ∷ ts)) a, steps-count step t ts)
 
 steps-reach : (steps : List ℕ) → areSteps steps → leadsTo steps ≤ 65_535 * length steps
 steps-reach [] a = omega arith

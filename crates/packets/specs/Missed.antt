@@ -18,6 +18,13 @@ abbrev pub leadsTo : List ℕ → ℕ
 leadsTo [] = 0
 leadsTo (step ∷ steps) = step + leadsTo steps
 
+-- "the list of steps", from each packet that was heard to the one heard next, the last first: by what is known of the packets, and how
+-- it tells the step from one to another
+abbrev pub stepsBy : (ℕ → ℕ → ℕ) → List ℕ → List ℕ
+stepsBy step [] = []
+stepsBy step (start ∷ []) = []
+stepsBy step (next ∷ (before ∷ earlier)) = step before next ∷ stepsBy step (before ∷ earlier)
+
 -- "how many were missed just before this packet (step less one ..)"
 abbrev pub missedIn : ℕ → ℕ
 missedIn step = step - 1

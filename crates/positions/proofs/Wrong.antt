@@ -6,6 +6,7 @@ use mathlib.Core.Path.{_≡_, refl, sym, ap, _∙_}
 use mathlib.Core.List.{List, [], _∷_, map}
 use native.Mathlib.Omega.{arith}
 use lib.ListN.{length}
+use Rattle.wire.specs.Codes as Code
 use Rattle.packets.specs.declared.Form.{Form}
 use Rattle.packets.specs.Numbers.{numberAt, numberIn}
 use Rattle.packets.proofs.Missed.{step-from}
@@ -123,19 +124,21 @@ rules-followed rule r packet = refl
 abbrev lossOf : ℕ → ℕ → Loss
 lossOf k t = record { before = k; inAll = t }
 
--- What a reader that counts says where the second of four packets is lost: at the third, that one was missed; at the fourth, none,
--- and one in all.
+-- What a reader that meets demand 3 and counts says where the second of four packets is lost: at the third, that one was missed; at
+-- the fourth, none, and one in all.
 record SecondLost (read : WayToRead) : Type 0 where
   before-third : Reader
   third : List ℕ
   before-fourth : Reader
   fourth : List ℕ
+  third-taken : read before-third third .code ≡ Code.done
   at-third : lossIn (read before-third third) ≡ lossOf 1 1
+  fourth-taken : read before-fourth fourth .code ≡ Code.done
   at-fourth : lossIn (read before-fourth fourth) ≡ lossOf 0 1
   number : numberIn fourth ≡ 3
 
-second-lost : (read : WayToRead) → CountsLosses read → SecondLost read
-second-lost read counts = let c = captures-exist 4 (omega arith) in four (c .0) (c .1) (c .2)
+second-lost : (read : WayToRead) → GivesExactPositions read → CountsLosses read → SecondLost read
+second-lost read exact counts = let c = captures-exist 4 (omega arith) in four (c .0) (c .1) (c .2)
   where
     four : (packets : List (List ℕ)) → Capture (running 0) packets → length packets ≡ 4 → SecondLost read
     four [] c l = absurd (omega arith)
@@ -144,45 +147,54 @@ second-lost read counts = let c = captures-exist 4 (omega arith) in four (c .0) 
     four (p ∷ q ∷ x ∷ []) c l = absurd (omega arith)
     four (p ∷ q ∷ x ∷ y ∷ ps) c l =
         let fates = arrives ∷ lost ∷ arrives ∷ arrives ∷ [] in
+        let f = formNow (running 0 .settings) in
+        let few : allowedLosses fates = (omega arith, (omega arith, tt)) in
+        let taken : map saidIn (answersBy read silent (p ∷ x ∷ y ∷ [])) ≡ takenAt f 0 ∷ takenAt f 2 ∷ takenAt f 3 ∷ [] =
+        exact silent silent-sound (running 0) (p ∷ q ∷ x ∷ y ∷ ps) c fates few in
         let says : map lossIn (answersBy read silent (p ∷ x ∷ y ∷ [])) ≡ lossOf 0 0 ∷ lossOf 1 1 ∷ lossOf 0 1 ∷ [] =
-        counts silent silent-sound (running 0) (p ∷ q ∷ x ∷ y ∷ ps) c fates (omega arith, (omega arith, tt)) in
+        counts silent silent-sound (running 0) (p ∷ q ∷ x ∷ y ∷ ps) c fates few in
+        let third : saidIn (read (read silent p .reader) x) ≡ takenAt f 2 = cc in
+        let fourth : saidIn (read (read (read silent p .reader) x .reader) y) ≡ takenAt f 3 = cc in
         record {
           before-third = read silent p .reader;
           third = x;
           before-fourth = read (read silent p .reader) x .reader;
           fourth = y;
+          third-taken = ap (λ (s : Said). s .code) third;
           at-third = cc;
+          fourth-taken = ap (λ (s : Said). s .code) fourth;
           at-fourth = cc;
           number = from-start c .1 .1 .1 .0 .number;
         }
 
 -- a reader that always says that none was missed
-pub none-missed-fails : (read : WayToRead) → MissedBy alwaysZero read → CountsLosses read → ⊥
-none-missed-fails read follows counts =
-    let w = second-lost read counts in
-    omega (arith, follows (w .before-third) (w .third), ap (λ (l : Loss). l .before) (w .at-third))
+pub none-missed-fails : (read : WayToRead) → MissedBy alwaysZero read → GivesExactPositions read → CountsLosses read → ⊥
+none-missed-fails read follows exact counts =
+    let w = second-lost read exact counts in
+    omega (arith, follows (w .before-third) (w .third) (w .third-taken), ap (λ (l : Loss). l .before) (w .at-third))
 
 -- a reader that says the step, which is never 0
-pub step-for-missed-fails : (read : WayToRead) → MissedBy stepForMissed read → CountsLosses read → ⊥
-step-for-missed-fails read follows counts =
-    let w = second-lost read counts in
+pub step-for-missed-fails : (read : WayToRead) → MissedBy stepForMissed read → GivesExactPositions read → CountsLosses read → ⊥
+step-for-missed-fails read follows exact counts =
+    let w = second-lost read exact counts in
     let r = w .before-fourth in
-    let says = rw (w .number) at (follows r (w .fourth)) in
+    let says = rw (w .number) at (follows r (w .fourth) (w .fourth-taken)) in
     omega (arith, says, ap (λ (l : Loss). l .before) (w .at-fourth), step-from (r .position) 3 (omega arith) (omega arith) .0)
 
 -- a reader whose total is of this packet only
-pub total-of-one-fails : (read : WayToRead) → TotalOfOne read → CountsLosses read → ⊥
-total-of-one-fails read follows counts =
-    let w = second-lost read counts in
+pub total-of-one-fails : (read : WayToRead) → TotalOfOne read → GivesExactPositions read → CountsLosses read → ⊥
+total-of-one-fails read follows exact counts =
+    let w = second-lost read exact counts in
+    let same = follows (w .before-fourth) (w .fourth) (w .fourth-taken) in
     let says = w .at-fourth in
-    omega (arith, follows (w .before-fourth) (w .fourth), ap (λ (l : Loss). l .before) says, ap (λ (l : Loss). l .inAll) says)
+    omega (arith, same, ap (λ (l : Loss). l .before) says, ap (λ (l : Loss). l .inAll) says)
 
 -- There are such readers, and demand 3 does not reject them: whatever is said to be lost, the positions are exact.
 pub missed-rules-followed : (rule : ℕ → ℕ → ℕ) → MissedBy rule (missingBy rule)
-missed-rules-followed rule r packet = refl
+missed-rules-followed rule r packet taken = refl
 
 pub total-of-one-said : TotalOfOne totallingOne
-total-of-one-said r packet = refl
+total-of-one-said r packet taken = refl
 
 said-alike : (says : Reader → List ℕ → Loss) (r : Reader) (ps : List (List ℕ))
     → map saidIn (answersBy (sayingLost says) r ps) ≡ map saidIn (answersBy readingOf r ps)

@@ -6,6 +6,7 @@ use mathlib.Core.List.{List}
 use mathlib.Core.Path.{_≡_}
 use lib.Dec.{eqb}
 use Rattle.wire.specs.Choice.{pick}
+use Rattle.wire.specs.Codes as Code
 use Rattle.packets.specs.Forms.{wholeOf}
 use Rattle.packets.specs.Numbers.{numberAt, numberIn, stepOf}
 use Rattle.reader.specs.declared.Reader.{Reader}
@@ -31,9 +32,11 @@ oneTurnOnly held number = number
 abbrev pub readBy : (ℕ → ℕ → ℕ) → WayToRead
 readBy rule r packet = heardAt (rule (r .position) (numberIn packet)) 0 0 (wholeOf packet)
 
--- "how many were missed just before this packet" is a rule's, by the same two
+-- "how many were missed just before this packet" is a rule's, by the same two, wherever a packet is taken
 abbrev pub MissedBy : (ℕ → ℕ → ℕ) → WayToRead → Type 0
-MissedBy rule read = (r : Reader) (packet : List ℕ) → read r packet .missed ≡ rule (r .position) (numberIn packet)
+MissedBy rule read =
+    (r : Reader) (packet : List ℕ) → read r packet .code ≡ Code.done
+    → read r packet .missed ≡ rule (r .position) (numberIn packet)
 
 -- not "step less one", but the step: one too many for every packet but the start
 abbrev pub stepForMissed : ℕ → ℕ → ℕ
@@ -41,7 +44,8 @@ stepForMissed held number = pick (eqb number 0) 0 (stepOf (numberAt held) number
 
 -- not "the capture's total", but what was missed just before this packet
 abbrev pub TotalOfOne : WayToRead → Type 0
-TotalOfOne read = (r : Reader) (packet : List ℕ) → read r packet .total ≡ read r packet .missed
+TotalOfOne read =
+    (r : Reader) (packet : List ℕ) → read r packet .code ≡ Code.done → read r packet .total ≡ read r packet .missed
 
 -- the harvester, but for what it says was lost
 abbrev pub sayingLost : (Reader → List ℕ → Loss) → WayToRead

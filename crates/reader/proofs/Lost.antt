@@ -1,24 +1,24 @@
 -- How much was lost: by each step the position grows by it and the total by one less; so heard and missed are all positions.
 use Prim.Native.Nat.{ℕ, _+_, _<_}
 use mathlib.Core.Path.{_≡_, refl, sym, ap, _∙_}
-use mathlib.Core.Bool.{Bool, true, false}
+use mathlib.Core.Bool.{Bool, true, false, _&&_}
 use mathlib.Core.List.{List, [], _∷_}
 use native.Mathlib.Omega.{arith}
-use borrow.Author.Tests.{eqb-true, eqb-false, not-false}
-use lib.Dec.{eqb}
+use borrow.Author.Tests.{eqb-true, eqb-false, le-leb, not-false}
+use lib.Dec.{eqb, leb}
 use lib.ListN.{length}
-use Rattle.wire.proofs.Laws.{true-not-false}
+use Rattle.wire.proofs.Laws.{true-not-false, and-both}
 use Rattle.wire.proofs.Checks.{absent}
 use Rattle.packets.specs.Forms.{wholeOf}
-use Rattle.packets.specs.Numbers.{numberAt, stepOf, numberIn}
-use Rattle.packets.specs.Missed.{areSteps, leadsTo, missedOver}
+use Rattle.packets.specs.Numbers.{numberAt, stepOf, numberIn, last}
+use Rattle.packets.specs.Missed.{areSteps, leadsTo, missedOver, stepsGive}
 use Rattle.packets.proofs.Numbers.{number-step}
-use Rattle.packets.proofs.Missed.{step-from, steps-add-up, tested-steps}
+use Rattle.packets.proofs.Missed.{step-from, heard-add-up, steps-tested, tested-steps}
 use Rattle.reader.specs.declared.Reader.{Reader}
 use Rattle.reader.specs.Reading.{silent, sound, stepTo, readingChecks, readingCode, heardWith, readingOf, afterSlices}
 use Rattle.reader.specs.Lost.{withSlice, numbersAfter, numbersHeard, stepsBetween}
-use Rattle.reader.specs.Lost.{TotalIsOfTheSteps, HeardAndMissed, BrokenByItsTotal, SoundHasSteps}
-use Rattle.reader.proofs.Reading.{heard-within, broken}
+use Rattle.reader.specs.Lost.{TotalIsOfTheSteps, HeardAndMissed, BrokenByItsTotal, SoundHasSteps, SoundBySteps}
+use Rattle.reader.proofs.Reading.{heard-sound, heard-within, broken}
 
 -- what a reader holds of a capture, by the numbers of its packets
 abbrev Holds : Reader → List ℕ → Type 0
@@ -72,10 +72,6 @@ held slices = holds-all silent [] slices (refl, refl, refl)
 
 -- ---- so
 
-steps-count : (t : ℕ) (ts : List ℕ) → length (stepsBetween (t ∷ ts)) ≡ length ts
-steps-count t [] = refl
-steps-count t (s ∷ ts) = omega (arith, steps-count s ts)
-
 total-of : (r : Reader) (numbers : List ℕ) → Holds r numbers
     → (r .total ≡ missedOver (stepsBetween numbers)) × (r .position ≡ leadsTo (stepsBetween numbers))
 total-of r [] h = (h .2, h .1)
@@ -83,8 +79,7 @@ total-of r (t ∷ ts) h = (sym (h .4), sym (h .3))
 
 adds-up : (r : Reader) (numbers : List ℕ) → Holds r numbers → r .heard ≡ true → length numbers + r .total ≡ r .position + 1
 adds-up r [] h begun = absurd (true-not-false (sym begun ∙ h .0))
-adds-up r (t ∷ ts) h begun =
-    omega (arith, h .3, h .4, steps-add-up (stepsBetween (t ∷ ts)) (h .2), steps-count t ts)
+adds-up r (t ∷ ts) h begun = omega (arith, h .3, h .4, heard-add-up stepOf t ts (h .2))
 
 pub total-is-of-the-steps : TotalIsOfTheSteps
 total-is-of-the-steps slices = total-of (afterSlices silent slices) (numbersHeard slices) (held slices)
@@ -94,6 +89,14 @@ heard-and-missed slices begun = adds-up (afterSlices silent slices) (numbersHear
 
 pub sound-has-steps : SoundHasSteps
 sound-has-steps r fine begun = tested-steps (r .position) (r .total) (heard-within r fine begun .1)
+
+pub sound-by-steps : SoundBySteps
+sound-by-steps r begun near listed g =
+    let fits = leb (r .position) last in
+    let given = stepsGive (r .position) (r .total) in
+    let both : (fits && given) ≡ true =
+    and-both fits given (le-leb (r .position) last near) (steps-tested (r .position) (r .total) g) in
+    heard-sound r begun both listed
 
 pub broken-by-its-total : BrokenByItsTotal
 broken-by-its-total r packet begun none = sym (broken r packet (by (sound r) refl))

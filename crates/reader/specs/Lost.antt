@@ -1,5 +1,5 @@
 -- How much was lost (request No. 1 of 02): what the packet reader says of a capture, whatever it is handed.
-use Prim.Native.Nat.{ℕ, _+_}
+use Prim.Native.Nat.{ℕ, _+_, _≤_}
 use mathlib.Core.Bool.{true}
 use mathlib.Core.List.{List, [], _∷_}
 use mathlib.Core.Path.{_≡_}
@@ -7,8 +7,9 @@ use lib.Dec.{eqb}
 use lib.ListN.{length}
 use Rattle.wire.specs.Choice.{pick}
 use Rattle.wire.specs.Codes as Code
-use Rattle.packets.specs.Numbers.{stepOf, numberIn}
-use Rattle.packets.specs.Missed.{leadsTo, missedOver, StepsGive}
+use Rattle.packets.specs.Forms.{listedForm}
+use Rattle.packets.specs.Numbers.{stepOf, numberIn, last}
+use Rattle.packets.specs.Missed.{leadsTo, stepsBy, missedOver, StepsGive}
 use Rattle.reader.specs.declared.Reader.{Reader}
 use Rattle.reader.specs.Reading.{silent, sound, readingCode, unheard, readingOf, afterSlices}
 
@@ -27,9 +28,7 @@ numbersHeard slices = numbersAfter silent [] slices
 
 -- "the list of steps": "From number s to number t"
 abbrev pub stepsBetween : List ℕ → List ℕ
-stepsBetween [] = []
-stepsBetween (start ∷ []) = []
-stepsBetween (t ∷ (s ∷ earlier)) = stepOf s t ∷ stepsBetween (s ∷ earlier)
+stepsBetween numbers = stepsBy stepOf numbers
 
 -- "the capture's total. The total is defined from the list of steps": after any slices, from a silent reader on, the total is
 -- that of the steps, and they lead to the position. (An accepted packet is answered with the total and the position that the
@@ -52,6 +51,12 @@ BrokenByItsTotal =
     (r : Reader) (packet : List ℕ) → r .heard ≡ true → (StepsGive (r .position) (r .total) → ⊥)
     → readingOf r packet ≡ unheard Code.broken r
 
--- and no other is for its total
+-- and one that is not broken has steps that give its total,
 abbrev pub SoundHasSteps : Type 0
 SoundHasSteps = (r : Reader) → sound r ≡ true → r .heard ≡ true → StepsGive (r .position) (r .total)
+
+-- and no other is broken for its total: with 01's position and form, steps that give it are enough
+abbrev pub SoundBySteps : Type 0
+SoundBySteps =
+    (r : Reader) → r .heard ≡ true → r .position ≤ last → listedForm (r .form) ≡ true → StepsGive (r .position) (r .total)
+    → sound r ≡ true

@@ -33,8 +33,11 @@ abbrev pub stepTo : Reader → ℕ → ℕ
 stepTo r number = stepOf (numberAt (r .position)) number
 
 -- "Number 0 begins a new capture, at any moment."
+abbrev pub positionFrom : ℕ → ℕ → ℕ
+positionFrom position number = pick (eqb number 0) 0 (position + stepOf (numberAt position) number)
+
 abbrev pub positionAfter : Reader → ℕ → ℕ
-positionAfter r number = pick (eqb number 0) 0 (r .position + stepTo r number)
+positionAfter r number = positionFrom (r .position) number
 
 -- "how many were missed just before this packet (step less one; 0 at a start) .."
 abbrev pub missedBefore : Reader → ℕ → ℕ

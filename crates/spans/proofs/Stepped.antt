@@ -1,6 +1,6 @@
 -- The positions that a capture has had accepted: from one to the next is a step, and so what is heard and what is missed are all
 -- positions up to the last.
-use Prim.Native.Nat.{ℕ, _+_, _≤_, _<_}
+use Prim.Native.Nat.{ℕ, _+_, _-_, _≤_, _<_}
 use mathlib.Core.Path.{_≡_, refl}
 use mathlib.Core.Bool.{Bool, true, false, _&&_, not}
 use mathlib.Core.List.{List, [], _∷_}
@@ -12,7 +12,7 @@ use Rattle.wire.specs.Choice.{pick}
 use Rattle.wire.proofs.Laws.{true-not-false}
 use Rattle.packets.specs.Numbers.{numberAt, stepOf}
 use Rattle.packets.specs.Missed.{areSteps, leadsTo, stepsGive}
-use Rattle.packets.proofs.Missed.{step-from, steps-add-up, steps-tested}
+use Rattle.packets.proofs.Missed.{step-from, heard-add-up, steps-tested}
 use Rattle.reader.specs.Reading.{positionAfter}
 use Rattle.heads.specs.declared.Head.{Head}
 use Rattle.spans.specs.Report.{stepsOver, missedAmong, readerAfter}
@@ -22,15 +22,10 @@ abbrev pub Stepped : List ℕ → Type 0
 Stepped [] = Unit {0}
 Stepped (last ∷ before) = areSteps (stepsOver (last ∷ before)) × (leadsTo (stepsOver (last ∷ before)) ≡ last)
 
-steps-count : (last : ℕ) (before : List ℕ) → length (stepsOver (last ∷ before)) ≡ length before
-steps-count last [] = refl
-steps-count last (p ∷ before) = omega (arith, steps-count p before)
-
 -- "heard plus missed equals positions covered"
 pub stepped-adds-up : (last : ℕ) (before : List ℕ) → Stepped (last ∷ before)
     → length (last ∷ before) + missedAmong (last ∷ before) ≡ last + 1
-stepped-adds-up last before t =
-    omega (arith, steps-add-up (stepsOver (last ∷ before)) (t .0), t .1, steps-count last before)
+stepped-adds-up last before t = omega (arith, t .1, heard-add-up (λ p q. q - p) last before (t .0))
 
 -- a reader that has heard them is not broken
 pub stepped-given : (last : ℕ) (before : List ℕ) → Stepped (last ∷ before) → stepsGive last (missedAmong (last ∷ before)) ≡ true

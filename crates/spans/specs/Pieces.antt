@@ -53,7 +53,7 @@ printed pieces = printedFrom freshSpan pieces
 -- ---- what is proved of it: proofs/Inputs, proofs/Cuts
 
 -- However an input of bytes comes in pieces, its report is what is printed: up to 2 ^ 63 bytes, as many as a span counts. So
--- a `C` line has the count of accepted packets, the last position and one, and the time of Report's `lineOf`.
+-- a `C` line has the count of accepted packets, the last position and one, the time and the missed packets of Report's `lineOf`.
 abbrev pub PrintsTheReport : Type 0
 PrintsTheReport =
     (pieces : List (List ℕ)) → allBytes (joined pieces) → length (joined pieces) ≤ farthest

@@ -12,7 +12,7 @@ use Rattle.wire.specs.Codes as Code
 use Rattle.wire.specs.Number.{field}
 use Rattle.packets.specs.Forms.{sameForm, totalOf, formWithHeader, wholeOf, isPacket}
 use Rattle.packets.specs.Numbers.{numberIn}
-use Rattle.packets.specs.Missed.{missedOver}
+use Rattle.packets.specs.Missed.{stepsBy, missedOver}
 use Rattle.reader.specs.declared.Reader.{Reader}
 use Rattle.reader.specs.Reading.{silent, positionAfter, readingCode, readingOf}
 use Rattle.heads.specs.declared.Head.{Head}
@@ -46,11 +46,9 @@ pub record Known : Type 0 where
 abbrev pub nothing : Known
 nothing = record { captures = 0; accepted = []; offset = headLength }
 
--- "the list of steps": from each of them to the next, the last first
+-- "the list of steps": from each position to the next
 abbrev pub stepsOver : List ℕ → List ℕ
-stepsOver [] = []
-stepsOver (start ∷ []) = []
-stepsOver (next ∷ (before ∷ earlier)) = (next - before) ∷ stepsOver (before ∷ earlier)
+stepsOver accepted = stepsBy (λ before next. next - before) accepted
 
 -- "missed packets": the capture's total, "defined from the list of steps"
 abbrev pub missedAmong : List ℕ → ℕ

@@ -256,7 +256,7 @@ fn main() {
         cut(what, form, mode, size, rounds, wanted);
     }
     for (what, form, ..) in FORMS {
-        read(&format!("read, {what}"), &first_packets(form, PACKETS_READ), form.total(), rounds, Some(1.0));
+        read(&format!("read, {what}"), &first_packets(form, PACKETS_READ), form.total(), rounds, Some(0.8));
     }
     for percent in [0, 1, 30] {
         read_lossy("small, 24 bits", Form::SMALL_24, percent, rounds / 4);
