@@ -48,11 +48,18 @@ enum item {
 
 enum { COMPLEX = 0x80, IDLE = 1, RUN = 2 };
 
+struct channel {
+    uint64_t frequency;
+    uint32_t word;
+    uint8_t gain;
+};
+
 struct station {
-    uint64_t frequency, count;
+    struct channel first;
+    uint64_t count;
     uint32_t clock, divisor;
     bool running;
-    uint8_t mode, gain, size, serial[8];
+    uint8_t mode, size, serial[8];
     uint8_t held[HELD];
     size_t taken;
 };
@@ -70,6 +77,28 @@ static bool frequency_allowed(uint64_t f)
 static bool gain_allowed(uint8_t g) { return g == 0 || g == 0xF6 || g == 0xEC || g == 0xE2; }
 static bool clock_allowed(uint32_t c) { return 79992000 <= c && c <= 80008000; }
 static bool mode_allowed(uint8_t m) { return m == 0x80 || m == 0; }
+
+/* Of a frequency that is allowed: how far it lies from its band's oscillator. */
+static uint64_t offset_of(uint64_t f) { return f > 34000000 ? 160000000 - f : f; }
+
+/* The tuning word, n x 2^32 / clock to the nearest whole number, halves up. */
+static uint32_t word_of(uint64_t f, uint32_t clock)
+{
+    return ((offset_of(f) << 33) + clock) / (2 * (uint64_t)clock);
+}
+
+/* The same asked of a word, by a product: the dividend lies fewer than one divisor above word times divisor. */
+static bool is_word_of(uint64_t f, uint32_t clock, uint32_t word)
+{
+    uint64_t divisor = 2 * (uint64_t)clock;
+    return (offset_of(f) << 33) + clock - divisor * word < divisor;
+}
+
+static void tune(struct channel *c, uint64_t f, uint32_t clock)
+{
+    c->frequency = f;
+    c->word = word_of(f, clock);
+}
 
 static uint32_t nearest(uint32_t rate)
 {
@@ -90,8 +119,10 @@ static size_t total_of(unsigned header)
 static inline bool sound(const struct station *s)
 {
     static const uint8_t unused[HELD];
-    if (!frequency_allowed(s->frequency) || s->count > 4000000000u || !clock_allowed(s->clock)) return false;
-    if (s->divisor < 10 || s->divisor > 625 || !mode_allowed(s->mode) || !gain_allowed(s->gain) || s->size > 1)
+    const struct channel *first = &s->first;
+    if (!frequency_allowed(first->frequency) || s->count > 4000000000u || !clock_allowed(s->clock)) return false;
+    if (!is_word_of(first->frequency, s->clock, first->word)) return false;
+    if (s->divisor < 10 || s->divisor > 625 || !mode_allowed(s->mode) || !gain_allowed(first->gain) || s->size > 1)
         return false;
     for (int i = 0; i < 8; i++) {
         uint8_t c = s->serial[i];
@@ -105,7 +136,8 @@ static inline bool sound(const struct station *s)
 static void fresh(struct station *s)
 {
     memset(s, 0, sizeof *s);
-    s->frequency = 10000000;
+    s->first.frequency = 10000000;
+    s->first.word = 536870912;
     s->clock = 80000000;
     s->divisor = 100;
     s->mode = 0x80;
@@ -206,9 +238,9 @@ static void store(struct station *s, const struct asked *a)
         if (a->value == IDLE) s->running = false;
         else if (!s->running) s->running = true, s->mode = a->mode, s->count = 0;
         break;
-    case FREQUENCY: s->frequency = a->value; break;
-    case GAIN: s->gain = a->value; break;
-    case CLOCK: s->clock = a->value; break;
+    case FREQUENCY: tune(&s->first, a->value, s->clock); break;
+    case GAIN: s->first.gain = a->value; break;
+    case CLOCK: s->clock = a->value, tune(&s->first, s->first.frequency, s->clock); break;
     case RATE: s->divisor = nearest(a->value); break;
     case PACKET_SIZE: s->size = a->value; break;
     }
@@ -238,8 +270,8 @@ static void write_reply(const struct station *s, const struct asked *a, uint8_t 
     case VERSIONS: memcpy(out + 5, versions[a->channel], 2); break;
     case STATUS: out[4] = s->running ? 0x0C : 0x0B; break;
     case STATE: out[4] = COMPLEX; out[5] = s->running ? RUN : IDLE; out[6] = s->mode; out[7] = 0; break;
-    case FREQUENCY: put(out + 5, s->frequency, 5); break;
-    case GAIN: out[5] = s->gain; break;
+    case FREQUENCY: put(out + 5, s->first.frequency, 5); break;
+    case GAIN: out[5] = s->first.gain; break;
     case CLOCK: put(out + 5, s->clock, 4); break;
     case RATE: put(out + 5, achieved(s->divisor), 4); break;
     case PACKET_SIZE: out[4] = s->size; break;
@@ -322,37 +354,40 @@ size_t peer_serve(const uint8_t *host, size_t n, uint8_t *replies, size_t room)
 }
 
 #else
-/* A box of 108 bytes: frequency 8, count 8, clock 4, D 4, running 1, mode 1, gain 1, size 1, serial 8, held 64, taken 8. */
-enum { STATION_BYTES = 108 };
+/* A box of 112 bytes: its channel (frequency 8, word 4, gain 1), count 8, clock 4, D 4, running 1, mode 1, size 1, serial 8,
+   held 64, taken 8. */
+enum { STATION_BYTES = 112 };
 
 static void station_in(struct station *s, const uint8_t *b)
 {
-    s->frequency = get(b, 8);
-    s->count = get(b + 8, 8);
-    s->clock = get(b + 16, 4);
-    s->divisor = get(b + 20, 4);
-    s->running = b[24];
-    s->mode = b[25];
-    s->gain = b[26];
-    s->size = b[27];
-    memcpy(s->serial, b + 28, 8);
-    memcpy(s->held, b + 36, HELD);
-    s->taken = get(b + 100, 8);
+    s->first.frequency = get(b, 8);
+    s->first.word = get(b + 8, 4);
+    s->first.gain = b[12];
+    s->count = get(b + 13, 8);
+    s->clock = get(b + 21, 4);
+    s->divisor = get(b + 25, 4);
+    s->running = b[29];
+    s->mode = b[30];
+    s->size = b[31];
+    memcpy(s->serial, b + 32, 8);
+    memcpy(s->held, b + 40, HELD);
+    s->taken = get(b + 104, 8);
 }
 
 static void put_station(uint8_t *b, const struct station *s)
 {
-    put(b, s->frequency, 8);
-    put(b + 8, s->count, 8);
-    put(b + 16, s->clock, 4);
-    put(b + 20, s->divisor, 4);
-    b[24] = s->running;
-    b[25] = s->mode;
-    b[26] = s->gain;
-    b[27] = s->size;
-    memcpy(b + 28, s->serial, 8);
-    memcpy(b + 36, s->held, HELD);
-    put(b + 100, s->taken, 8);
+    put(b, s->first.frequency, 8);
+    put(b + 8, s->first.word, 4);
+    b[12] = s->first.gain;
+    put(b + 13, s->count, 8);
+    put(b + 21, s->clock, 4);
+    put(b + 25, s->divisor, 4);
+    b[29] = s->running;
+    b[30] = s->mode;
+    b[31] = s->size;
+    memcpy(b + 32, s->serial, 8);
+    memcpy(b + 40, s->held, HELD);
+    put(b + 104, s->taken, 8);
 }
 
 /* One call of feeding on a box in bytes, which are written back only where it was not refused. */

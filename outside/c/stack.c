@@ -100,7 +100,8 @@ static size used_with(byte paint, void (*go)(void *), void *call) {
 }
 
 /* ---- the calls */
-enum { STATE = 108 };
+/* a box in bytes, and where its word, count, run byte and mode begin */
+enum { STATE = 112, WORD = 8, COUNT = 13, RUNNING = 29, MODE = 30 };
 struct cut {
     byte *state, *packet;
     const number *samples;
@@ -199,7 +200,7 @@ static void started(int form) {
         samples[i] = (number)((i * 2654435761u >> 8) % 16777216) - 8388608;
 }
 static void put_count(size count) {
-    for (int i = 0; i < 8; i++) lent[8 + i] = (byte)(count >> (8 * i));
+    for (int i = 0; i < 8; i++) lent[COUNT + i] = (byte)(count >> (8 * i));
 }
 
 enum { DONE = 1, NO_ROOM = 20, BROKEN, IDLE, WRONG_COUNT, NOT_A_SAMPLE, FULL };
@@ -217,6 +218,7 @@ static const struct {
     {"a sample too few", WRONG_COUNT},
     {"not a sample", NOT_A_SAMPLE},
     {"a capture that is full", FULL},
+    {"a box with another word", BROKEN},
     {"three packets in a run", 3},
     {"a run to the first that is refused", 2},
     {"messages fed whole", DONE},
@@ -233,11 +235,12 @@ static size cut(int form, int kind) {
     case 2: c.packet_bytes = totals[form] - 1; break;
     case 3: c.packet_bytes = totals[form] - 1, samples[2 * pairs[form] - 1] = 8388608; break;
     case 4: c.bytes = STATE - 1; break;
-    case 5: lent[25] ^= 1; break;
-    case 6: lent[24] = 0; break;
+    case 5: lent[MODE] ^= 1; break;
+    case 6: lent[RUNNING] = 0; break;
     case 7: c.count--; break;
     case 8: samples[2 * pairs[form] - 1] = -8388609; break;
     case 9: put_count(4000000000); break;
+    case 10: lent[WORD] ^= 1; break;
     }
     used = measured(cut_now, &c, kinds[kind].what);
     must(c.code == kinds[kind].code && c.wrote == (c.code == DONE ? totals[form] : 0), kinds[kind].what);
@@ -314,7 +317,10 @@ static size feed_all(int kind) {
     if (used < its) used = its;
     its = fed(asked, sizeof asked, sizeof asked, NO_ROOM, what);
     if (used < its) used = its;
-    lent[25] ^= 1;
+    lent[MODE] ^= 1;
+    its = fed(asked, sizeof asked, sizeof asked, BROKEN, what);
+    if (used < its) used = its;
+    lent[MODE] ^= 1, lent[WORD] ^= 1;
     its = fed(asked, sizeof asked, sizeof asked, BROKEN, what);
     return used < its ? its : used;
 }

@@ -3,11 +3,13 @@
 //! A box, a reader and a wish cross it as plain bytes or numbers, so that every state can be handed over, sound or broken.
 
 use crate::reader::Place;
+use crate::station::{Channel, Settings};
 use crate::wish::StateWish;
 use crate::{reader, reply, span, station, Form, Head, Reader, Reply, Station, Wish};
 
-/// A box in bytes: frequency 8, count 8, clock 4, D 4, running 1, mode 1, gain 1, size 1, serial 8, held 64, taken 8.
-pub const STATION_BYTES: usize = 108;
+/// A box in bytes: its channel (frequency 8, word 4, gain 1), count 8, clock 4, D 4, running 1, mode 1, size 1, serial 8, held
+/// 64, taken 8.
+pub const STATION_BYTES: usize = 112;
 
 /// A reader in bytes: position 8, bits 8, pairs 8, total 8, heard 1.
 pub const READER_BYTES: usize = 33;
@@ -159,18 +161,25 @@ impl Fields<'_> {
         self.0 = rest;
         *field
     }
+
+    fn channel(&mut self) -> Channel {
+        Channel {
+            frequency: u64::from_le_bytes(self.array()),
+            word: u32::from_le_bytes(self.array()),
+            gain: i8::from_le_bytes(self.array()),
+        }
+    }
 }
 
 pub fn station_in(bytes: &[u8]) -> Station {
     let mut fields = Fields(bytes);
-    let settings = station::Settings {
-        frequency: u64::from_le_bytes(fields.array()),
+    let settings = Settings {
+        first: fields.channel(),
         count: u64::from_le_bytes(fields.array()),
         clock: u32::from_le_bytes(fields.array()),
         divisor: u32::from_le_bytes(fields.array()),
         running: fields.array() != [0],
         mode: u8::from_le_bytes(fields.array()),
-        gain: i8::from_le_bytes(fields.array()),
         size: u8::from_le_bytes(fields.array()),
         serial: fields.array(),
     };
@@ -186,11 +195,13 @@ pub fn station_bytes(station: &Station) -> [u8; STATION_BYTES] {
         bytes[at..at + field.len()].copy_from_slice(field);
         at += field.len();
     };
-    put(&settings.frequency.to_le_bytes());
+    put(&settings.first.frequency.to_le_bytes());
+    put(&settings.first.word.to_le_bytes());
+    put(&[settings.first.gain as u8]);
     put(&settings.count.to_le_bytes());
     put(&settings.clock.to_le_bytes());
     put(&settings.divisor.to_le_bytes());
-    put(&[settings.running.into(), settings.mode, settings.gain as u8, settings.size]);
+    put(&[settings.running.into(), settings.mode, settings.size]);
     put(&settings.serial);
     put(&station.held);
     put(&station.taken.to_le_bytes());

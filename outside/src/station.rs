@@ -10,10 +10,19 @@ use crate::tuning::{self, BANDS};
 /// "Capture holds 4,000,000,000 packets."
 pub const CAPTURE_LIMIT: u64 = 4_000_000_000;
 
+/// A tuning channel.
 #[derive(Clone, Debug, PartialEq, Eq)]
-pub struct Settings {
+pub struct Channel {
     /// Hz
     pub frequency: u64,
+    /// the tuning word of this frequency at the box's clock
+    pub word: u32,
+    pub gain: i8,
+}
+
+#[derive(Clone, Debug, PartialEq, Eq)]
+pub struct Settings {
+    pub first: Channel,
     /// packets cut in this capture
     pub count: u64,
     /// Hz
@@ -23,7 +32,6 @@ pub struct Settings {
     pub running: bool,
     /// 80 for 24 bits, 00 for 16
     pub mode: u8,
-    pub gain: i8,
     /// 0 large, 1 small
     pub size: u8,
     pub serial: [u8; 8],
@@ -82,29 +90,42 @@ impl Answer {
     }
 }
 
+impl Channel {
+    const FRESH: Self = Channel { frequency: 10_000_000, word: 536_870_912, gain: 0 };
+
+    /// Whether its fields are in order in a box with this clock, which is in order.
+    fn is_sound(&self, clock: u32) -> bool {
+        tuning::agree(self.frequency, clock, self.word) && item::gain_allowed(self.gain)
+    }
+
+    /// Tunes to a frequency in a box with this clock, both of them allowed: the word follows.
+    pub fn tune(&mut self, frequency: u64, clock: u32) {
+        self.frequency = frequency;
+        self.word = tuning::word(frequency, clock);
+    }
+}
+
 impl Settings {
     pub fn fresh(serial: [u8; 8]) -> Self {
         Settings {
-            frequency: 10_000_000,
+            first: Channel::FRESH,
             count: 0,
             clock: 80_000_000,
             divisor: 100,
             running: false,
             mode: item::MODE_24,
-            gain: 0,
             size: item::SIZE_LARGE,
             serial,
         }
     }
 
-    #[inline] // into all of its callers, or each call takes 5 ns more
+    #[inline(always)] // into all of its callers, or each call takes 5 ns more
     pub fn is_sound(&self) -> bool {
-        tuning::frequency_allowed(self.frequency)
+        item::clock_allowed(self.clock)
+            && self.first.is_sound(self.clock)
             && self.count <= CAPTURE_LIMIT
-            && item::clock_allowed(self.clock)
             && rate::divisor_allowed(self.divisor)
             && item::mode_allowed(self.mode)
-            && item::gain_allowed(self.gain)
             && item::size_allowed(self.size)
             && item::serial_allowed(&self.serial)
     }
@@ -200,9 +221,12 @@ impl Settings {
                 self.mode = mode;
                 self.count = 0;
             }
-            Change::Frequency(frequency) => self.frequency = frequency,
-            Change::Gain(gain) => self.gain = gain,
-            Change::Clock(clock) => self.clock = clock,
+            Change::Frequency(frequency) => self.first.tune(frequency, self.clock),
+            Change::Gain(gain) => self.first.gain = gain,
+            Change::Clock(clock) => {
+                self.clock = clock;
+                self.first.tune(self.first.frequency, clock);
+            }
             Change::Divisor(divisor) => self.divisor = divisor,
             Change::Size(size) => self.size = size,
         }
@@ -245,9 +269,9 @@ impl Settings {
             }
             Item::Frequency => {
                 body[0] = echo;
-                body[1..].copy_from_slice(&tuning::frequency_bytes(self.frequency));
+                body[1..].copy_from_slice(&tuning::frequency_bytes(self.first.frequency));
             }
-            Item::Gain => body.copy_from_slice(&[echo, self.gain as u8]),
+            Item::Gain => body.copy_from_slice(&[echo, self.first.gain as u8]),
             Item::Clock => {
                 body[0] = echo;
                 body[1..].copy_from_slice(&self.clock.to_le_bytes());
@@ -282,7 +306,7 @@ impl Station {
         (station, code)
     }
 
-    #[inline]
+    #[inline(always)]
     pub fn is_sound(&self) -> bool {
         self.settings.is_sound() && self.store_is_sound()
     }
@@ -299,12 +323,12 @@ impl Station {
         Header::parse([self.held[0], self.held[1]])
     }
 
-    /// The tuning word, worked out when asked.
+    /// The tuning word: the one that is kept.
     pub fn word(&self) -> Result<u32, Code> {
         if !self.is_sound() {
             return Err(Code::Broken);
         }
-        Ok(tuning::word(self.settings.frequency, self.settings.clock))
+        Ok(self.settings.first.word)
     }
 
     /// Takes a part of the host's bytes, up to the end of one message.

@@ -64,7 +64,7 @@ fn frequency_and_word() {
     let mut station = fresh();
     let message = "0A 00 20 00 00 90 C6 D5 00 00";
     assert_eq!(tell(&mut station, message), (1, hex(message)));
-    assert_eq!(station.settings.frequency, 14_010_000);
+    assert_eq!(station.settings.first.frequency, 14_010_000);
     assert_eq!(station.word(), Ok(752_156_148));
     // the SDR-IQ form: 4,308,977,296 Hz
     assert_eq!(tell(&mut station, "0A 00 20 00 00 90 C6 D5 00 01"), nak(16));
@@ -72,7 +72,7 @@ fn frequency_and_word() {
     let highest = "0A 00 20 00 00 80 CC 06 02 00";
     assert_eq!(tell(&mut station, highest), (1, hex(highest)));
     assert_eq!(tell(&mut station, "0A 00 20 00 00 81 CC 06 02 00"), nak(16));
-    assert_eq!(station.settings.frequency, 34_000_000);
+    assert_eq!(station.settings.first.frequency, 34_000_000);
     // 145,000,000
     let second = "0A 00 20 00 FF 40 86 A4 08 00";
     assert_eq!(tell(&mut station, second), (1, hex(second)));
@@ -80,10 +80,54 @@ fn frequency_and_word() {
 }
 
 #[test]
+fn the_word_is_kept_after_every_message() {
+    let mut station = fresh();
+    assert_eq!(station.settings.first.word, 536_870_912);
+    for (message, code, word) in [
+        ("0A 00 20 00 00 90 C6 D5 00 00", 1, 752_156_148),
+        // 80,000,123
+        ("09 00 B0 00 00 7B B4 C4 04", 1, 752_154_991),
+        // 34,000,001, a clock of 8,000,000, a channel that is not there, a frequency too short, an item that is not listed
+        ("0A 00 20 00 00 81 CC 06 02 00", 16, 752_154_991),
+        ("09 00 B0 00 00 00 12 7A 00", 16, 752_154_991),
+        ("0A 00 20 00 02 40 86 A4 08 00", 15, 752_154_991),
+        ("09 00 20 00 00 40 86 A4 08", 13, 752_154_991),
+        ("04 20 09 00", 12, 752_154_991),
+        ("02 00", 2, 752_154_991),
+        // 145,000,000
+        ("0A 00 20 00 FF 40 86 A4 08 00", 1, 805_305_130),
+        ("06 00 38 00 00 EC", 1, 805_305_130),
+        ("09 00 B0 00 00 00 B4 C4 04", 1, 805_306_368),
+    ] {
+        assert_eq!(tell(&mut station, message).0, code, "{message}");
+        assert_eq!((station.settings.first.word, station.word()), (word, Ok(word)), "{message}");
+    }
+    // no room for the reply: nothing is set, and the word is the old one
+    let fed = station.feed(&hex("09 00 B0 00 00 7B B4 C4 04"), &mut [0; 8]);
+    assert_eq!((fed.code, station.word()), (Code::NoRoom, Ok(805_306_368)));
+}
+
+#[test]
+fn a_box_with_another_word_is_broken() {
+    for word in [536_870_911, 536_870_913, 0, u32::MAX] {
+        let mut station = fresh();
+        station.settings.running = true;
+        station.settings.first.word = word;
+        let given = station.clone();
+        let fed = station.feed(&hex("04 20 01 00"), &mut [0; 64]);
+        assert_eq!((fed.code, fed.consumed, fed.wrote), (Code::Broken, 0, 0));
+        let cut = station.cut(&[0; 480], &mut [0; 1444]);
+        assert_eq!((cut.code, cut.wrote), (Code::Broken, 0));
+        assert_eq!(station.word(), Err(Code::Broken));
+        assert_eq!(station, given);
+    }
+}
+
+#[test]
 fn gain() {
     let mut station = fresh();
     assert_eq!(tell(&mut station, "06 00 38 00 00 EC"), (1, hex("06 00 38 00 00 EC")));
-    assert_eq!(station.settings.gain, -20);
+    assert_eq!(station.settings.first.gain, -20);
     assert_eq!(tell(&mut station, "06 00 38 00 00 F0"), nak(16));
     assert_eq!(tell(&mut station, "06 00 38 00 01 F0"), nak(15));
     assert_eq!(tell(&mut station, "05 20 38 00 FF"), nak(15));

@@ -3,3 +3,4 @@ pub mod Fields
 pub mod Lent
 pub mod Fed
 pub mod CutOver
+pub mod Round

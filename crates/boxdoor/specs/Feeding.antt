@@ -38,7 +38,7 @@ feedOver state host room =
 unfoldable pub repliedOver : List ℕ → List ℕ → ℕ → List ℕ
 repliedOver state host room = pick (eqb (length state) stationSize) (feedingOf (stationIn state) host room .bytes) []
 
--- a fresh box fills 108 bytes; other lengths are left alone
+-- a fresh box fills a box's bytes; other lengths are left alone
 pub record Fresh : Type 0 where
   pub code : ℕ
   pub state : List ℕ

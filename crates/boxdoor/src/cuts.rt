@@ -7,7 +7,7 @@ use crate::states::HELD;
 use crate::states::TAKEN;
 use wire::codes;
 
-// Cuts the next packet from samples by a box of 108 bytes. Answers the code, and leaves how many bytes of packet were
+// Cuts the next packet from samples by a box in its bytes. Answers the code, and leaves how many bytes of packet were
 // written. Where the call is refused the box's bytes and the packet are as they came.
 #[no_mangle]
 pub extern "C" fn skvornela_cut(

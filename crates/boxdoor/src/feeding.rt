@@ -9,7 +9,7 @@ ghost use lib.Seq.{sets};
 ghost use Rattle.station.specs.Station.{tuningSays};
 ghost use Rattle.boxdoor.specs.Feeding.{feedOver, repliedOver, freshOver, tuned, tunedOver};
 
-// A fresh box with a serial, in 108 bytes. Answers the code.
+// A fresh box with a serial, in a box's bytes. Answers the code.
 #[no_mangle]
 pub extern "C" fn skvornela_fresh(serial: &[u8], state: &mut [u8]) -> u8
     ensures { λ r. ⌜ record { code = r; state = now (state .exit) } ≡ freshOver (now (serial .entry)) (now (state .entry)) ⌝ }
@@ -23,7 +23,7 @@ pub extern "C" fn skvornela_fresh(serial: &[u8], state: &mut [u8]) -> u8
     codes::BROKEN
 }
 
-// Feeds a box of 108 bytes. Answers the code, and leaves how many of the host's bytes were consumed and how many bytes of
+// Feeds a box in its bytes. Answers the code, and leaves how many of the host's bytes were consumed and how many bytes of
 // reply were written. Where the call is refused the box's bytes are as they came.
 #[no_mangle]
 pub extern "C" fn skvornela_feed(
@@ -79,7 +79,7 @@ fn tuned_by(t: Tuning) -> Tuned
     }
 }
 
-// The tuning word of a box of 108 bytes. Answers the code, and leaves the word, 0 where there is none.
+// The tuning word of a box in its bytes. Answers the code, and leaves the word, 0 where there is none.
 #[no_mangle]
 pub extern "C" fn skvornela_word(state: &[u8], word: &mut u32) -> u8
     ensures { λ r. ⌜ record { code = r; word = now (word .exit) } ≡ tunedOver (now (state .entry)) ⌝ }

@@ -1,52 +1,87 @@
-// A box in lent bytes.
+// A box in lent bytes, field after field. Its layout stands here; docs/WORKING.md has it as a table.
 use framing::Store;
+use items::Channel;
 use items::Settings;
 use station::Station;
 ghost use mathlib.Core.Path.{_≡_};
+ghost use Prim.Native.Nat.{_+_, _≤_};
 ghost use lib.ListN.{length};
 ghost use lib.Seq.{sets};
 ghost use Rattle.wire.specs.Number.{bytes, field};
-ghost use Rattle.boxdoor.specs.States.{settingsIn, stationIn, wideOf, narrowOf, settingsBytes, stationBytes};
+ghost use Rattle.boxdoor.specs.States.{stationSize, channelIn, settingsIn, stationIn};
+ghost use Rattle.boxdoor.specs.States.{channelBytes, commonBytes, settingsBytes, stationBytes};
 
-// A box in bytes: frequency 8, count 8, clock 4, D 4, running 1, mode 1, gain 1, size 1, serial 8, held 64, taken 8.
-pub(crate) const LENGTH: usize = 108;
+// Where a channel's word and gain begin, counted from the channel's first byte; at that byte begins its frequency.
+const WORD: usize = 8;
 
-// Where its 64 held bytes begin, and where they end: there stands how many were taken.
-pub(crate) const HELD: usize = 36;
+const GAIN: usize = 12;
 
-pub(crate) const TAKEN: usize = 100;
+// Where the fields of a box begin.
+const FIRST: usize = 0;
 
-// The settings in a box's 108 bytes.
+const COUNT: usize = 13;
+
+const CLOCK: usize = 21;
+
+const DIVISOR: usize = 25;
+
+const RUNNING: usize = 29;
+
+const MODE: usize = 30;
+
+const SIZE: usize = 31;
+
+const SERIAL: usize = 32;
+
+pub(crate) const HELD: usize = 40;
+
+pub(crate) const TAKEN: usize = 104;
+
+// How many bytes it is in all.
+pub(crate) const LENGTH: usize = 112;
+
+// The channel from a place on.
+fn channel_at(b: &[u8], at: usize) -> Channel
+    requires { ⌜ at + 13 ≤ length (now b) ⌝ }
+    ensures { λ r. ⌜ r ≡ channelIn at (now (b .entry)) ⌝ }
+{
+    Channel {
+        frequency: wire::number_at(b, at, 8),
+        word: wire::number_at(b, at + WORD, 4) as u32,
+        gain: b[at + GAIN] as u32,
+    }
+}
+
+// The settings in a box's bytes.
 pub(crate) fn settings_of(b: &[u8]) -> Settings
-    requires { ⌜ length (now b) ≡ 108 ⌝ }
+    requires { ⌜ length (now b) ≡ stationSize ⌝ }
     ensures { λ r. ⌜ r ≡ settingsIn (now (b .entry)) ⌝ }
 {
     let mut serial = [0u8; 8];
-    wire::copy(&b[28..36], &mut serial, 0);
+    wire::copy(&b[SERIAL..HELD], &mut serial, 0);
     Settings {
-        frequency: wire::number_at(b, 0, 8),
-        count: wire::number_at(b, 8, 8),
-        clock: wire::number_at(b, 16, 4) as u32,
-        divisor: wire::number_at(b, 20, 4) as u32,
-        running: b[24] != 0,
-        mode: b[25],
-        gain: b[26],
-        size: b[27],
+        first: channel_at(b, FIRST),
+        count: wire::number_at(b, COUNT, 8),
+        clock: wire::number_at(b, CLOCK, 4) as u32,
+        divisor: wire::number_at(b, DIVISOR, 4) as u32,
+        size: b[SIZE] as u32,
+        running: b[RUNNING] != 0,
+        mode: b[MODE],
         serial: serial,
     }
 }
 
 // How many bytes of its message are taken.
 pub(crate) fn taken_of(b: &[u8]) -> usize
-    requires { ⌜ length (now b) ≡ 108 ⌝ }
-    ensures { λ r. ⌜ r ≡ field 100 8 (now (b .entry)) ⌝ }
+    requires { ⌜ length (now b) ≡ stationSize ⌝ }
+    ensures { λ r. ⌜ r ≡ field 104 8 (now (b .entry)) ⌝ }
 {
     wire::number_at(b, TAKEN, 8) as usize
 }
 
-// The box in 108 bytes.
+// The box in its bytes.
 pub(crate) fn station_in(b: &[u8]) -> Station
-    requires { ⌜ length (now b) ≡ 108 ⌝ }
+    requires { ⌜ length (now b) ≡ stationSize ⌝ }
     ensures { λ r. ⌜ r ≡ stationIn (now (b .entry)) ⌝ }
 {
     let mut held = [0u8; 64];
@@ -61,51 +96,52 @@ pub(crate) fn station_in(b: &[u8]) -> Station
     }
 }
 
-// Stores the wide numbers among the settings in the first 24 bytes.
-fn put_wide(b: &mut [u8], s: Settings)
-    requires { ⌜ length (now b) ≡ 108 ⌝ }
-    ensures { λ _. ⌜ now (b .exit) ≡ sets (now (b .entry)) 0 (wideOf s) ⌝ }
+// Stores a channel from a place on.
+fn put_channel(b: &mut [u8], at: usize, c: Channel)
+    requires { ⌜ at + 13 ≤ length (now b) ⌝ }
+    ensures { λ _. ⌜ now (b .exit) ≡ sets (now (b .entry)) at (channelBytes c) ⌝ }
 {
-    wire::put(b, 0, 8, s.frequency);
-    wire::put(b, 8, 8, s.count);
-    wire::put(b, 16, 4, s.clock as u64);
-    wire::put(b, 20, 4, s.divisor as u64);
+    wire::put(b, at, 8, c.frequency);
+    wire::put(b, at + WORD, 4, c.word as u64);
+    wire::put(b, at + GAIN, 1, c.gain as u64);
 }
 
-// Stores the numbers of one byte in the four bytes after them.
-fn put_narrow(b: &mut [u8], s: Settings)
-    requires { ⌜ length (now b) ≡ 108 ⌝ }
-    ensures { λ _. ⌜ now (b .exit) ≡ sets (now (b .entry)) 24 (narrowOf s) ⌝ }
+// Stores the numbers among the settings that are no channel's, behind the channel.
+fn put_common(b: &mut [u8], s: Settings)
+    requires { ⌜ length (now b) ≡ stationSize ⌝ }
+    ensures { λ _. ⌜ now (b .exit) ≡ sets (now (b .entry)) 13 (commonBytes s) ⌝ }
 {
-    wire::put(b, 24, 1, s.running as u64);
-    wire::put(b, 25, 1, s.mode as u64);
-    wire::put(b, 26, 1, s.gain as u64);
-    wire::put(b, 27, 1, s.size as u64);
+    wire::put(b, COUNT, 8, s.count);
+    wire::put(b, CLOCK, 4, s.clock as u64);
+    wire::put(b, DIVISOR, 4, s.divisor as u64);
+    wire::put(b, RUNNING, 1, s.running as u64);
+    wire::put(b, MODE, 1, s.mode as u64);
+    wire::put(b, SIZE, 1, s.size as u64);
 }
 
-// Stores the settings in the first 36 bytes.
+// Stores the settings in front of the held bytes.
 fn put_settings(b: &mut [u8], s: Settings)
-    requires { ⌜ length (now b) ≡ 108 ⌝ }
+    requires { ⌜ length (now b) ≡ stationSize ⌝ }
     ensures { λ _. ⌜ now (b .exit) ≡ sets (now (b .entry)) 0 (settingsBytes s) ⌝ }
 {
-    put_wide(b, s);
-    put_narrow(b, s);
+    put_channel(b, FIRST, s.first);
+    put_common(b, s);
     let serial = s.serial;
-    wire::copy(&serial, b, 28);
+    wire::copy(&serial, b, SERIAL);
 }
 
 // Stores all of a box but its held bytes, which are left as they lie.
 pub(crate) fn put_parts(b: &mut [u8], s: Settings, taken: usize)
-    requires { ⌜ length (now b) ≡ 108 ⌝ }
-    ensures { λ _. ⌜ now (b .exit) ≡ sets (sets (now (b .entry)) 0 (settingsBytes s)) 100 (bytes 8 taken) ⌝ }
+    requires { ⌜ length (now b) ≡ stationSize ⌝ }
+    ensures { λ _. ⌜ now (b .exit) ≡ sets (sets (now (b .entry)) 0 (settingsBytes s)) 104 (bytes 8 taken) ⌝ }
 {
     put_settings(b, s);
     wire::put(b, TAKEN, 8, taken as u64);
 }
 
-// Stores a box in 108 bytes.
+// Stores a box in its bytes.
 pub(crate) fn put_station(b: &mut [u8], s: Station)
-    requires { ⌜ length (now b) ≡ 108 ⌝ }
+    requires { ⌜ length (now b) ≡ stationSize ⌝ }
     ensures { λ _. ⌜ now (b .exit) ≡ stationBytes s ⌝ }
 {
     let settings = s.settings;

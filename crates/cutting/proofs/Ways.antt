@@ -67,13 +67,12 @@ counted s h less =
     let r = ranges s h in
     in-range (withCount (s .count + 1) s)
     (record {
-      frequency = r .frequency;
-      count = le-leb (s .count + 1) most (omega arith);
       clock = r .clock;
+      first = r .first;
+      count = le-leb (s .count + 1) most (omega arith);
       divisor = r .divisor;
-      mode = r .mode;
-      gain = r .gain;
       size = r .size;
+      mode = r .mode;
       serial = r .serial;
     })
 

@@ -82,7 +82,7 @@ pub fn cut_held(
     if packets::MOST <= count {
         return refused(codes::CAPTURE_FULL, settings);
     }
-    let form = packets::form_for(settings.mode, settings.size);
+    let form = packets::form_for(settings.mode, settings.size as u8);
     if samples.len() as u64 != 2 * form.pairs {
         return refused(codes::WRONG_COUNT, settings);
     }

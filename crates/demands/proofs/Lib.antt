@@ -5,6 +5,7 @@ pub mod Asked
 pub mod AskedInPieces
 pub mod Packed
 pub mod Reached
+pub mod Word
 pub mod Shown
 pub mod ShownFed
 pub mod ShownInPieces

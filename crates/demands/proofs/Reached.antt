@@ -6,6 +6,7 @@ use mathlib.Core.Bool.{Bool, true, false}
 use mathlib.Core.List.{List}
 use lib.ListN.{replicate}
 use Rattle.framing.specs.Framing.{between}
+use Rattle.tuning.specs.Word.{wordOf}
 use Rattle.items.specs.Settings.{freshOf, isSerial}
 use Rattle.station.specs.Station.{valid, freshStation, freshBox}
 use Rattle.station.proofs.Calls.{feeding-keeps}
@@ -15,12 +16,25 @@ use Rattle.station.proofs.Valid.{valid-both}
 use Rattle.cutting.proofs.Ways.{cutting-keeps}
 use Rattle.demands.specs.Reached.{fresh, fed, cut, NeverOutOfRange}
 
+-- the word that a fresh box keeps is that of its frequency and clock
+pub fresh-word : 536_870_912 ≡ wordOf 10_000_000 80_000_000
+unfolding wordOf
+fresh-word = refl
+
 -- a fresh box is valid
 pub fresh-valid : (serial : List ℕ) → isSerial serial ≡ true → valid (freshStation serial) ≡ true
 fresh-valid serial h =
     valid-both (freshOf serial) between
     (in-range (freshOf serial)
-    (record { frequency = refl; count = refl; clock = refl; divisor = refl; mode = refl; gain = refl; size = refl; serial = h }))
+    (record {
+      clock = refl;
+      first = record { frequency = refl; word = fresh-word; gain = refl };
+      count = refl;
+      divisor = refl;
+      size = refl;
+      mode = refl;
+      serial = h;
+    }))
     between-left
 
 -- from whichever serial: one that is refused gives the serial 00000000

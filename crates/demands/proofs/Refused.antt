@@ -12,6 +12,7 @@ use lib.Dec.{eqb, lit≤}
 use lib.IntN.{ℤ}
 use Rattle.wire.specs.Header.{nak}
 use Rattle.wire.proofs.Laws.{pick-keeps}
+use Rattle.tuning.specs.Word.{wordOf}
 use Rattle.framing.specs.Framing.{taking, callTakes, finished, announced, couldBeLeft}
 use Rattle.items.specs.Settings.{inRange}
 use Rattle.station.specs.Station.{valid, freshStation}
@@ -77,7 +78,7 @@ waits-for-the-end s host room v less =
 
 -- 64 bytes of a set of 65 are not answered yet
 pub naks-early-fails : WaitsForTheEnd naksAt64 → ⊥
-unfolding valid inRange couldBeLeft taking
+unfolding valid inRange couldBeLeft taking wordOf
 naks-early-fails waits =
     let wrong : _≡_ {A = ℕ} 10 0 = waits (freshStation (replicate 8 0x30)) (0x41 ∷ 0x00 ∷ replicate 62 0x00) 64 refl (lit≤ tt) .0 in
     omega arith

@@ -15,6 +15,7 @@ use Rattle.wire.specs.Choice.{pick}
 use Rattle.wire.specs.Number.{number}
 use Rattle.wire.specs.Header.{lengthIn, typeIn, typeSet, typeRequest}
 use Rattle.wire.proofs.Laws.{and-rest, never}
+use Rattle.tuning.specs.Word.{wordOf}
 use Rattle.framing.specs.Framing.{between, taking, callTakes, couldBeLeft}
 use Rattle.wire.proofs.Lists.{bytes-append, bytes-zero}
 use Rattle.items.proofs.Judging.{passed}
@@ -215,7 +216,7 @@ ask = 0x05 ∷ 0x20 ∷ 0x20 ∷ 0x00 ∷ 0x00 ∷ []
 -- a box that shows its sets answers both with the bytes of the set
 tuned : (feed : Station → List ℕ → ℕ → Feeding) → ShowsSets feed
     → repliesWith (feed (resting start) tune 64) tune × repliesWith (feed (feed (resting start) tune 64 .fed .station) ask 64) tune
-unfolding feedingOf valid inRange couldBeLeft taking listedItem rowOf codeOf replyOf settingsAfter shownBy
+unfolding feedingOf valid inRange couldBeLeft taking listedItem rowOf codeOf replyOf settingsAfter shownBy wordOf
 tuned feed shows =
     shows start tune 64 ask 64 refl not-twenty not-twenty
     (record { areBytes = search lit≤ depth 20; announces = refl }) refl refl
@@ -232,7 +233,7 @@ naks-all-fails code shows =
 
 -- the second shows the frequency set, and not that of the fresh box
 pub echoes-only-fails : ShowsSets echoesOnly → ⊥
-unfolding feedingOf valid inRange couldBeLeft taking listedItem rowOf codeOf replyOf settingsAfter
+unfolding feedingOf valid inRange couldBeLeft taking listedItem rowOf codeOf replyOf settingsAfter wordOf
 echoes-only-fails shows =
     let wrong : _≡_ {A = ℕ} 0x80 0x90 = ap (λ (bs : List ℕ). getD bs 5 0) (tuned echoesOnly shows .1 .1) in
     omega arith

@@ -3,6 +3,7 @@ pub mod Asked
 pub mod AskedInPieces
 pub mod Packed
 pub mod Reached
+pub mod Word
 pub mod Shown
 pub mod ShownInPieces
 pub mod Refused

@@ -53,19 +53,25 @@ pub data Example : Type 0 where
   steps : ℕ → ℕ → ℕ → Example
   -- a sample at a width has these bytes
   packs : ℕ → ℤ → List ℕ → Example
+  -- a message is echoed, and the tuning word kept is then this
+  keepsWord : List ℕ → ℕ → Example
+  -- a message gets NAK, and the tuning word kept is still this
+  leavesWord : List ℕ → ℕ → Example
 
 abbrev pub holds : Example → Bool
 holds (gives message reply) = eqb (does message .fed .code) Code.done && same (does message .bytes) reply
-holds (tunes message hz) = same (does message .bytes) message && eqb (settingsBy message .frequency) hz
+holds (tunes message hz) = same (does message .bytes) message && eqb (settingsBy message .first .frequency) hz
 holds (hasWord hz clock word) = eqb (wordOf hz clock) word
 holds (asksFor message hz) = eqb (field 5 5 message) hz
 holds (unanswered message) = eqb (does message .fed .code) Code.noReplyDue && same (does message .bytes) []
 holds (getsCode message code) = eqb (does message .fed .code) code && same (does message .bytes) nak
-holds (gains message db) = same (does message .bytes) message && sameInteger (signed 8 (settingsBy message .gain)) db
+holds (gains message db) = same (does message .bytes) message && sameInteger (signed 8 (settingsBy message .first .gain)) db
 holds (givesRate hz d achieved) = mayAsk hz && eqb (nearestOf hz) d && eqb (rateOf d) achieved
 holds (hasNumber position number) = eqb (numberAt position) number
 holds (steps s t step) = eqb (stepOf s t) step
 holds (packs bits z packed) = same (sampleBytes bits z) packed
+holds (keepsWord message word) = same (does message .bytes) message && eqb (settingsBy message .first .word) word
+holds (leavesWord message word) = same (does message .bytes) nak && eqb (settingsBy message .first .word) word
 
 abbrev pub starred : List Example
 starred =
@@ -102,6 +108,12 @@ starred =
     ∷ packs 16 (minus 128) (0x00 ∷ 0x00 ∷ [])
     ∷ packs 16 (minus 129) (0xFF ∷ 0xFF ∷ [])
     ∷ packs 16 (pos 8_388_607) (0xFF ∷ 0x7F ∷ [])
+    -- 02, No. 5: the word is kept with a frequency and with a clock that are set, here 80,000,123 Hz; a refused set leaves that of
+    -- the fresh box
+    ∷ keepsWord (0x0A ∷ 0x00 ∷ 0x20 ∷ 0x00 ∷ 0x00 ∷ 0x90 ∷ 0xC6 ∷ 0xD5 ∷ 0x00 ∷ 0x00 ∷ []) 752_156_148
+    ∷ keepsWord (0x0A ∷ 0x00 ∷ 0x20 ∷ 0x00 ∷ 0x00 ∷ 0x40 ∷ 0x86 ∷ 0xA4 ∷ 0x08 ∷ 0x00 ∷ []) 805_306_368
+    ∷ keepsWord (0x09 ∷ 0x00 ∷ 0xB0 ∷ 0x00 ∷ 0x00 ∷ 0x7B ∷ 0xB4 ∷ 0xC4 ∷ 0x04 ∷ []) 536_870_087
+    ∷ leavesWord (0x0A ∷ 0x00 ∷ 0x20 ∷ 0x00 ∷ 0x00 ∷ 0x81 ∷ 0xCC ∷ 0x06 ∷ 0x02 ∷ 0x00 ∷ []) 536_870_912
     ∷ []
 
 abbrev pub allHold : List Example → Bool

@@ -1,15 +1,19 @@
 // The box at edges that no message of the script reaches: packets cut, and little room for a reply.
 use crate::telling::first;
 use crate::telling::name;
+use crate::telling::say;
+use crate::telling::say_code;
+use crate::telling::say_number;
 use crate::telling::tell;
 use station::Station;
+use station::Tuning;
 
 // A box that runs or not, in a mode and a size, and has cut so many packets.
 fn made(running: bool, mode: u8, size: u8, count: u64) -> Station {
     let mut settings = station::fresh(b"00000000").station.settings;
     settings.running = running;
     settings.mode = mode;
-    settings.size = size;
+    settings.size = size as u32;
     settings.count = count;
     Station {
         settings,
@@ -126,4 +130,76 @@ pub(crate) fn feeds() {
         b"\x04\x20\x09\x00",
         1,
     );
+}
+
+fn wide(word: u32) -> u64 {
+    word as u64
+}
+
+// What asking for the word answers.
+fn say_answer(t: Tuning) {
+    match t {
+        Tuning::Word(w) => {
+            say(b"1");
+            say_number(wide(w));
+        }
+        Tuning::Broken => say(b"21"),
+    }
+}
+
+// Feeds a message to a box, and tells its code, the word that the box keeps then, and what asking for the word answers.
+fn tuned(words: &[u8], s: Station, message: &[u8]) -> Station {
+    let mut reply = [0u8; 64];
+    let fed = station::feed(s, message, &mut reply);
+    let after = fed.station;
+    name(words);
+    say_code(fed.code);
+    say_number(wide(after.settings.first.word));
+    say(b"; ");
+    say_answer(station::tuning_word(after));
+    say(b"\n");
+    after
+}
+
+// The word is "true after every message, refused ones too": at each end of the bands and of the clock.
+pub(crate) fn words() {
+    let mut s = made(false, 0x80, 0, 0);
+    s = tuned(b"fresh, no byte", s, b"");
+    s = tuned(b"14010000", s, b"\x0A\x00\x20\x00\x00\x90\xC6\xD5\x00\x00");
+    s = tuned(
+        b"clock 80000123",
+        s,
+        b"\x09\x00\xB0\x00\x00\x7B\xB4\xC4\x04",
+    );
+    s = tuned(b"34000001", s, b"\x0A\x00\x20\x00\x00\x81\xCC\x06\x02\x00");
+    s = tuned(b"clock 8000000", s, b"\x09\x00\xB0\x00\x00\x00\x12\x7A\x00");
+    s = tuned(b"not answered", s, b"\x02\x00");
+    s = tuned(
+        b"145000000 on FF",
+        s,
+        b"\x0A\x00\x20\x00\xFF\x40\x86\xA4\x08\x00",
+    );
+    s = tuned(
+        b"145000000 on 02",
+        s,
+        b"\x0A\x00\x20\x00\x02\x40\x86\xA4\x08\x00",
+    );
+    s = tuned(
+        b"clock 79992000",
+        s,
+        b"\x09\x00\xB0\x00\x00\xC0\x94\xC4\x04",
+    );
+    s = tuned(b"100000", s, b"\x0A\x00\x20\x00\x00\xA0\x86\x01\x00\x00");
+    s = tuned(b"34000000", s, b"\x0A\x00\x20\x00\x00\x80\xCC\x06\x02\x00");
+    s = tuned(b"140000000", s, b"\x0A\x00\x20\x00\x00\x00\x3B\x58\x08\x00");
+    s = tuned(
+        b"clock 80008000",
+        s,
+        b"\x09\x00\xB0\x00\x00\x40\xD3\xC4\x04",
+    );
+    s = tuned(b"150000000", s, b"\x0A\x00\x20\x00\x00\x80\xD1\xF0\x08\x00");
+    s = tuned(b"gain -10", s, b"\x06\x00\x38\x00\x00\xF6");
+    s.settings.first.word = 536_817_229;
+    s = tuned(b"another word", s, b"\x04\x20\x01\x00");
+    cut(b"cut with another word", s, 480, 0, 1444);
 }

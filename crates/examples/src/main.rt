@@ -31,4 +31,6 @@ fn main() {
     harvest::heads_written();
     telling::say(b"\n# Packets of 16 bits: code, and the packet's first ten bytes\n");
     boxes::sixteen_bits();
+    telling::say(b"\n# The tuning word: code, the word kept; what asking for it answers\n");
+    boxes::words();
 }

@@ -1,6 +1,6 @@
 -- The first ten bytes of a message: of one that is held they are the first ten held, since unused places are zero.
 -- Assumes nothing.
-use Prim.Native.Nat.{ℕ, zero, suc, _+_, _-_, _≤_, _<_, min}
+use Prim.Native.Nat.{ℕ, zero, suc, _+_, _*_, _-_, _/_, _%_, _≤_, _<_, min}
 use mathlib.Core.Path.{_≡_, refl, sym, ap, _∙_}
 use mathlib.Core.Bool.{true}
 use mathlib.Core.List.{List, [], _∷_, _++_}
@@ -9,10 +9,12 @@ use native.Mathlib.Nat.{add-zero, add-suc, suc-add, le-refl}
 use native.Mathlib.Omega.{arith}
 use borrow.Author.Tests.{eqb-true}
 use lib.Dec.{eqb}
-use lib.ListN.{length, getD, set, take, drop, length-set, replicate, length-append, length-take, length-replicate, getD-replicate}
+use lib.ListN.{length, getD, set, take, drop, drop-of-length-le, length-set, replicate, length-append, length-take, length-replicate, getD-replicate}
 use lib.ListN.{List·getD-eq-default as getD-past, List·getD-append as getD-append}
 use lib.Seq.{sets, getD-take, getD-drop, getD-set-same, getD-append-add, take-append-le, length-take-le, ext-getD}
+use Rattle.wire.specs.Number.{number, bytes, field}
 use Rattle.wire.proofs.Laws.{and-left, and-right}
+use Rattle.wire.proofs.Numbers.{field-step}
 use Rattle.wire.proofs.Stores.{take-sets}
 use Rattle.framing.specs.Framing.{zeros}
 use Rattle.framing.specs.Telling.{firstTen}
@@ -33,6 +35,43 @@ ten-bytes (a ∷ b ∷ c ∷ d ∷ e ∷ f ∷ g ∷ []) = refl
 ten-bytes (a ∷ b ∷ c ∷ d ∷ e ∷ f ∷ g ∷ h ∷ []) = refl
 ten-bytes (a ∷ b ∷ c ∷ d ∷ e ∷ f ∷ g ∷ h ∷ i ∷ []) = refl
 ten-bytes (a ∷ b ∷ c ∷ d ∷ e ∷ f ∷ g ∷ h ∷ i ∷ j ∷ l) = refl
+
+-- ---- the same by a field of two bytes and one of eight
+
+-- n bytes from a place on, zero past the end
+abbrev reads : ℕ → ℕ → List ℕ → List ℕ
+reads zero at l = []
+reads (suc n) at l = getD l at 0 ∷ reads n (suc at) l
+
+field-first : (l : List ℕ) (at n : ℕ) → field at (suc n) l ≡ getD l at 0 + 256 * field (suc at) n l
+field-first l at n =
+    elim (decLt at (length l)) [
+      | yes w ↦ field-step l at n w
+      | no w ↦
+          let here : length l ≤ at = omega arith in
+          let next : length l ≤ suc at = omega arith in
+          rw (drop-of-length-le l here, drop-of-length-le l next, getD-past l 0 here) (none n)
+    ]
+  where
+    none : (n : ℕ) → 0 ≡ 0 + 256 * number (take n [])
+    none zero = refl
+    none (suc n) = refl
+
+field-bytes : (n at : ℕ) (l : List ℕ) → ((k : ℕ) → getD l k 0 < 256) → bytes n (field at n l) ≡ reads n at l
+field-bytes zero at l small = refl
+field-bytes (suc n) at l small =
+    let low : (getD l at 0 + 256 * field (suc at) n l) % 256 ≡ getD l at 0 = omega (arith, small at) in
+    let high : (getD l at 0 + 256 * field (suc at) n l) / 256 ≡ field (suc at) n l = omega (arith, small at) in
+    rw (field-first l at n, low, high) (ap (λ (r : List ℕ). getD l at 0 ∷ r) (field-bytes n (suc at) l small))
+
+pub by-fields : (l : List ℕ) → ((k : ℕ) → getD l k 0 < 256)
+    → sets (sets (replicate 10 0) 0 (bytes 2 (field 0 2 l))) 2 (bytes 8 (field 2 8 l)) ≡ firstTen l
+by-fields l small =
+    ap (λ (r : List ℕ). sets (sets (replicate 10 0) 0 r) 2 (bytes 8 (field 2 8 l))) (field-bytes 2 0 l small)
+    ∙ ap (λ (r : List ℕ). sets (sets (replicate 10 0) 0 (reads 2 0 l)) 2 r) (field-bytes 8 2 l small)
+    ∙ ten-bytes l
+
+-- ---- zeros behind the end
 
 -- zeros after a list are what is read past its end
 padded : (l : List ℕ) (k i : ℕ) → getD (l ++ replicate k 0) i 0 ≡ getD l i 0
@@ -96,28 +135,20 @@ module _ (held host : List ℕ) (had : ℕ) where
   abbrev joined : List ℕ
   joined = take had held ++ host
 
-  joined-held : (i : ℕ) → i < had → i < length held → getD joined i 0 ≡ getD held i 0
+  pub joined-held : (i : ℕ) → i < had → i < length held → getD joined i 0 ≡ getD held i 0
   joined-held i less inside =
       let there : i < length (take had held) = simp length-take (omega arith) in
       getD-append (take had held) host 0 i there ∙ getD-take had held i 0 less
 
-  joined-sent : (i : ℕ) → had ≤ i → i < length held → getD joined i 0 ≡ getD host (i - had) 0
+  pub joined-sent : (i : ℕ) → had ≤ i → i < length held → getD joined i 0 ≡ getD host (i - had) 0
   joined-sent i more inside =
       let front : length (take had held) ≡ had = length-take-le had held (omega arith) in
       let place : had + (i - had) ≡ i = omega arith in
       rw place at (rw front at (getD-append-add (take had held) host (i - had) 0))
 
-  -- a byte of its first n, as it is read
-  pub past-end : (n i : ℕ) → n ≤ i → getD (take n joined) i 0 ≡ 0
-  past-end n i more =
-      let past : length (take n joined) ≤ i = simp length-take (omega arith) in
-      getD-past (take n joined) 0 past
-
-  pub from-held : (n i : ℕ) → i < n → i < had → i < length held → getD (take n joined) i 0 ≡ getD held i 0
-  from-held n i within less inside = getD-take n joined i 0 within ∙ joined-held i less inside
-
-  pub from-host : (n i : ℕ) → i < n → had ≤ i → i < length held → getD (take n joined) i 0 ≡ getD host (i - had) 0
-  from-host n i within more inside = getD-take n joined i 0 within ∙ joined-sent i more inside
+  -- past the host's last
+  pub past-sent : (i : ℕ) → had ≤ i → i < length held → length host ≤ i - had → getD joined i 0 ≡ 0
+  past-sent i more inside past = joined-sent i more inside ∙ getD-past host 0 past
 
   -- it reads as it would with these bytes stored
   module _ (count : ℕ) (long : 10 ≤ length held) (sent : count ≤ length host) where
@@ -150,6 +181,7 @@ module _ (held host : List ℕ) (had : ℕ) where
         elim (decLt i (had + count)) [
           | yes w ↦ getD-take (had + count) joined i 0 w ∙ alike i ten w ∙ sym (getD-take (had + count) stored i 0 w)
           | no w ↦
+              let end : length (take (had + count) joined) ≤ i = simp length-take (omega arith) in
               let over : length (take (had + count) stored) ≤ i = simp length-take (omega arith) in
-              past-end (had + count) i (omega arith) ∙ sym (getD-past (take (had + count) stored) 0 over)
+              getD-past (take (had + count) joined) 0 end ∙ sym (getD-past (take (had + count) stored) 0 over)
         ])

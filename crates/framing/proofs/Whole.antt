@@ -1,9 +1,9 @@
 -- What one call takes, told by its count, the message's first ten bytes and what is held after it.
 -- Assumes nothing.
-use Prim.Native.Nat.{ℕ, _+_, _-_, _≤_, _<_}
+use Prim.Native.Nat.{ℕ, _+_, _-_, _≤_, _<_, min}
 use mathlib.Core.Path.{_≡_, refl, ap}
 use mathlib.Core.Bool.{true, false}
-use mathlib.Core.List.{List, _++_}
+use mathlib.Core.List.{List}
 use native.Mathlib.Omega.{arith}
 use borrow.Author.Tests.{le-leb, lt-leb, eq-eqb, ne-eqb}
 use lib.ListN.{length, take, replicate}
@@ -11,7 +11,7 @@ use lib.Seq.{sets, take-length}
 use Rattle.framing.specs.declared.Store.{Store}
 use Rattle.framing.specs.declared.Took.{Took}
 use Rattle.framing.specs.Framing.{callTakes}
-use Rattle.framing.specs.Telling.{firstTen, tookIn, heldAfter}
+use Rattle.framing.specs.Telling.{firstTen, lying, tookIn, heldAfter}
 use Rattle.framing.specs.Inside.{totalAhead}
 use Rattle.framing.proofs.Runs.{takenRun, taken-ahead}
 use Rattle.framing.proofs.FirstTen.{joined-opening}
@@ -38,12 +38,16 @@ module _ (held host : List ℕ) (had : ℕ) where
 
     -- it does: the message is read where it lies
     pub came-last : (ten : List ℕ) (count now : ℕ) → count ≡ total - had → now ≡ had + count → count ≤ length host
-        → ten ≡ firstTen (take now (take had held ++ host))
+        → ten ≡ firstTen (lying before host)
         → Tells (record { opening = ten; count = count; taken = now; finished = true }) held
     came-last ten count now left end sent e =
         let run : callTakes before host ≡ takenRun before host total count = taken-ahead before host total count is (omega arith) in
-        rw (eq-eqb (length held) 64 long, run, le-leb total (had + count) (omega arith), e, end) (
-          ap (λ (k : List ℕ). record { opening = k; count = count; taken = had + count; finished = true })
-              (joined-opening held host had count (omega arith) sent),
-          refl,
-        )
+        rw (eq-eqb (length held) 64 long, run, le-leb total (had + count) (omega arith), e, end) (refl, refl)
+
+-- up to what was taken, the message reads as it lies
+pub lying-read : (s : Store) (host : List ℕ) → 10 ≤ length (s .held)
+    → (let t = callTakes s host .store in firstTen (take (t .taken) (lying s host)) ≡ firstTen (take (t .taken) (t .held)))
+lying-read s host long =
+    let total = totalAhead (s .held) (s .taken) host in
+    let count = min (total - s .taken) (length host) in
+    rw (taken-ahead s host total count refl refl) (joined-opening (s .held) host (s .taken) count long (omega arith))

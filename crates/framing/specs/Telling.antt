@@ -1,5 +1,6 @@
--- What a call tells of the bytes that it took: in the store's place, the first ten bytes of a message that they finished. Nothing of
--- document 01 rests on it; that ten bytes decide what the whole message does is `ten-decide` (items/proofs/TenBytes).
+-- What a call tells of the bytes that it took: in the store's place, the ten bytes from the beginning of a message that they finished.
+-- Nothing of document 01 rests on it; that these bytes decide what the message does, whatever lies behind its end, are
+-- `ten-decide` (items/proofs/TenBytes) and `behind-nothing` (items/proofs/Behind).
 use Prim.Native.Nat.{ℕ}
 use mathlib.Core.Bool.{false, not, _&&_}
 use mathlib.Core.List.{List, _++_}
@@ -14,11 +15,16 @@ use Rattle.framing.specs.Framing.{Taking, callTakes}
 unfoldable pub firstTen : List ℕ → List ℕ
 firstTen bytes = take 10 (bytes ++ replicate 10 0)
 
--- What a call says of it: in the store's place, the first ten bytes of a finished message, and zeros for one that is not finished.
-abbrev pub tookOf : Taking → Took
-tookOf t =
+-- from a message's first byte on: what is held of it, and the host's bytes
+abbrev pub lying : Store → List ℕ → List ℕ
+lying s host = take (s .taken) (s .held) ++ host
+
+-- What a call says of it: in the store's place, ten bytes from the beginning of a finished message as they lie, and zeros for one that
+-- is not finished.
+abbrev pub tookOf : Taking → List ℕ → Took
+tookOf t ten =
     record {
-      opening = pick (t .finished) (firstTen (take (t .store .taken) (t .store .held))) (replicate 10 0);
+      opening = pick (t .finished) ten (replicate 10 0);
       count = t .count;
       taken = t .store .taken;
       finished = t .finished;
@@ -27,7 +33,7 @@ tookOf t =
 -- Bytes held in another number of places than 64 are no store, and nothing is taken.
 abbrev pub tookIn : Store → List ℕ → Took
 tookIn s host =
-    pick (eqb (length (s .held)) 64) (tookOf (callTakes s host))
+    pick (eqb (length (s .held)) 64) (tookOf (callTakes s host) (firstTen (lying s host)))
     (record { opening = replicate 10 0; count = 0; taken = s .taken; finished = false })
 
 -- What is held after a call: more only of a message that it did not finish.

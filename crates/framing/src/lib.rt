@@ -18,7 +18,8 @@ pub struct Store {
 }
 
 // What one call took of the host's bytes: how many, how many of the message are taken with them, whether they finished it,
-// and the first ten bytes of a finished message, zero where it has fewer. No message that the box obeys is longer.
+// and the ten bytes from the beginning of a finished message as they lie, zero where there are fewer. No message that the
+// box obeys is longer, and what lies behind one does not decide.
 pub struct Took {
     pub opening: [u8; 10],
     pub count: usize,
@@ -84,10 +85,9 @@ pub fn take_in(held: &mut [u8], had: usize, host: &[u8]) -> Took
     }
     // a message that comes whole is the usual one, and none of its bytes is looked for among those held
     if had == 0 {
-        return ended(opening(held, 0, host, total), total, total);
+        return ended(first_ten(host), total, total);
     }
-    let now = had + missing;
-    ended(opening(held, had, host, now), missing, now)
+    ended(opening(held, had, host), missing, had + missing)
 }
 
 // What was taken of a message that is not finished.
@@ -114,34 +114,48 @@ fn ended(opening: [u8; 10], count: usize, taken: usize) -> Took
     }
 }
 
-// The first ten of a message's n bytes, zero past their end: `had` of them were taken before, and the host's come next.
-fn opening(held: &[u8], had: usize, host: &[u8], n: usize) -> [u8; 10]
-    requires { ⌜ (length (now held) ≡ 64) × (n ≤ had + length (now host)) ⌝ }
-    ensures { λ r. ⌜ r ≡ firstTen (take n (take had (now (held .entry)) ++ now (host .entry))) ⌝ }
+// The first ten of these bytes, zero past their end. The header is read and stored apart from the eight behind it: so what
+// is read of them later is never part of two stores, for which a processor waits.
+fn first_ten(host: &[u8]) -> [u8; 10]
+    ensures { λ r. ⌜ r ≡ firstTen (now (host .entry)) ⌝ }
+{
+    let mut ten = [0u8; 10];
+    wire::put(&mut ten, 0, 2, wire::number_at(host, 0, 2));
+    wire::put(&mut ten, 2, 8, wire::number_at(host, 2, 8));
+    ten
+}
+
+// The first ten of a message of which `had` bytes are held and the host's come next.
+fn opening(held: &[u8], had: usize, host: &[u8]) -> [u8; 10]
+    requires { ⌜ length (now held) ≡ 64 ⌝ }
+    ensures { λ r. ⌜ r ≡ firstTen (take had (now (held .entry)) ++ now (host .entry)) ⌝ }
 {
     [
-        byte_of(held, had, host, n, 0),
-        byte_of(held, had, host, n, 1),
-        byte_of(held, had, host, n, 2),
-        byte_of(held, had, host, n, 3),
-        byte_of(held, had, host, n, 4),
-        byte_of(held, had, host, n, 5),
-        byte_of(held, had, host, n, 6),
-        byte_of(held, had, host, n, 7),
-        byte_of(held, had, host, n, 8),
-        byte_of(held, had, host, n, 9),
+        byte_of(held, had, host, 0),
+        byte_of(held, had, host, 1),
+        byte_of(held, had, host, 2),
+        byte_of(held, had, host, 3),
+        byte_of(held, had, host, 4),
+        byte_of(held, had, host, 5),
+        byte_of(held, had, host, 6),
+        byte_of(held, had, host, 7),
+        byte_of(held, had, host, 8),
+        byte_of(held, had, host, 9),
     ]
 }
 
-// One of the first of a message's n bytes, zero past their end.
-fn byte_of(held: &[u8], had: usize, host: &[u8], n: usize, i: usize) -> u8
-    requires { ⌜ (length (now held) ≡ 64) × (n ≤ had + length (now host)) × (i < 64) ⌝ }
-    ensures { λ r. ⌜ r ≡ getD (take n (take had (now (held .entry)) ++ now (host .entry))) i 0 ⌝ }
+// One of them, zero past their end.
+fn byte_of(held: &[u8], had: usize, host: &[u8], i: usize) -> u8
+    requires { ⌜ (length (now held) ≡ 64) × (i < 64) ⌝ }
+    ensures { λ r. ⌜ r ≡ getD (take had (now (held .entry)) ++ now (host .entry)) i 0 ⌝ }
 {
-    if n <= i {
+    if i < had {
+        return held[i];
+    }
+    if host.len() <= i - had {
         return 0;
     }
-    if i < had { held[i] } else { host[i - had] }
+    host[i - had]
 }
 
 // The header that two bytes make.

@@ -7,3 +7,4 @@ pub mod Judging
 pub mod TenBytes
 pub mod States
 pub mod Versions
+pub mod Behind

@@ -171,7 +171,7 @@ frequencyRule =
       askable = always;
       locked = never;
       stored = λ s p. withFrequency (field 1 5 p) s;
-      value = λ s p. bytes 5 (s .frequency);
+      value = λ s p. bytes 5 (s .first .frequency);
     }
 
 -- RF gain: channel, signed byte 0, -10, -20 or -30
@@ -182,7 +182,7 @@ gainRule =
       askable = always;
       locked = never;
       stored = λ s p. withGain (getD p 1 0) s;
-      value = λ s p. bytes 1 (s .gain);
+      value = λ s p. bytes 1 (s .first .gain);
     }
 
 -- clock: any channel byte, 32-bit Hz, 79,992,000 to 80,008,000 (house)

@@ -10,8 +10,9 @@ use Rattle.wire.specs.Codes as Code
 use Rattle.wire.specs.Signed.{coded, minus}
 use Rattle.rates.specs.Rate.{isD}
 use Rattle.tuning.specs.Bands.{inBands}
-use Rattle.tuning.specs.Word.{isClock}
+use Rattle.tuning.specs.Word.{isClock, wordOf, wordKept}
 use Rattle.packets.specs.Numbers.{most}
+use Rattle.items.specs.declared.Channel.{Channel}
 use Rattle.items.specs.declared.Settings.{Settings}
 use Rattle.items.specs.declared.FreshSettings.{FreshSettings}
 
@@ -43,30 +44,36 @@ allSerial (b ∷ bs) = isSerialByte b && allSerial bs
 abbrev pub isSerial : List ℕ → Bool
 isSerial serial = eqb (length serial) 8 && allSerial serial
 
+-- a channel of a box with this clock. "A box whose stored word disagrees with its frequency and clock is broken (21)." (02, No. 5)
+abbrev pub channelInRange : ℕ → Channel → Bool
+channelInRange clock c = inBands (c .frequency) && eqb (c .word) (wordOf (c .frequency) clock) && isGain (c .gain)
+
 -- every setting lies within its range
 unfoldable pub inRange : Settings → Bool
 inRange s =
-    inBands (s .frequency)
+    isClock (s .clock)
+    && channelInRange (s .clock) (s .first)
     && leb (s .count) most
-    && isClock (s .clock)
     && isD (s .divisor)
-    && isMode (s .mode)
-    && isGain (s .gain)
     && isSize (s .size)
+    && isMode (s .mode)
     && isSerial (s .serial)
 
--- "A fresh box: idle, mode 80, 10,000,000 Hz, gain 0, clock 80,000,000, D = 100, large packets, count 0."
+-- "A fresh box: idle, mode 80, 10,000,000 Hz, gain 0, clock 80,000,000, D = 100, large packets, count 0." The word of
+-- 10,000,000 at 80,000,000 is 2^32 / 8.
+abbrev pub freshChannel : Channel
+freshChannel = record { frequency = 10_000_000; word = 536_870_912; gain = 0 }
+
 abbrev pub freshOf : List ℕ → Settings
 freshOf serial =
     record {
-      frequency = 10_000_000;
+      first = freshChannel;
       count = 0;
       clock = 80_000_000;
       divisor = 100;
+      size = 0;
       running = false;
       mode = 0x80;
-      gain = 0;
-      size = 0;
       serial = serial;
     }
 
@@ -76,42 +83,52 @@ freshAnswer serial =
     pick (isSerial serial) (record { code = Code.done; settings = freshOf serial })
     (record { code = Code.notASerial; settings = freshOf (replicate 8 0x30) })
 
--- all of them, in their order
-abbrev settings : ℕ → ℕ → ℕ → ℕ → Bool → ℕ → ℕ → ℕ → List ℕ → Settings
-settings frequency count clock divisor running mode gain size serial =
+-- a channel at a frequency, in a box with this clock: its word is that of both
+abbrev pub tunedTo : ℕ → ℕ → Channel → Channel
+tunedTo hz clock c = record { frequency = hz; word = wordKept hz clock; gain = c .gain }
+
+-- all settings, in their order
+abbrev settings : Channel → ℕ → ℕ → ℕ → ℕ → Bool → ℕ → List ℕ → Settings
+settings first count clock divisor size running mode serial =
     record {
-      frequency = frequency;
+      first = first;
       count = count;
       clock = clock;
       divisor = divisor;
+      size = size;
       running = running;
       mode = mode;
-      gain = gain;
-      size = size;
       serial = serial;
     }
 
 -- the settings with one of them changed
-abbrev pub withFrequency : ℕ → Settings → Settings
-withFrequency hz s = settings hz (s .count) (s .clock) (s .divisor) (s .running) (s .mode) (s .gain) (s .size) (s .serial)
+abbrev pub withFirst : Channel → Settings → Settings
+withFirst c s = settings c (s .count) (s .clock) (s .divisor) (s .size) (s .running) (s .mode) (s .serial)
 
 abbrev pub withCount : ℕ → Settings → Settings
-withCount n s = settings (s .frequency) n (s .clock) (s .divisor) (s .running) (s .mode) (s .gain) (s .size) (s .serial)
-
-abbrev pub withClock : ℕ → Settings → Settings
-withClock hz s = settings (s .frequency) (s .count) hz (s .divisor) (s .running) (s .mode) (s .gain) (s .size) (s .serial)
+withCount n s = settings (s .first) n (s .clock) (s .divisor) (s .size) (s .running) (s .mode) (s .serial)
 
 abbrev pub withDivisor : ℕ → Settings → Settings
-withDivisor d s = settings (s .frequency) (s .count) (s .clock) d (s .running) (s .mode) (s .gain) (s .size) (s .serial)
-
-abbrev pub withRunning : Bool → Settings → Settings
-withRunning b s = settings (s .frequency) (s .count) (s .clock) (s .divisor) b (s .mode) (s .gain) (s .size) (s .serial)
-
-abbrev pub withMode : ℕ → Settings → Settings
-withMode byte s = settings (s .frequency) (s .count) (s .clock) (s .divisor) (s .running) byte (s .gain) (s .size) (s .serial)
-
-abbrev pub withGain : ℕ → Settings → Settings
-withGain byte s = settings (s .frequency) (s .count) (s .clock) (s .divisor) (s .running) (s .mode) byte (s .size) (s .serial)
+withDivisor d s = settings (s .first) (s .count) (s .clock) d (s .size) (s .running) (s .mode) (s .serial)
 
 abbrev pub withSize : ℕ → Settings → Settings
-withSize byte s = settings (s .frequency) (s .count) (s .clock) (s .divisor) (s .running) (s .mode) (s .gain) byte (s .serial)
+withSize byte s = settings (s .first) (s .count) (s .clock) (s .divisor) byte (s .running) (s .mode) (s .serial)
+
+abbrev pub withRunning : Bool → Settings → Settings
+withRunning b s = settings (s .first) (s .count) (s .clock) (s .divisor) (s .size) b (s .mode) (s .serial)
+
+abbrev pub withMode : ℕ → Settings → Settings
+withMode byte s = settings (s .first) (s .count) (s .clock) (s .divisor) (s .size) (s .running) byte (s .serial)
+
+abbrev pub withGain : ℕ → Settings → Settings
+withGain byte s = withFirst (record { frequency = s .first .frequency; word = s .first .word; gain = byte }) s
+
+-- Frequency and clock. The word is "true after every message" (02, No. 5), so it changes with either.
+abbrev pub withTuning : ℕ → ℕ → Settings → Settings
+withTuning hz clock s = settings (tunedTo hz clock (s .first)) (s .count) clock (s .divisor) (s .size) (s .running) (s .mode) (s .serial)
+
+abbrev pub withFrequency : ℕ → Settings → Settings
+withFrequency hz s = withTuning hz (s .clock) s
+
+abbrev pub withClock : ℕ → Settings → Settings
+withClock hz s = withTuning (s .first .frequency) hz s

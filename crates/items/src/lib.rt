@@ -10,23 +10,31 @@ pub use range_reply::put_range_reply;
 pub use ranges::fresh;
 pub use ranges::in_range;
 
-// The settings of a box. A box started fresh keeps each within its range; specs/Settings.antt has the ranges.
-pub struct Settings {
+// A tuning channel. Gain and packet size have 32 bits where eight would do: so no odd number of bytes is left over in a
+// box, which the compiler would copy one by one with each message (docs/BENCHMARKS.md).
+pub struct Channel {
     // Hz
     pub frequency: u64,
+    // the tuning word of this frequency at the box's clock
+    pub word: u32,
+    // the signed byte as it is sent
+    pub gain: u32,
+}
+
+// The settings of a box. A box started fresh keeps each within its range; specs/Settings.antt has the ranges.
+pub struct Settings {
+    pub first: Channel,
     // packets cut in this capture
     pub count: u64,
     // Hz
     pub clock: u32,
     // the D of the rate, 20,000,000 / D
     pub divisor: u32,
+    // 0 large, 1 small
+    pub size: u32,
     pub running: bool,
     // 80 for 24 bits, 00 for 16
     pub mode: u8,
-    // the signed byte as it is sent
-    pub gain: u8,
-    // 0 large, 1 small
-    pub size: u8,
     pub serial: [u8; 8],
 }
 

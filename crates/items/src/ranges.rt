@@ -1,7 +1,11 @@
 // The settings' ranges: "A box with a field outside these rules is broken (21)."
 ghost use mathlib.Core.Path.{_≡_};
+ghost use mathlib.Core.Bool.{_&&_};
 ghost use lib.ListN.{length};
-ghost use Rattle.items.specs.Settings.{inRange, freshOf, freshAnswer, isMode, isGain, isSize, isSerialByte, allSerial};
+ghost use Rattle.tuning.specs.Word.{isClock};
+ghost use Rattle.items.specs.Settings.{channelInRange, inRange, freshOf, freshAnswer, isMode, isGain, isSize};
+ghost use Rattle.items.specs.Settings.{isSerialByte, allSerial};
+use crate::Channel;
 use crate::FreshSettings;
 use crate::Settings;
 use wire::codes;
@@ -14,13 +18,19 @@ pub fn in_range(s: Settings) -> bool
     if !all_serial(&s.serial) {
         return false;
     }
-    tuning::in_bands(s.frequency)
+    is_tuned(s.first, s.clock)
         & (s.count <= packets::MOST)
-        & tuning::is_clock(s.clock)
         & rates::is_d(s.divisor)
-        & is_mode(s.mode)
-        & is_gain(s.gain)
         & is_size(s.size)
+        & is_mode(s.mode)
+}
+
+// The channel lies within its ranges at a clock that may be set: "A box whose stored word disagrees with its frequency and clock is
+// broken (21)."
+fn is_tuned(c: Channel, clock: u32) -> bool
+    ensures { λ r. ⌜ r ≡ (isClock clock && channelInRange clock c) ⌝ }
+{
+    tuning::agree(c.frequency, clock, c.word) & is_gain(c.gain)
 }
 
 // A fresh box with a serial: 1, or 26 and the serial 00000000 where these are not eight of A-Z, 0-9.
@@ -59,15 +69,19 @@ pub fn fresh(serial: &[u8]) -> FreshSettings
 fn started(serial: [u8; 8]) -> Settings
     ensures { λ r. ⌜ r ≡ freshOf serial ⌝ }
 {
-    Settings {
+    let first = Channel {
         frequency: 10_000_000,
+        word: 536_870_912,
+        gain: 0,
+    };
+    Settings {
+        first: first,
         count: 0,
         clock: 80_000_000,
         divisor: 100,
+        size: packets::LARGE as u32,
         running: false,
         mode: packets::MODE_24,
-        gain: 0,
-        size: packets::LARGE,
         serial,
     }
 }
@@ -97,7 +111,7 @@ pub fn is_mode(byte: u8) -> bool
 }
 
 // RF gain as it is sent: 0, -10, -20 or -30 in a signed byte.
-pub fn is_gain(byte: u8) -> bool
+pub fn is_gain(byte: u32) -> bool
     ensures { λ r. ⌜ r ≡ isGain byte ⌝ }
 {
     match byte {
@@ -107,10 +121,10 @@ pub fn is_gain(byte: u8) -> bool
 }
 
 // Packet size: 0 large, 1 small.
-pub fn is_size(byte: u8) -> bool
+pub fn is_size(byte: u32) -> bool
     ensures { λ r. ⌜ r ≡ isSize byte ⌝ }
 {
-    (byte == packets::LARGE) | (byte == packets::SMALL)
+    (byte == packets::LARGE as u32) | (byte == packets::SMALL as u32)
 }
 
 // A character of a serial: A-Z, 0-9.

@@ -37,9 +37,14 @@ fn is_heard(p: u32) -> bool {
     }
 }
 
+// The packet size of the box as the one byte that a message and a capture's head have for it.
+fn size_byte(settings: Settings) -> u8 {
+    (settings.size % 256) as u8
+}
+
 // How many numbers a packet of the box holds, I and Q in turn.
 fn numbers_of(settings: Settings) -> usize {
-    let form = packets::form_for(settings.mode, settings.size);
+    let form = packets::form_for(settings.mode, size_byte(settings));
     if 256 < form.pairs {
         return 0;
     }
@@ -163,9 +168,9 @@ fn open(settings: Settings) -> Span {
     heads::write_head(
         Head {
             divisor: settings.divisor,
-            frequency: settings.frequency,
+            frequency: settings.first.frequency,
             mode: settings.mode,
-            size: settings.size,
+            size: size_byte(settings),
         },
         &mut head,
     );

@@ -21,19 +21,19 @@ askedBy i p =
     ∷ check Code.valueNotAllowed (not (valueAllowed i typeRequest p)) ∷ [])
     Code.done
 
--- a set that would leave the settings `to`, where the channel byte or the value may not be allowed, or the item locked
+-- the code of a set, where the channel byte or the value may not be allowed, or the item locked
 abbrev pub setCode : Bool → Bool → Bool → ℕ
 setCode channel value locked =
     firstOf
     (check Code.channelNotAllowed (not channel) ∷ check Code.valueNotAllowed (not value) ∷ check Code.notWhileRunning locked ∷ [])
     Code.done
 
-abbrev pub decided : Settings → Settings → Bool → Bool → Bool → Judged
-decided s to channel value locked =
-    record { code = setCode channel value locked; settings = pick (eqb (setCode channel value locked) Code.done) to s }
+-- a set with this code, that would leave the settings `to`
+abbrev pub decided : Settings → Settings → ℕ → Judged
+decided s to code = record { code = code; settings = pick (eqb code Code.done) to s }
 
 -- a set of an item, with these parameters
 abbrev pub setBy : Item → Settings → List ℕ → Judged
 setBy i s p =
-    decided s (i .rule .stored s p) (channelAllowed (i .echoed) typeSet (getD p 0 0)) (i .rule .settable p)
-    (s .running && i .rule .locked s p)
+    decided s (i .rule .stored s p)
+    (setCode (channelAllowed (i .echoed) typeSet (getD p 0 0)) (i .rule .settable p) (s .running && i .rule .locked s p))

@@ -5,9 +5,10 @@ ghost use Prim.Native.Nat.{_≤_};
 ghost use lib.ListN.{length};
 ghost use Rattle.wire.specs.Codes.{done};
 ghost use Rattle.wire.specs.Header.{typeSet};
+ghost use Rattle.items.specs.Settings.{withTuning};
 ghost use Rattle.items.specs.Items.{zeroAndAll, state, stateAfter, run, frequency, gain, clock, rate, packetSize, rowOf};
 ghost use Rattle.items.specs.Answer.{channelAllowed};
-ghost use Rattle.judging.specs.Inside.{decided, setBy};
+ghost use Rattle.judging.specs.Inside.{setCode, decided, setBy};
 use items::Judged;
 use items::Settings;
 use items::ranges;
@@ -48,21 +49,31 @@ fn accepted(to: Settings) -> Judged
     }
 }
 
-// A set that would leave the settings `to`, by what speaks against it, "in order of checking": a channel byte that is not
-// allowed, a value that is not, and an item that is locked while the box is running.
-fn decide(s: Settings, to: Settings, channel: bool, value: bool, locked: bool) -> Judged
-    ensures { λ r. ⌜ r ≡ decided s to channel value locked ⌝ }
+// The code of a set by what speaks against it, "in order of checking": a channel byte that is not allowed, a value that is
+// not, and an item that is locked while the box is running.
+fn set_code(channel: bool, value: bool, locked: bool) -> u8
+    ensures { λ r. ⌜ r ≡ setCode channel value locked ⌝ }
 {
     if !channel {
-        return refused(codes::CHANNEL_NOT_ALLOWED, s);
+        return codes::CHANNEL_NOT_ALLOWED;
     }
     if !value {
-        return refused(codes::VALUE_NOT_ALLOWED, s);
+        return codes::VALUE_NOT_ALLOWED;
     }
     if locked {
-        return refused(codes::NOT_WHILE_RUNNING, s);
+        return codes::NOT_WHILE_RUNNING;
     }
-    accepted(to)
+    codes::DONE
+}
+
+// A set with this code that would leave the settings `to`.
+fn decide(s: Settings, to: Settings, code: u8) -> Judged
+    ensures { λ r. ⌜ r ≡ decided s to code ⌝ }
+{
+    if code == codes::DONE {
+        return accepted(to);
+    }
+    refused(code, s)
 }
 
 // State: "Run byte 1 is idle: the other three are ignored, the mode is kept, always accepted." "Other run bytes are 16."
@@ -87,7 +98,8 @@ fn start(s: Settings, first: u8, mode: u8) -> Judged
 {
     let allowed = (first == values::COMPLEX) & ranges::is_mode(mode);
     let other_mode = mode != s.mode;
-    decide(s, started(s, mode), true, allowed, s.running & other_mode)
+    let code = set_code(true, allowed, s.running & other_mode);
+    decide(s, started(s, mode), code)
 }
 
 // "Starting from idle sets the packet count to 0. Run while running in the same mode replies and changes nothing".
@@ -120,9 +132,8 @@ fn set_frequency(s: Settings, p: &[u8]) -> Judged
     ensures { λ r. ⌜ r ≡ setBy frequency s (now (p .entry)) ⌝ }
 {
     let hz = wire::number_at(p, 1, 5);
-    let mut set = s;
-    set.frequency = hz;
-    decide(s, set, set_channel(p[0]), tuning::in_bands(hz), false)
+    let code = set_code(set_channel(p[0]), tuning::in_bands(hz), false);
+    tune(s, hz, s.clock, code)
 }
 
 // RF gain: channel, signed byte 0, -10, -20 or -30.
@@ -130,10 +141,11 @@ fn set_gain(s: Settings, p: &[u8]) -> Judged
     requires { ⌜ 2 ≤ length (now p) ⌝ }
     ensures { λ r. ⌜ r ≡ setBy gain s (now (p .entry)) ⌝ }
 {
-    let byte = p[1];
+    let byte = p[1] as u32;
     let mut set = s;
-    set.gain = byte;
-    decide(s, set, set_channel(p[0]), ranges::is_gain(byte), false)
+    set.first.gain = byte;
+    let code = set_code(set_channel(p[0]), ranges::is_gain(byte), false);
+    decide(s, set, code)
 }
 
 // Clock: any channel byte, 32-bit Hz.
@@ -141,9 +153,25 @@ fn set_clock(s: Settings, p: &[u8]) -> Judged
     ensures { λ r. ⌜ r ≡ setBy clock s (now (p .entry)) ⌝ }
 {
     let hz = wire::number_at(p, 1, 4) as u32;
+    let code = set_code(true, tuning::is_clock(hz), false);
+    let first = s.first;
+    tune(s, first.frequency, hz, code)
+}
+
+// A set with this code that would tune the box to a frequency at a clock: the word is that of both. It is worked out only
+// where it is stored.
+fn tune(s: Settings, hz: u64, clock: u32, code: u8) -> Judged
+    ensures { λ r. ⌜ r ≡ decided s (withTuning hz clock s) code ⌝ }
+{
+    if code != codes::DONE {
+        return refused(code, s);
+    }
+    let word = tuning::word_kept(hz, clock);
     let mut set = s;
-    set.clock = hz;
-    decide(s, set, true, tuning::is_clock(hz), false)
+    set.clock = clock;
+    set.first.frequency = hz;
+    set.first.word = word;
+    accepted(set)
 }
 
 // Rate: any channel byte, 32-bit Hz; the D with the nearest exact rate is taken. Not while running.
@@ -153,7 +181,8 @@ fn set_rate(s: Settings, p: &[u8]) -> Judged
     let asked = wire::number_at(p, 1, 4) as u32;
     let mut set = s;
     set.divisor = rates::nearest(asked);
-    decide(s, set, true, rates::may_ask(asked), s.running)
+    let code = set_code(true, rates::may_ask(asked), s.running);
+    decide(s, set, code)
 }
 
 // Packet size: 0 large, 1 small; not while running.
@@ -161,8 +190,9 @@ fn set_size(s: Settings, p: &[u8]) -> Judged
     requires { ⌜ 1 ≤ length (now p) ⌝ }
     ensures { λ r. ⌜ r ≡ setBy packetSize s (now (p .entry)) ⌝ }
 {
-    let byte = p[0];
+    let byte = p[0] as u32;
     let mut set = s;
     set.size = byte;
-    decide(s, set, true, ranges::is_size(byte), s.running)
+    let code = set_code(true, ranges::is_size(byte), s.running);
+    decide(s, set, code)
 }

@@ -9,6 +9,7 @@ use borrow.Author.Tests.{le-leb}
 use lib.Dec.{lit≤}
 use lib.IntN.{ℤ, pos}
 use lib.ListN.{length, replicate}
+use Rattle.tuning.specs.Word.{wordOf}
 use Rattle.packets.specs.Numbers.{most}
 use Rattle.items.specs.Settings.{inRange, freshOf, withCount, withRunning}
 use Rattle.items.specs.Items.{listedItem, rowOf}
@@ -30,7 +31,7 @@ abbrev silence : List ℤ
 silence = replicate 480 (pos 0)
 
 running-valid : (k : ℕ) → k ≤ most → valid (running k) ≡ true
-unfolding valid inRange couldBeLeft
+unfolding valid inRange couldBeLeft wordOf
 running-valid k h = rw (le-leb k most h)
 
 running-cuts : (k : ℕ) → k < most → cuttingOf (running k) silence 1_444 ≡ cutFrom (running k) silence
@@ -55,7 +56,7 @@ runMessage = 0x08 ∷ 0x00 ∷ 0x18 ∷ 0x00 ∷ 0x80 ∷ 0x02 ∷ 0x80 ∷ 0x00
 
 -- makes the box of no packets from a fresh one
 pub starts-running : feedingOf (freshStation (replicate 8 0x30)) runMessage 64 .fed .station ≡ running 0
-unfolding feedingOf valid inRange couldBeLeft taking listedItem rowOf codeOf replyOf settingsAfter
+unfolding feedingOf valid inRange couldBeLeft taking listedItem rowOf codeOf replyOf settingsAfter wordOf
 starts-running = refl
 
 pub captures-exist : (n : ℕ) → n ≤ most → (packets : List (List ℕ)) × Capture (running 0) packets × (length packets ≡ n)

@@ -18,7 +18,8 @@ use Rattle.wire.proofs.Numbers.{bytes-number, number-bytes, number-below}
 use Rattle.rates.specs.Rate.{rateOf, nearestOf, isD}
 use Rattle.rates.specs.Table.{dOf}
 use Rattle.rates.proofs.Rates.{d-of-rate, rate-listed, listed-d}
-use Rattle.tuning.specs.Bands.{bands, rangeBytes}
+use Rattle.tuning.specs.Bands.{bands, inBands, rangeBytes}
+use Rattle.tuning.specs.Word.{isClock, wordOf}
 use Rattle.layouts.specs.declared.Layout.{Layout}
 use Rattle.layouts.specs.Layouts.{parametersOf, sizeOf, laid}
 use Rattle.layouts.proofs.Sizes.{length-laid}
@@ -70,11 +71,11 @@ numberOf (AskVersion id) s = number (getD versionTable id [])
 numberOf AskStatus s = pick (s .running) 0x0C 0x0B
 numberOf (SetState f) s = stateOf (s .running) (s .mode)
 numberOf AskState s = stateOf (s .running) (s .mode)
-numberOf (SetFrequency hz) s = s .frequency
-numberOf AskFrequency s = s .frequency
+numberOf (SetFrequency hz) s = s .first .frequency
+numberOf AskFrequency s = s .first .frequency
 numberOf AskFrequencyRange s = number (0x02 ∷ rangeBytes bands)
-numberOf (SetGain g) s = s .gain
-numberOf AskGain s = s .gain
+numberOf (SetGain g) s = s .first .gain
+numberOf AskGain s = s .first .gain
 numberOf (SetClock hz) s = s .clock
 numberOf AskClock s = s .clock
 numberOf (SetRate hz) s = rateOf (s .divisor)
@@ -234,10 +235,10 @@ could-shown (SetState f) s e r now =
 could-shown AskState s e r now =
     box-has (λ t m. isState (stateOf t m) ≡ true) refl refl refl refl (s .running) (s .mode) (r .mode)
 could-shown (SetFrequency hz) s e r now = eq-eqb hz hz refl
-could-shown AskFrequency s e r now = r .frequency
+could-shown AskFrequency s e r now = r .first .frequency
 could-shown AskFrequencyRange s e r now = refl
 could-shown (SetGain g) s e r now = eq-eqb (coded 8 g) (coded 8 g) refl
-could-shown AskGain s e r now = r .gain
+could-shown AskGain s e r now = r .first .gain
 could-shown (SetClock hz) s e r now = eq-eqb hz hz refl
 could-shown AskClock s e r now = r .clock
 could-shown (SetRate hz) s e r now = eq-eqb (rateOf (nearestOf hz)) (rateOf (nearestOf hz)) refl
@@ -361,8 +362,17 @@ state-mode f n e h =
     state-has (λ f. awaited (SetState f) .could n ≡ true → mode-in n) (λ m. one-has mode-in n idleShown (refl, (refl, tt)))
     (run-mode 0x80 n refl) (run-mode 0x00 n refl) f e h
 
-box-valid : (w : Wish) (n : ℕ) → allowedWish w ≡ true → awaited w .could n ≡ true → inRange (boxWith w n) ≡ true
+-- a fresh box but for its frequency, or its clock, keeps the word of both
+tuned-valid : (n : ℕ) → inBands n ≡ true → inRange (withFrequency n fresh) ≡ true
 unfolding inRange
+tuned-valid n h = rw (h, eq-eqb (wordOf n 80_000_000) (wordOf n 80_000_000) refl)
+
+clocked-valid : (n : ℕ) → isClock n ≡ true → inRange (withClock n fresh) ≡ true
+unfolding inRange
+clocked-valid n h = rw (h, eq-eqb (wordOf 10_000_000 n) (wordOf 10_000_000 n) refl)
+
+box-valid : (w : Wish) (n : ℕ) → allowedWish w ≡ true → awaited w .could n ≡ true → inRange (boxWith w n) ≡ true
+unfolding inRange wordOf
 box-valid AskName n e h = refl
 box-valid AskSerial n e h = rw (and-left (allSerial (bytes 8 n)) (ltb n (256 ^ 8)) h)
 box-valid AskInterface n e h = refl
@@ -371,12 +381,12 @@ box-valid AskStatus n e h = refl
 box-valid (SetState f) n e h = rw (state-mode f n e h)
 box-valid AskState n e h = rw (one-has mode-in n (idleShown ++ runShown) (refl, (refl, (refl, (refl, tt)))) h)
 box-valid (SetFrequency hz) n e h = refl
-box-valid AskFrequency n e h = rw h
+box-valid AskFrequency n e h = tuned-valid n h
 box-valid AskFrequencyRange n e h = refl
 box-valid (SetGain g) n e h = refl
 box-valid AskGain n e h = rw h
 box-valid (SetClock hz) n e h = refl
-box-valid AskClock n e h = rw h
+box-valid AskClock n e h = clocked-valid n h
 box-valid (SetRate hz) n e h = refl
 box-valid AskRate n e h = rw (listed-d n h .0)
 box-valid (SetPacketSize m) n e h = refl

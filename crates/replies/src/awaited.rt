@@ -98,11 +98,11 @@ pub(crate) fn could_say(w: Wish, n: u64) -> bool
         Wish::SetState(fields) => state_could(fields, n),
         Wish::AskState => is_state(n),
         Wish::AskFrequency => tuning::in_bands(n),
-        Wish::AskGain => items::ranges::is_gain(n as u8),
+        Wish::AskGain => items::ranges::is_gain(n as u32),
         Wish::AskClock => tuning::is_clock(n as u32),
         Wish::SetRate(hz) => n == rates::achieved(rates::nearest(hz)) as u64,
         Wish::AskRate => 0 < rates::d_of(n as u32),
-        Wish::AskPacketSize => items::ranges::is_size(n as u8),
+        Wish::AskPacketSize => items::ranges::is_size(n as u32),
         _ => n == wishes::layout_of(w).value,
     }
 }

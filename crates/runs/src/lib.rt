@@ -49,7 +49,7 @@ fn started(mode: u8, size: u8) -> Station
     let mut settings = station.settings;
     settings.running = true;
     settings.mode = mode;
-    settings.size = size;
+    settings.size = size as u32;
     Station { settings, store }
 }
 

@@ -7,6 +7,7 @@ use mathlib.Core.Bool.{true}
 use mathlib.Core.List.{List}
 use lib.ListN.{length, take}
 use lib.Seq.{sets, sets-eq, length-sets, take-append-seam}
+use Rattle.tuning.specs.Word.{wordOf}
 use Rattle.framing.specs.Framing.{couldBeLeft}
 use Rattle.items.specs.Settings.{inRange}
 use Rattle.station.specs.declared.Station.{Station}
@@ -33,5 +34,5 @@ reply-is s host l array r long told wrote =
 
 -- the box that the program begins with
 pub fresh-valid : valid (freshBox sessionSerial .station) ≡ true
-unfolding valid inRange couldBeLeft
+unfolding valid inRange couldBeLeft wordOf
 fresh-valid = refl

@@ -7,17 +7,19 @@ use mathlib.Core.List.{List}
 use native.Mathlib.Omega.{arith}
 use lib.Dec.{eqb, leb}
 use lib.ListN.{length, getD}
-use borrow.Author.Tests.{ne-eqb, eqb-true}
+use borrow.Author.Tests.{ne-eqb, eq-eqb, eqb-true}
 use Rattle.wire.specs.Number.{field}
 use Rattle.wire.proofs.Checks.{given-below}
-use Rattle.wire.proofs.Laws.{and-left, and-right, and-not-left}
+use Rattle.wire.proofs.Laws.{and-left, and-right, and-both, and-not-left}
 use Rattle.rates.specs.Rate.{isD}
 use Rattle.rates.proofs.Rates.{nearest-d}
 use Rattle.tuning.specs.Bands.{inBands}
-use Rattle.tuning.specs.Word.{isClock}
+use Rattle.tuning.specs.Word.{isClock, wordOf}
+use Rattle.tuning.proofs.Words.{kept-is}
 use Rattle.packets.specs.Numbers.{most}
+use Rattle.items.specs.declared.Channel.{Channel}
 use Rattle.items.specs.declared.Settings.{Settings}
-use Rattle.items.specs.Settings.{inRange, isMode, isGain, isSize, allSerial, isSerial}
+use Rattle.items.specs.Settings.{channelInRange, inRange, isMode, isGain, isSize, allSerial, isSerial, tunedTo}
 use Rattle.items.specs.Items.{Item, items, frequency, gain, clock, rate, packetSize, mayState, runByte, modeByte, idle, run, state}
 use Rattle.wire.specs.Header.{typeSet}
 use Rattle.items.specs.Answer.{Message, itemIn, checks, codeOf, settingsAfter, row, parameters}
@@ -25,23 +27,41 @@ use Rattle.items.proofs.Rows.{allHave, _then_, found}
 use Rattle.items.proofs.Judging.{has-value, after-ways}
 use Rattle.items.proofs.States.{state-ways}
 
+-- a channel within its ranges in a box with this clock, one by one
+pub record Channels (clock : ℕ) (c : Channel) : Type 0 where
+  pub frequency : inBands (c .frequency) ≡ true
+  pub word : c .word ≡ wordOf (c .frequency) clock
+  pub gain : isGain (c .gain) ≡ true
+
+channel-ranges : (clock : ℕ) (c : Channel) → channelInRange clock c ≡ true → Channels clock c
+channel-ranges clock c h =
+    let band = inBands (c .frequency) in
+    let agrees = eqb (c .word) (wordOf (c .frequency) clock) in
+    let both = and-left (band && agrees) (isGain (c .gain)) h in
+    record {
+      frequency = and-left band agrees both;
+      word = eqb-true (c .word) (wordOf (c .frequency) clock) (and-right band agrees both);
+      gain = and-right (band && agrees) (isGain (c .gain)) h;
+    }
+
+channel-in-range : (clock : ℕ) (c : Channel) → Channels clock c → channelInRange clock c ≡ true
+channel-in-range clock c r = rw (r .frequency, eq-eqb (c .word) (wordOf (c .frequency) clock) (r .word), r .gain)
+
 -- every setting lies within its range, one by one
 pub record Ranges (s : Settings) : Type 0 where
-  pub frequency : inBands (s .frequency) ≡ true
-  pub count : leb (s .count) most ≡ true
   pub clock : isClock (s .clock) ≡ true
+  pub first : Channels (s .clock) (s .first)
+  pub count : leb (s .count) most ≡ true
   pub divisor : isD (s .divisor) ≡ true
-  pub mode : isMode (s .mode) ≡ true
-  pub gain : isGain (s .gain) ≡ true
   pub size : isSize (s .size) ≡ true
+  pub mode : isMode (s .mode) ≡ true
   pub serial : isSerial (s .serial) ≡ true
 
--- eight tests that all hold, one by one
-eight : (a b c d e f g h : Bool) → (a && b && c && d && e && f && g && h) ≡ true
-    → (a ≡ true) × (b ≡ true) × (c ≡ true) × (d ≡ true) × (e ≡ true) × (f ≡ true) × (g ≡ true) × (h ≡ true)
-eight a b c d e f g h t =
-    let t6 = and-left (a && b && c && d && e && f && g) h t in
-    let t5 = and-left (a && b && c && d && e && f) g t6 in
+-- seven tests that all hold, one by one
+seven : (a b c d e f g : Bool) → (a && b && c && d && e && f && g) ≡ true
+    → (a ≡ true) × (b ≡ true) × (c ≡ true) × (d ≡ true) × (e ≡ true) × (f ≡ true) × (g ≡ true)
+seven a b c d e f g t =
+    let t5 = and-left (a && b && c && d && e && f) g t in
     let t4 = and-left (a && b && c && d && e) f t5 in
     let t3 = and-left (a && b && c && d) e t4 in
     let t2 = and-left (a && b && c) d t3 in
@@ -52,27 +72,25 @@ eight a b c d e f g h t =
       and-right (a && b && c) d t3,
       and-right (a && b && c && d) e t4,
       and-right (a && b && c && d && e) f t5,
-      and-right (a && b && c && d && e && f) g t6,
-      and-right (a && b && c && d && e && f && g) h t,
+      and-right (a && b && c && d && e && f) g t,
     )
 
--- all eight, in the order of the fields above
-eight-in : {s : Settings} → inBands (s .frequency) ≡ true → leb (s .count) most ≡ true → isClock (s .clock) ≡ true → isD (s .divisor) ≡ true
-    → isMode (s .mode) ≡ true → isGain (s .gain) ≡ true → isSize (s .size) ≡ true → isSerial (s .serial) ≡ true → Ranges s
-eight-in f n c d m g z l =
-    record { frequency = f; count = n; clock = c; divisor = d; mode = m; gain = g; size = z; serial = l }
+-- all seven, in the order of the fields above
+seven-in : {s : Settings} → isClock (s .clock) ≡ true → Channels (s .clock) (s .first) → leb (s .count) most ≡ true → isD (s .divisor) ≡ true
+    → isSize (s .size) ≡ true → isMode (s .mode) ≡ true → isSerial (s .serial) ≡ true → Ranges s
+seven-in c h n d z m l = record { clock = c; first = h; count = n; divisor = d; size = z; mode = m; serial = l }
 
 pub ranges : (s : Settings) → inRange s ≡ true → Ranges s
 unfolding inRange
 ranges s h =
     let t =
-    eight (inBands (s .frequency)) (leb (s .count) most) (isClock (s .clock)) (isD (s .divisor)) (isMode (s .mode)) (isGain (s .gain))
-    (isSize (s .size)) (isSerial (s .serial)) h in
-    eight-in (t .0) (t .1) (t .2) (t .3) (t .4) (t .5) (t .6) (t .7)
+    seven (isClock (s .clock)) (channelInRange (s .clock) (s .first)) (leb (s .count) most) (isD (s .divisor)) (isSize (s .size))
+    (isMode (s .mode)) (isSerial (s .serial)) h in
+    seven-in (t .0) (channel-ranges (s .clock) (s .first) (t .1)) (t .2) (t .3) (t .4) (t .5) (t .6)
 
 pub in-range : (s : Settings) → Ranges s → inRange s ≡ true
 unfolding inRange
-in-range s r = rw (r .frequency, r .count, r .clock, r .divisor, r .mode, r .gain, r .size, r .serial)
+in-range s r = rw (r .clock, channel-in-range (s .clock) (s .first) (r .first), r .count, r .divisor, r .size, r .mode, r .serial)
 
 -- a serial of a valid box has eight bytes
 pub serial-long : (s : Settings) → inRange s ≡ true → length (s .serial) ≡ 8
@@ -90,24 +108,36 @@ Keeps i = (s : Settings) (p : List ℕ) → Ranges s → i .rule .settable p ≡
 state-keeps : Keeps state
 state-keeps s p r h =
     state-ways Ranges (runByte p) (modeByte p) s
-    (λ i. eight-in (r .frequency) (r .count) (r .clock) (r .divisor) (r .mode) (r .gain) (r .size) (r .serial))
+    (λ i. seven-in (r .clock) (r .first) (r .count) (r .divisor) (r .size) (r .mode) (r .serial))
     (λ i w. r)
-    (λ i w. eight-in (r .frequency) refl (r .clock) (r .divisor) (has-mode p i h) (r .gain) (r .size) (r .serial))
+    (λ i w. seven-in (r .clock) (r .first) refl (r .divisor) (r .size) (has-mode p i h) (r .serial))
+
+-- a channel tuned to a frequency of the bands, at a clock that may be set, has their word
+tuned-keeps : (hz clock old : ℕ) (c : Channel) → Channels old c → inBands hz ≡ true → isClock clock ≡ true
+    → Channels clock (tunedTo hz clock c)
+tuned-keeps hz clock old c r band set =
+    record { frequency = band; word = kept-is hz clock (and-both (inBands hz) (isClock clock) band set); gain = r .gain }
 
 frequency-keeps : Keeps frequency
-frequency-keeps s p r h = eight-in h (r .count) (r .clock) (r .divisor) (r .mode) (r .gain) (r .size) (r .serial)
+frequency-keeps s p r h =
+    seven-in (r .clock) (tuned-keeps (field 1 5 p) (s .clock) (s .clock) (s .first) (r .first) h (r .clock)) (r .count) (r .divisor)
+    (r .size) (r .mode) (r .serial)
 
 gain-keeps : Keeps gain
-gain-keeps s p r h = eight-in (r .frequency) (r .count) (r .clock) (r .divisor) (r .mode) h (r .size) (r .serial)
+gain-keeps s p r h =
+    seven-in (r .clock) (record { frequency = r .first .frequency; word = r .first .word; gain = h }) (r .count) (r .divisor)
+    (r .size) (r .mode) (r .serial)
 
 clock-keeps : Keeps clock
-clock-keeps s p r h = eight-in (r .frequency) (r .count) h (r .divisor) (r .mode) (r .gain) (r .size) (r .serial)
+clock-keeps s p r h =
+    seven-in h (tuned-keeps (s .first .frequency) (field 1 4 p) (s .clock) (s .first) (r .first) (r .first .frequency) h) (r .count)
+    (r .divisor) (r .size) (r .mode) (r .serial)
 
 size-keeps : Keeps packetSize
-size-keeps s p r h = eight-in (r .frequency) (r .count) (r .clock) (r .divisor) (r .mode) (r .gain) h (r .serial)
+size-keeps s p r h = seven-in (r .clock) (r .first) (r .count) (r .divisor) h (r .mode) (r .serial)
 
 rate-keeps : Keeps rate
-rate-keeps s p r h = eight-in (r .frequency) (r .count) (r .clock) (nearest-d (field 1 4 p) h) (r .mode) (r .gain) (r .size) (r .serial)
+rate-keeps s p r h = seven-in (r .clock) (r .first) (r .count) (nearest-d (field 1 4 p) h) (r .size) (r .mode) (r .serial)
 
 stays : (s : Settings) (p : List ℕ) → Ranges s → true ≡ true → Ranges s
 stays s p r t = r

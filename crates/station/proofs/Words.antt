@@ -1,18 +1,15 @@
--- A valid box has a tuning word; and its answer says all.
+-- A valid box keeps its tuning word, the question answers it; and the answer says all.
 -- Assumes nothing.
 use Prim.Native.Nat.{ℕ}
-use native.Mathlib.Omega.{arith}
-use mathlib.Core.Path.{_≡_, refl, ap, _∙_}
-use mathlib.Core.Bool.{true}
+use mathlib.Core.Path.{_≡_, refl, sym, ap}
+use mathlib.Core.Bool.{Bool, true, false}
+use mathlib.Core.List.{[], _∷_}
 use lib.Dec.{eqb}
 use lib.ListN.{getD}
 use Rattle.wire.specs.Choice.{pick}
-use Rattle.wire.specs.Told.{Told}
+use Rattle.wire.specs.Told.{Told, tells}
 use Rattle.wire.proofs.Firm.{OneEach, one-by, two-results-coincide}
-use Rattle.tuning.specs.Word.{wordOf, wordTold}
-use Rattle.tuning.specs.Word as tuning
-use Rattle.tuning.specs.declared.word.Word as Tuned
-use Rattle.tuning.proofs.Words.{word-is}
+use Rattle.tuning.specs.Word.{wordOf}
 use Rattle.station.specs.declared.Station.{Station}
 use Rattle.station.specs.declared.Tuning.{Tuning}
 use Rattle.station.specs.declared.Tuning.the-variants.{Word, Broken}
@@ -20,25 +17,20 @@ use Rattle.station.specs.Station.{valid, tuningSays, tuningTold}
 use Rattle.station.proofs.Kept.{ranges}
 use Rattle.station.proofs.Valid.{valid-settings}
 
-module _ (s : Station) (v : valid s ≡ true) where
-  abbrev word : ℕ
-  word = wordOf (s .settings .frequency) (s .settings .clock)
+-- the word of a valid box is the one that it keeps
+pub word-kept : (s : Station) → valid s ≡ true → s .settings .first .word ≡ wordOf (s .settings .first .frequency) (s .settings .clock)
+word-kept s v = ranges (s .settings) (valid-settings (s .settings) (s .store) v) .first .word
 
-  -- what the crate tuning tells of its frequency and clock
-  abbrev asked : Told
-  asked = wordTold (s .settings .frequency) (s .settings .clock)
-
-  answered : asked ≡ tuning.wordSays (Tuned.the-variants.Is word)
-  answered =
-      let r = ranges (s .settings) (valid-settings (s .settings) (s .store) v) in
-      word-is (s .settings .frequency) (s .settings .clock) (r .frequency) (r .clock)
-
-  pub word-told : (w : ℕ) → tuning.wordSays (Tuned.the-variants.Is w) ≡ asked → tuningSays (Word w) ≡ tuningTold s
-  unfolding tuningTold
-  word-told w e = rw v (e ∙ answered)
-
-  pub never-without : tuning.wordSays Tuned.the-variants.NotAllowed ≡ asked → tuningSays Broken ≡ tuningTold s
-  never-without e = absurd (let z : _≡_ {A = ℕ} 16 1 = ap (λ (t : Told). t .code) (e ∙ answered) in omega arith)
+-- the question for the word answers what is kept
+pub told-as-kept : (s : Station) → tuningTold s ≡ pick (valid s) (tells 1 (s .settings .first .word ∷ [])) (tells 21 [])
+unfolding tuningTold
+told-as-kept s = go (valid s) refl
+  where
+    go : (b : Bool) → valid s ≡ b
+        → (let word = wordOf (s .settings .first .frequency) (s .settings .clock) in
+        pick b (tells 1 (word ∷ [])) (tells 21 []) ≡ pick b (tells 1 (s .settings .first .word ∷ [])) (tells 21 []))
+    go true v = ap (λ (w : ℕ). tells 1 (w ∷ [])) (sym (word-kept s v))
+    go false v = refl
 
 -- the answer says all: the number and the value decide the case
 back : Told → Tuning

@@ -35,9 +35,10 @@ abbrev pub tuningSays : Tuning → Told
 tuningSays (Word w) = tells Code.done (w ∷ [])
 tuningSays Broken = tells Code.broken []
 
--- The tuning word: "it is worked out when asked". A broken box has none.
+-- The tuning word of the box's frequency and clock. A broken box has none. It is the one that is kept (proofs/Words: `told-as-kept`).
 unfoldable pub tuningTold : Station → Told
-tuningTold s = pick (valid s) (tells Code.done (wordOf (s .settings .frequency) (s .settings .clock) ∷ [])) (tells Code.broken [])
+tuningTold s =
+    pick (valid s) (tells Code.done (wordOf (s .settings .first .frequency) (s .settings .clock) ∷ [])) (tells Code.broken [])
 
 -- a fresh box, between messages
 abbrev pub freshStation : List ℕ → Station

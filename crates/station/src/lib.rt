@@ -89,17 +89,12 @@ pub fn is_sound(settings: Settings, held: &[u8], taken: usize) -> bool
     framing::could_be_left(held, taken)
 }
 
-// The tuning word, worked out when asked.
+// The tuning word: the one that is kept.
 pub fn tuning_word(s: Station) -> Tuning
     ensures { λ r. ⌜ tuningSays r ≡ tuningTold s ⌝ }
 {
     if !is_valid(s) {
         return Tuning::Broken;
     }
-    let settings = s.settings;
-    match tuning::word_of(settings.frequency, settings.clock) {
-        tuning::Word::Is(w) => Tuning::Word(w),
-        // this never comes up: a valid box always has a word
-        tuning::Word::NotAllowed => Tuning::Broken,
-    }
+    Tuning::Word(s.settings.first.word)
 }

@@ -11,10 +11,10 @@ use lib.ListN.{length, drop, length-append, length-drop}
 use lib.Seq.{sets, length-sets, drop-drop}
 use Rattle.wire.proofs.Laws.{pick-same}
 use Rattle.wire.proofs.Stores.{sets-append}
-use Rattle.station.specs.declared.Fed.{Fed}
+use Rattle.station.specs.declared.FedHeld.{FedHeld}
 use Rattle.station.specs.declared.Station.{Station}
-use Rattle.station.specs.Station.{freshStation, sessionSerial}
-use Rattle.station.specs.Feeding.{Feeding, feedingOf}
+use Rattle.station.specs.Station.{boxOf, freshStation, sessionSerial}
+use Rattle.station.specs.Feeding.{Feeding, feedingOf, partsOf}
 use Rattle.station.proofs.Calls.{Within, feeding-within}
 use Rattle.talks.specs.Serving.{served, serveRun}
 
@@ -117,6 +117,7 @@ module _ (host whole replies after : List ℕ) (s : Station) (i at left : ℕ) (
         counted = rw on (omega (arith, within .wrote, length-append (f .bytes) rest, rw split at (g .counted)));
       }
 
-  -- as the call's own answer says
-  pub turns : (r : Fed) → r ≡ f .fed → Going host whole after (r .station) (i + r .consumed) (at + r .wrote) (left - 1)
-  turns r told = rw told goes-on
+  -- as the call's own answer and the held bytes after it say
+  pub turns : (r : FedHeld) (held : List ℕ) → r ≡ partsOf (f .fed) → held ≡ f .fed .station .store .held
+      → Going host whole after (boxOf (r .settings) held (r .taken)) (i + r .consumed) (at + r .wrote) (left - 1)
+  turns r held told kept = rw (told, kept) goes-on

@@ -13,7 +13,11 @@ pub extern "C" fn skvornela_serve(host: &[u8], replies: &mut [u8]) -> usize
         ⌜ (r ≡ length (serveRun (now (host .entry)) (length (now (replies .entry)))))
         × (now (replies .exit) ≡ sets (now (replies .entry)) 0 (serveRun (now (host .entry)) (length (now (replies .entry))))) ⌝ }
 {
-    let mut s = station::session_box();
+    let began = station::session_box();
+    let store = began.store;
+    let mut settings = began.settings;
+    let mut held = store.held;
+    let mut taken = store.taken;
     let mut i: usize = 0;
     let mut at: usize = 0;
     // A proved loop has to end: each call consumes a byte or more, so as many calls as there are bytes are enough.
@@ -25,9 +29,10 @@ pub extern "C" fn skvornela_serve(host: &[u8], replies: &mut [u8]) -> usize
         if replies.len() - at < 64 {
             return at;
         }
-        let f = station::feed(s, &host[i..], &mut replies[at..]);
-        let after = f.station;
-        s = after;
+        // the held bytes are changed where they lie
+        let f = station::feed_held(settings, &mut held, taken, &host[i..], &mut replies[at..]);
+        settings = f.settings;
+        taken = f.taken;
         i += f.consumed;
         at += f.wrote;
         calls -= 1;

@@ -7,5 +7,7 @@ pub use bands::FIRST_MINIMUM;
 pub use bands::in_bands;
 pub use bands::put_range;
 pub use word::Word;
+pub use word::agree;
 pub use word::is_clock;
+pub use word::word_kept;
 pub use word::word_of;

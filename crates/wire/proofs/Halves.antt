@@ -1,10 +1,14 @@
 -- A quotient rounded to the nearest whole number, halves up.
 -- Assumes nothing.
-use Prim.Native.Nat.{ℕ, suc, _+_, _*_, _≤_, _<_}
-use mathlib.Core.Path.{_≡_, sym, ap, _∙_}
-use native.Mathlib.Nat.{div-mul-le-self, lt-mul-div-succ, mul-comm, mul-assoc, mul-add, mul-suc, mul-le-mul-left}
+use Prim.Native.Nat.{ℕ, suc, _+_, _*_, _/_, _%_, _≤_, _<_}
+use mathlib.Core.Path.{_≡_, refl, sym, ap, _∙_}
+use mathlib.Core.Bool.{Bool, true, false, _&&_}
+use native.Mathlib.Nat.{div-mul-le-self, lt-mul-div-succ, le-div-iff-mul-le, div-lt-iff-lt-mul}
+use native.Mathlib.Nat.{mul-comm, mul-assoc, mul-add, mul-suc, mul-le-mul-left}
 use native.Mathlib.Omega.{arith}
 use native.Mathlib.Decide.{decLt}
+use lib.Dec.{leb, ltb, eqb}
+use borrow.Author.Tests.{leb-true, leb-false, ltb-true, ltb-false, le-leb, lt-ltb, le-ltb, eq-eqb, ne-eqb}
 use Rattle.wire.specs.Halves.{halvesUp, apart, NearestUp}
 
 -- A multiple of c that lies at most half of c above x, and less than half of c below, is the nearest of them.
@@ -48,3 +52,48 @@ pub nearest-up-one : (x c v w : ℕ) → NearestUp x c v → NearestUp x c w →
 nearest-up-one x c v w p q =
     let even : apart (c * w) x ≡ apart (c * v) x = omega (arith, p .nearest w, q .nearest v) in
     omega (arith, p .up w even, q .up v (sym even))
+
+-- ---- a quotient told by a product, with no division
+
+-- c-fold it is at most x, and c-fold the next number is more
+quotient-is : (x c w : ℕ) → 0 < c → c * w ≤ x → x < c * w + c → w ≡ x / c
+quotient-is x c w some low high =
+    let at-least : w ≤ x / c = le-div-iff-mul-le some .1 (omega (arith, mul-comm w c)) in
+    let below : x / c < suc w = div-lt-iff-lt-mul some .1 (omega (arith, mul-comm (suc w) c, mul-suc c w)) in
+    omega arith
+
+pub by-product : (x c w : ℕ) → 0 < c → (leb (c * w) x && ltb x (c * w + c)) ≡ eqb w (x / c)
+by-product x c w some = go (leb (c * w) x) (ltb x (c * w + c)) refl refl
+  where
+    low : w ≡ x / c → c * w ≤ x
+    low e = omega (arith, ap (λ (n : ℕ). c * n) e, mul-comm (x / c) c, div-mul-le-self x c)
+
+    high : w ≡ x / c → x < c * w + c
+    high e = omega (arith, ap (λ (n : ℕ). c * n) e, mul-add c (x / c) 1, lt-mul-div-succ x some)
+
+    go : (p q : Bool) → leb (c * w) x ≡ p → ltb x (c * w + c) ≡ q → (p && q) ≡ eqb w (x / c)
+    go true true l h = sym (eq-eqb w (x / c) (quotient-is x c w some (leb-true (c * w) x l) (ltb-true x (c * w + c) h)))
+    go true false l h = sym (ne-eqb w (x / c) (λ e. omega (arith, high e, ltb-false x (c * w + c) h)))
+    go false q l h = sym (ne-eqb w (x / c) (λ e. omega (arith, low e, leb-false (c * w) x l)))
+
+-- rounded to the nearest, halves up: half a step more, rounded down
+pub half-more : (x c : ℕ) → 0 < c → (x + c / 2) / c ≡ halvesUp x c
+half-more x c some =
+    let w : ℕ = (x + c / 2) / c in
+    let low : c * w ≤ x + c / 2 = omega (arith, mul-comm w c, div-mul-le-self (x + c / 2) c) in
+    let high : x + c / 2 < c * w + c = omega (arith, mul-add c w 1, lt-mul-div-succ (x + c / 2) some) in
+    let twice : 2 * c * w ≡ 2 * (c * w) = mul-assoc 2 c w in
+    quotient-is (2 * x + c) (2 * c) w (omega arith) (omega (arith, twice, low)) (omega (arith, twice, high))
+
+-- a difference of 64 bits that wraps around is small exactly where it does not wrap around and is small
+pub small-difference : (x y c r : ℕ) → r < 18446744073709551616 → x < 18446744073709551616 → y + c ≤ 18446744073709551616
+    → (r + y) % 18446744073709551616 ≡ x → ltb r c ≡ (leb y x && ltb x (y + c))
+small-difference x y c r fits below room wraps =
+    elim (decLt r c) [
+      | yes less ↦ rw (lt-ltb r c less, le-leb y x (omega arith), lt-ltb x (y + c) (omega arith))
+      | no less ↦ rw (le-ltb r c (omega arith)) (sym (go (omega arith) (leb y x) refl))
+    ]
+  where
+    go : c ≤ r → (b : Bool) → leb y x ≡ b → (b && ltb x (y + c)) ≡ false
+    go far true at-least = le-ltb x (y + c) (omega (arith, leb-true y x at-least))
+    go far false more = refl

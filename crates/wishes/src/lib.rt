@@ -146,10 +146,10 @@ pub fn is_allowed(w: Wish) -> bool
         Wish::AskVersion(id) => values::is_version(id),
         Wish::SetState(fields) => may_state(fields),
         Wish::SetFrequency(hz) => tuning::in_bands(hz),
-        Wish::SetGain(g) => items::ranges::is_gain(gain_byte(g)),
+        Wish::SetGain(g) => items::ranges::is_gain(gain_byte(g) as u32),
         Wish::SetClock(hz) => tuning::is_clock(hz),
         Wish::SetRate(hz) => rates::may_ask(hz),
-        Wish::SetPacketSize(n) => items::ranges::is_size(n),
+        Wish::SetPacketSize(n) => items::ranges::is_size(n as u32),
         _ => true,
     }
 }

@@ -69,8 +69,10 @@ fn tuning_word(rounds: usize) {
     for _ in 0..CALLS {
         let mut station = Station::fresh(SERIAL).0;
         let bands = [random.within(100_000, 34_000_000), random.within(140_000_000, 150_000_000)];
-        station.settings.frequency = random.of(&bands);
-        station.settings.clock = random.within(79_992_000, 80_008_000) as u32;
+        let frequency = random.of(&bands);
+        let clock = random.within(79_992_000, 80_008_000) as u32;
+        station.settings.clock = clock;
+        station.settings.first.tune(frequency, clock);
         states.extend(boundary::station_bytes(&station));
     }
     let bytes = black_box(STATION_BYTES);

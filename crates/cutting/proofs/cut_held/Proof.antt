@@ -19,7 +19,7 @@ use Rattle.station.specs.Station.{boxOf, valid}
 use Rattle.station.specs.declared.Station.{Station}
 use Rattle.cutting.specs.Cutting.{formNow}
 use Rattle.cutting.proofs.Codes.{refuses-short, code-21, code-22, code-25, code-23, code-24, code-1, refuses, cuts}
-use Rattle.cutting.proofs.Formed.{valid-form}
+use Rattle.cutting.proofs.Formed.{valid-form, valid-size}
 use Rattle.cutting.proofs.Packing.{may-pack, packed-none, packet-stored}
 use borrow.Author.Needs.{needs}
 use Rattle.cutting.proofs.cut_held.Statement.{statement}
@@ -46,7 +46,7 @@ running-at c = not-false _ (c .if2 .left)
 
 -- its capture is not full, and its form is known
 abbrev unfull : tie.After-form-for → tie.Else3
-unfull c = c .before
+unfull c = c .before .before
 
 abbrev running : tie.After-form-for → tie.Else2
 running c = unfull c .before
@@ -140,6 +140,11 @@ returns-3 c =
     let code = code-25 (lent v) (now (a .samples)) n (valid-at s) (running-at r) (c .before .if3 .taken) in
     rw (c .refused3 .ensures, ← refuses (lent v) (now (a .samples)) n 25 code (λ e. omega arith)) (refl, refl)
 
+cast-form-for : tie.Need-cast-form-for
+cast-form-for c =
+    let s = sound (c .before .before) in
+    omega (arith, valid-size (lent (s .before)) (valid-at s))
+
 form-for-requires : tie.Need-form-for-requires
 form-for-requires c κs = search needs
 
@@ -219,7 +224,7 @@ returns-7 c =
     let totalled = packed .before .before .before in
     let counted = totalled .before in
     let formed = counted .before .before in
-    let unfull = formed .before in
+    let unfull = formed .before .before in
     let running = unfull .before in
     let sound = running .before .before in
     let s = lent (sound .before) in
@@ -249,6 +254,7 @@ cut-held-spec =
     returns-2
     refused-requires-3
     returns-3
+    cast-form-for
     form-for-requires
     mul-if4
     refused-requires-4

@@ -62,7 +62,7 @@ returns c =
       ninth .byte-of9 .ensures,
       c .byte-of10 .ensures,
     )
-    (ten-bytes (take (a .n) (take (a .had) (now (a .held)) ++ now (a .host))))
+    (ten-bytes (take (a .had) (now (a .held)) ++ now (a .host)))
 
 pub opening-spec : {M : Type 1} → statement M
 opening-spec =

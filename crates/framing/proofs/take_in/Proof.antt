@@ -44,8 +44,8 @@ returns-2 c =
     (still-open (now (a .held)) (now (a .host)) (a .had) (t .total-ahead .result) (omega arith) (t .total-ahead .ensures)
     (omega (arith, m .left .ensures)))
 
-opening-requires : tie.Need-opening-requires
-opening-requires c κs = search needs
+first-ten-requires : tie.Need-first-ten-requires
+first-ten-requires c κs = search needs
 
 ended-requires : tie.Need-ended-requires
 ended-requires c κs = search needs
@@ -56,20 +56,20 @@ same-length-2 c = search needs
 returns-3 : tie.Need-returns-3
 returns-3 c =
     let o = c .before in
-    let n = o .before .before in
+    let n = o .before in
     let m = n .before .before in
     let t = m .before in
     let a = t .before .before .before .before .before .args in
     rw (c .ended .ensures)
     (came-last (now (a .held)) (now (a .host)) (a .had) (t .total-ahead .result) (omega arith) (t .total-ahead .ensures)
-    (o .opening .result) (t .total-ahead .result) (t .total-ahead .result) (omega arith) (omega arith)
-    (omega (arith, m .left .ensures)) (rw (n .if3 .taken) (o .opening .ensures)))
+    (o .first-ten .result) (t .total-ahead .result) (t .total-ahead .result) (omega arith) (omega arith)
+    (omega (arith, m .left .ensures)) (rw (n .if3 .taken) (o .first-ten .ensures)))
 
-add-now : tie.Need-add-now
-add-now c = search needs
+opening-requires : tie.Need-opening-requires
+opening-requires c κs = search needs
 
-opening-requires-2 : tie.Need-opening-requires-2
-opening-requires-2 c κs = search needs
+add-ended : tie.Need-add-ended
+add-ended c = search needs
 
 ended-requires-2 : tie.Need-ended-requires-2
 ended-requires-2 c κs = search needs
@@ -85,7 +85,7 @@ returns-4 c =
     let a = t .before .before .before .before .before .args in
     rw (c .ended2 .ensures)
     (came-last (now (a .held)) (now (a .host)) (a .had) (t .total-ahead .result) (omega arith) (t .total-ahead .ensures)
-    (o .opening2 .result) (m .left .result) _ (m .left .ensures) refl (omega arith) (o .opening2 .ensures))
+    (o .opening .result) (m .left .result) _ (m .left .ensures) refl (omega arith) (o .opening .ensures))
 
 pub take-in-spec : {M : Type 1} → statement M
 take-in-spec =
@@ -100,12 +100,12 @@ take-in-spec =
     open-requires-2
     same-length
     returns-2
-    opening-requires
+    first-ten-requires
     ended-requires
     same-length-2
     returns-3
-    add-now
-    opening-requires-2
+    opening-requires
+    add-ended
     ended-requires-2
     same-length-3
     returns-4)

@@ -1,5 +1,5 @@
 -- Each turn is one call, which leaves fewer bytes; what is left leads where the whole piece leads.
-use Prim.Native.Nat.{_-_}
+use Prim.Native.Nat.{_-_, _^_, _<_}
 use native.Mathlib.Omega.{arith}
 use mathlib.Core.Path.{_≡_, sym, _∙_}
 use mathlib.Core.Bool.{true, true≢false}
@@ -52,7 +52,10 @@ written : (c : tie.After-struct-known2 Inv-loop μ-loop) → fed c .feed-once .r
 written c = not-false _ (c .before .if1 .left)
 
 add-at : tie.Need-add-at Inv-loop μ-loop
-add-at c = omega (arith, turn (fed c) (written c) .going .inside)
+add-at c =
+    let start = fed c .before .before .before .before .before in
+    let short : length (start .args .piece .now) < 2 ^ 64 = search needs in
+    omega (arith, short, turn (fed c) (written c) .going .inside)
 
 loop-less : tie.Need-loop-less Inv-loop μ-loop
 loop-less c = omega (arith, turn (fed c) (written c) .some)

@@ -36,6 +36,9 @@ enum-known-w-4 c = search needs
 gain-byte-requires : tie.Need-gain-byte-requires
 gain-byte-requires c κs = search needs
 
+cast-is-gain : tie.Need-cast-is-gain
+cast-is-gain c = search needs
+
 is-gain-requires : tie.Need-is-gain-requires
 is-gain-requires c κs = search needs
 
@@ -53,6 +56,9 @@ may-ask-requires c κs = search needs
 
 enum-known-w-7 : tie.Need-enum-known-w-7
 enum-known-w-7 c = search needs
+
+cast-is-size : tie.Need-cast-is-size
+cast-is-size c = search needs
 
 is-size-requires : tie.Need-is-size-requires
 is-size-requires c κs = search needs
@@ -99,12 +105,14 @@ is-allowed-spec =
     in-bands-requires
     enum-known-w-4
     gain-byte-requires
+    cast-is-gain
     is-gain-requires
     enum-known-w-5
     is-clock-requires
     enum-known-w-6
     may-ask-requires
     enum-known-w-7
+    cast-is-size
     is-size-requires
     returns
     returns-2

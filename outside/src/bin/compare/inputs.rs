@@ -23,6 +23,19 @@ pub const FREQUENCIES: [u64; 14] = [
     4_308_977_296,
     0xFF_FFFF_FFFF,
 ];
+/// Some that are allowed: the edges of both bands, those beside them and 01's two.
+pub const TUNED: [u64; 10] = [
+    100_000,
+    100_001,
+    14_010_000,
+    33_999_999,
+    34_000_000,
+    140_000_000,
+    140_000_001,
+    145_000_000,
+    149_999_999,
+    150_000_000,
+];
 pub const CLOCKS: [u64; 9] =
     [0, 79_991_999, 79_992_000, 79_992_001, 80_000_000, 80_007_999, 80_008_000, 80_008_001, 0xFFFF_FFFF];
 pub const RATES: [u64; 13] = [
@@ -206,15 +219,37 @@ pub fn serial(r: &mut Random) -> [u8; 8] {
     serial
 }
 
+/// A frequency that is allowed.
+pub fn tuned(r: &mut Random) -> u64 {
+    match r.below(3) {
+        0 => r.of(&[100_000, 34_000_000, 140_000_000, 150_000_000]),
+        1 => r.within(100_000, 34_000_000),
+        _ => r.within(140_000_000, 150_000_000),
+    }
+}
+
+/// The words that the rule would give to any frequency and clock, allowed or not: by the frequency, and by how far it lies
+/// from the second band's oscillator.
+fn words_by_rule(frequency: u64, clock: u32) -> [u32; 2] {
+    let clock = u64::from(clock.max(1));
+    [frequency, frequency.abs_diff(160_000_000)].map(|offset| (((offset << 33) + clock) / (2 * clock)) as u32)
+}
+
+/// Words for a box to hold: those by the rule, those beside them and one bit away, the least, the greatest and any.
+pub fn words(r: &mut Random, frequency: u64, clock: u32) -> Vec<u32> {
+    let mut words = vec![0, 1, u32::MAX, r.any() as u32];
+    for word in words_by_rule(frequency, clock) {
+        words.extend([word, word.wrapping_sub(1), word.wrapping_add(1)]);
+        words.extend((0..32).map(|bit| word ^ 1 << bit));
+    }
+    words
+}
+
 /// A sound box between messages.
 pub fn sound(r: &mut Random) -> Station {
     let mut station = Station::fresh(&serial(r)).0;
     let s: &mut Settings = &mut station.settings;
-    s.frequency = match r.below(3) {
-        0 => r.of(&[100_000, 34_000_000, 140_000_000, 150_000_000]),
-        1 => r.within(100_000, 34_000_000),
-        _ => r.within(140_000_000, 150_000_000),
-    };
+    let frequency = tuned(r);
     s.count = match r.below(4) {
         0 => r.of(&[0, 1, 65_534, 65_535, 65_536, 131_070, 131_071, 3_999_999_999, 4_000_000_000]),
         _ => r.below(4_000_000_001),
@@ -223,8 +258,9 @@ pub fn sound(r: &mut Random) -> Station {
     s.divisor = if r.once_in(4) { r.of(&[10, 11, 624, 625]) } else { r.within(10, 625) as u32 };
     s.running = r.once_in(2);
     s.mode = r.of(&[0x80, 0x00]);
-    s.gain = r.of(&[0, -10, -20, -30]);
+    s.first.gain = r.of(&[0, -10, -20, -30]);
     s.size = r.of(&[0, 1]);
+    s.first.tune(frequency, s.clock);
     station
 }
 
@@ -235,16 +271,18 @@ pub fn interrupt(r: &mut Random, station: &mut Station) {
     station.feed(&bytes[..taken], &mut [0; 64]);
 }
 
-/// Puts one field of a box out of its range, or its unfinished message beyond what bytes could leave.
+/// Puts one field of a box out of its range, or its unfinished message beyond what bytes could leave. With a frequency or a
+/// clock out of its range the word at times goes along.
 pub fn harm(r: &mut Random, station: &mut Station) {
     let s = &mut station.settings;
-    match r.below(12) {
-        0 => s.frequency = r.of(&[0, 99_999, 34_000_001, 139_999_999, 150_000_001, u64::MAX]),
+    let part = r.below(13);
+    match part {
+        0 => s.first.frequency = r.of(&[0, 99_999, 34_000_001, 139_999_999, 150_000_001, u64::MAX]),
         1 => s.count = r.of(&[4_000_000_001, 1 << 32, u64::MAX]),
         2 => s.clock = r.of(&[0, 79_991_999, 80_008_001, u32::MAX]),
         3 => s.divisor = r.of(&[0, 9, 626, u32::MAX]),
         4 => s.mode = r.of(&[0x01, 0x7F, 0x81, 0xFF]),
-        5 => s.gain = r.of(&[1, -1, -11, -29, 127, -128]),
+        5 => s.first.gain = r.of(&[1, -1, -11, -29, 127, -128]),
         6 => s.size = r.of(&[2, 0xFF]),
         7 => s.serial[r.size(8)] = r.of(b"@[/:az\x00\xFF"),
         8 => station.held[r.size(64)] ^= 1 << r.below(8),
@@ -257,10 +295,18 @@ pub fn harm(r: &mut Random, station: &mut Station) {
             station.held[..kept].copy_from_slice(&bytes[..kept]);
             station.taken = bytes.len() + r.size(2);
         }
+        11 => {
+            let words = words(r, s.first.frequency, s.clock);
+            s.first.word = r.of(&words);
+        }
         _ => {
             station.taken = r.size(70);
             r.fill(&mut station.held);
         }
+    }
+    let s = &mut station.settings;
+    if (part == 0 || part == 2) && r.once_in(2) {
+        s.first.word = r.of(&words_by_rule(s.first.frequency, s.clock));
     }
 }
 
@@ -278,7 +324,8 @@ pub fn station_state(r: &mut Random) -> Vec<u8> {
         0 => bytes.truncate(r.size(STATION_BYTES)),
         1 => bytes.push(0),
         2 => r.fill(&mut bytes),
-        3 => bytes[24] = r.byte(),
+        // running: 0 is no, any other byte is yes
+        3 => bytes[29] = r.byte(),
         _ => {}
     }
     bytes
@@ -506,7 +553,7 @@ pub fn answer(r: &mut Random, which: u64, value: u64) -> Vec<u8> {
 pub fn head(r: &mut Random) -> Head {
     let station = sound(r);
     let s = &station.settings;
-    Head { divisor: s.divisor, frequency: s.frequency, mode: s.mode, size: s.size }
+    Head { divisor: s.divisor, frequency: s.first.frequency, mode: s.mode, size: s.size }
 }
 
 /// A capture as the span program gets it: losses, restarts, and at times what breaks it off.

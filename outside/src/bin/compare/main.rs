@@ -11,11 +11,13 @@ use std::collections::{BTreeMap, BTreeSet};
 use std::fmt::Debug;
 use std::process::{exit, ExitCode};
 
-use outside::boundary::{reader_bytes, station_in, Library, Plain, WishFields, READER_BYTES, STATION_BYTES};
+use outside::boundary::{reader_bytes, station_bytes, station_in, Library, Plain, WishFields};
 use outside::boundary::{ASK_RATE, ASK_VERSION, SET_CLOCK, SET_FREQUENCY, SET_GAIN, SET_RATE, SET_SIZE, SET_STATE};
+use outside::boundary::{READER_BYTES, STATION_BYTES};
 use outside::packet::number_at;
 use outside::random::Random;
-use outside::{head, rate, Form, Reader};
+use outside::station::Channel;
+use outside::{head, rate, Form, Reader, Station};
 
 /// After so many differences the rest would say nothing new.
 const MOST_SHOWN: u64 = 10;
@@ -227,6 +229,19 @@ fn random_words(c: &mut Comparison, r: &mut Random, times: u64) {
     }
 }
 
+/// One box, tuned again and again: after each message both boxes hold the same word.
+fn random_tuning(c: &mut Comparison, r: &mut Random, times: u64) {
+    let state = fresh_state();
+    let mut states = (state.clone(), state);
+    for _ in 0..times {
+        let frequency = if r.once_in(8) { inputs::frequency(r) } else { inputs::tuned(r) };
+        c.feed(&mut states, &set_frequency(0x00, frequency), 64);
+        let clock = if r.once_in(8) { inputs::clock(r) } else { r.within(79_992_000, 80_008_000) };
+        c.feed(&mut states, &set_clock(0x00, clock), 64);
+        c.word(&states.0);
+    }
+}
+
 /// Cutting, and what was cut is read and unpacked again.
 fn random_cutting(c: &mut Comparison, r: &mut Random, times: u64) {
     for _ in 0..times {
@@ -402,15 +417,76 @@ fn every_edge_of_bands(c: &mut Comparison) {
         for frequency in centre.saturating_sub(50)..=(centre + 50).min(0xFF_FFFF_FFFF) {
             for clock in inputs::CLOCKS {
                 let mut states = (state.clone(), state.clone());
-                let mut message = [0x09, 0x00, 0xB0, 0x00, 0x00, 0, 0, 0, 0];
-                message[5..].copy_from_slice(&clock.to_le_bytes()[..4]);
-                c.feed(&mut states, &message, 64);
-                let mut message = [0x0A, 0x00, 0x20, 0x00, 0xFF, 0, 0, 0, 0, 0];
-                message[5..].copy_from_slice(&frequency.to_le_bytes()[..5]);
-                c.feed(&mut states, &message, 64);
+                c.feed(&mut states, &set_clock(0x00, clock), 64);
+                c.feed(&mut states, &set_frequency(0xFF, frequency), 64);
                 c.word(&states.0);
             }
         }
+    }
+}
+
+/// Boxes with the word of their frequency and clock and with others, at the edges of bands and clock and beside them: fed,
+/// cut, and asked for the word.
+fn every_word(c: &mut Comparison, r: &mut Random) {
+    let form = Form::LARGE_24;
+    let samples = vec![0; form.samples()];
+    for frequency in inputs::FREQUENCIES.into_iter().chain(inputs::TUNED) {
+        for clock in inputs::CLOCKS.map(|clock| clock as u32) {
+            for word in inputs::words(r, frequency, clock) {
+                let mut station = Station::fresh(b"MT123456").0;
+                station.settings.first = Channel { frequency, word, gain: 0 };
+                station.settings.clock = clock;
+                station.settings.running = true;
+                let state = station_bytes(&station).to_vec();
+                c.feed(&mut (state.clone(), state.clone()), &[0x04, 0x20, 0x01, 0x00], 64);
+                c.cut(&state, &samples, form.total());
+                c.word(&state);
+            }
+        }
+    }
+}
+
+/// Talks after which a box has another word or, where it refuses, the same one; each message without room for its reply too.
+fn every_tuning(c: &mut Comparison) {
+    let mut talks = vec![
+        vec![
+            set_frequency(0x00, 14_010_000),
+            set_clock(0x00, 80_000_123),
+            set_frequency(0x00, 34_000_001),
+            set_clock(0x00, 8_000_000),
+            set_frequency(0xFF, 145_000_000),
+            set_frequency(0x02, 14_010_000),
+        ],
+        vec![set_frequency(0x00, 145_000_000)],
+    ];
+    for frequency in inputs::TUNED {
+        for clock in inputs::CLOCKS {
+            talks.push(vec![set_frequency(0x00, frequency), set_clock(0x00, clock)]);
+            talks.push(vec![set_clock(0xFF, clock), set_frequency(0xFF, frequency)]);
+        }
+    }
+    for talk in talks {
+        let state = fresh_state();
+        let mut states = (state.clone(), state);
+        for message in talk {
+            for room in [0, 1, 64] {
+                c.feed(&mut states, &message, room);
+                c.word(&states.0);
+            }
+        }
+    }
+}
+
+/// Every clock that is allowed and those beside them, set one after the other at frequencies of both bands.
+fn every_clock(c: &mut Comparison) {
+    for frequency in inputs::TUNED {
+        let state = fresh_state();
+        let mut states = (state.clone(), state);
+        c.feed(&mut states, &set_frequency(0x00, frequency), 64);
+        for clock in 79_991_990..=80_008_010 {
+            c.feed(&mut states, &set_clock(0x5A, clock), 64);
+        }
+        c.word(&states.0);
     }
 }
 
@@ -533,11 +609,11 @@ fn every_packet_header(c: &mut Comparison) {
 /// A sample of each 24-bit value, cut in every form and unpacked.
 fn every_sample(c: &mut Comparison) {
     for form in Form::LISTED {
-        let mut station = outside::Station::fresh(b"MT123456").0;
+        let mut station = Station::fresh(b"MT123456").0;
         station.settings.running = true;
         station.settings.mode = if form.bits == 24 { 0x80 } else { 0x00 };
         station.settings.size = (form == Form::SMALL_24 || form == Form::SMALL_16).into();
-        let state = outside::boundary::station_bytes(&station).to_vec();
+        let state = station_bytes(&station).to_vec();
         let mut next = -8_388_608;
         while next <= 8_388_607 {
             let samples: Vec<i32> = (0..form.samples() as i32).map(|i| (next + i).min(8_388_607)).collect();
@@ -713,6 +789,14 @@ fn every_span(c: &mut Comparison, r: &mut Random) {
     c.span(&long);
 }
 
+fn set_frequency(channel: u8, frequency: u64) -> Vec<u8> {
+    [&[0x0A, 0x00, 0x20, 0x00, channel], &frequency.to_le_bytes()[..5]].concat()
+}
+
+fn set_clock(channel: u8, clock: u64) -> Vec<u8> {
+    [&[0x09, 0x00, 0xB0, 0x00, channel], &clock.to_le_bytes()[..4]].concat()
+}
+
 fn fresh_state() -> Vec<u8> {
     let mut state = vec![0; STATION_BYTES];
     Plain.fresh(b"MT123456", &mut state);
@@ -752,6 +836,9 @@ fn main() -> ExitCode {
     every_rate(&mut c);
     every_byte(&mut c);
     every_edge_of_bands(&mut c);
+    every_word(&mut c, r);
+    every_tuning(&mut c);
+    every_clock(&mut c);
     every_room(&mut c);
     every_serial(&mut c, r);
     every_number(&mut c, r);
@@ -768,6 +855,7 @@ fn main() -> ExitCode {
         random_feeding(&mut c, r, 400_000);
         random_serving(&mut c, r, 50_000);
         random_words(&mut c, r, 100_000);
+        random_tuning(&mut c, r, 200_000);
         random_cutting(&mut c, r, 100_000);
         random_reading(&mut c, r, 200_000);
         random_runs(&mut c, r, 20_000);

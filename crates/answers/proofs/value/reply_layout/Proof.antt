@@ -143,7 +143,7 @@ returns-7 c =
     let a = c .before .before in
     let key = c .before .match .keys7 in
     ap laid (c .with-echo .ensures)
-    ∙ echo-at a 5 (a .args .s .frequency) (rw key refl) (rw key refl)
+    ∙ echo-at a 5 (a .args .s .first .frequency) (rw key refl) (rw key refl)
 
 returns-8 : tie.Need-returns-8
 unfolding rowOf
@@ -151,7 +151,7 @@ returns-8 c =
     let a = c .before .before .before in
     let key = c .before .before .match .keys8 in
     ap laid (c .with-echo2 .ensures)
-    ∙ echo-at a 1 (a .args .s .gain) (rw key refl) (rw key refl)
+    ∙ echo-at a 1 (a .args .s .first .gain) (rw key refl) (rw key refl)
 
 returns-9 : tie.Need-returns-9
 unfolding rowOf

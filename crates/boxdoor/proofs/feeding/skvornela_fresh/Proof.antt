@@ -1,4 +1,4 @@
--- The fresh box is written where there are 108 bytes for it.
+-- The fresh box is written where there are a box's bytes for it.
 use Rattle.boxdoor.proofs.Fed.{fresh-whole, fresh-broken}
 use borrow.Author.Needs.{needs}
 use Rattle.boxdoor.proofs.feeding.skvornela_fresh.Statement.{statement}

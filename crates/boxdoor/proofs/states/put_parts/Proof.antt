@@ -22,7 +22,7 @@ returns c =
     let count = c .before .before in
     let settings = count .before .before .before .before in
     let a = settings .before .before .before .args in
-    count .put .ensures ∙ ap (λ (l : List ℕ). sets l 100 (bytes 8 (a .taken))) (settings .put-settings .ensures)
+    count .put .ensures ∙ ap (λ (l : List ℕ). sets l 104 (bytes 8 (a .taken))) (settings .put-settings .ensures)
 
 pub put-parts-spec : {M : Type 1} → statement M
 put-parts-spec = tie.close (tie.spec put-settings-requires put-requires same-length returns)

@@ -39,11 +39,11 @@ returns c =
     let start = copied .before .before .before .before .before .before .before in
     let s = start .args .s in
     let l = now (start .args .b) in
-    let placed = rw (held-long start) at (sets-taken l 36 (s .store .held) (omega (arith, held-long start, start .pre))) in
+    let placed = rw (held-long start) at (sets-taken l 40 (s .store .held) (omega (arith, held-long start, start .pre))) in
     parts .put-parts .ensures
-    ∙ ap (λ (r : List ℕ). sets (sets r 0 (settingsBytes (s .settings))) 100 (bytes 8 (s .store .taken))) (copied .copy .ensures)
-    ∙ parts-stored (s .settings) (s .store .held) (sets l 36 (s .store .held)) (s .store .taken)
-    (length-sets l 36 (s .store .held) ∙ start .pre) (serial-long start) placed
+    ∙ ap (λ (r : List ℕ). sets (sets r 0 (settingsBytes (s .settings))) 104 (bytes 8 (s .store .taken))) (copied .copy .ensures)
+    ∙ parts-stored (s .settings) (s .store .held) (sets l 40 (s .store .held)) (s .store .taken)
+    (length-sets l 40 (s .store .held) ∙ start .pre) (serial-long start) placed
 
 pub put-station-spec : {M : Type 1} → statement M
 put-station-spec =

@@ -34,51 +34,51 @@ slice-aggregate-copy c = search needs
 copy-requires : tie.Need-copy-requires
 copy-requires c κs = search needs
 
+channel-at-requires : tie.Need-channel-at-requires
+channel-at-requires c κs = search needs
+
 number-at-requires : tie.Need-number-at-requires
 number-at-requires c κs = search needs
 
 number-at-requires-2 : tie.Need-number-at-requires-2
 number-at-requires-2 c κs = search needs
 
+cast-t13 : tie.Need-cast-t13
+cast-t13 c = omega (arith, c .number-at2 .ensures, below (c .before .before .before .before .before .before .before) 21 4)
+
 number-at-requires-3 : tie.Need-number-at-requires-3
 number-at-requires-3 c κs = search needs
 
-cast-t13 : tie.Need-cast-t13
-cast-t13 c = omega (arith, c .number-at3 .ensures, below (c .before .before .before .before .before .before .before) 16 4)
-
-number-at-requires-4 : tie.Need-number-at-requires-4
-number-at-requires-4 c κs = search needs
-
 cast-t15 : tie.Need-cast-t15
-cast-t15 c = omega (arith, c .number-at4 .ensures, below (c .before .before .before .before .before .before .before .before) 20 4)
+cast-t15 c = omega (arith, c .number-at3 .ensures, below (c .before .before .before .before .before .before .before .before) 25 4)
 
 shared-slice-read-t17 : tie.Need-shared-slice-read-t17
 shared-slice-read-t17 c = search needs
 
+cast-t18 : tie.Need-cast-t18
+cast-t18 c = omega (arith, are-bytes (c .before .before .before .before .before .before .before .before .before) 31)
+
 shared-slice-read-t20 : tie.Need-shared-slice-read-t20
 shared-slice-read-t20 c = search needs
 
-shared-slice-read-t22 : tie.Need-shared-slice-read-t22
-shared-slice-read-t22 c = search needs
-
-shared-slice-read-t24 : tie.Need-shared-slice-read-t24
-shared-slice-read-t24 c = search needs
+shared-slice-read-t23 : tie.Need-shared-slice-read-t23
+shared-slice-read-t23 c = search needs
 
 returns : tie.Need-returns
 unfolding settingsIn
 returns c =
-    let divisor = c .before .before .before .before in
+    let divisor = c .before .before .before in
     let clock = divisor .before in
     let count = clock .before in
-    let frequency = count .before in
-    let serial = frequency .before .before in
+    let channel = count .before in
+    let serial = channel .before .before in
     let start = serial .before .before .before .before in
     rw (
-      frequency .number-at .ensures,
-      count .number-at2 .ensures,
-      clock .number-at3 .ensures,
-      divisor .number-at4 .ensures,
-      filled 28 8 (now (start .args .b)) _ refl (omega (arith, start .pre)) (serial .copy .ensures),
+      channel .channel-at .ensures,
+      count .number-at .ensures,
+      clock .number-at2 .ensures,
+      divisor .number-at3 .ensures,
+      filled 32 8 (now (start .args .b)) _ refl (omega (arith, start .pre)) (serial .copy .ensures),
     ) refl
 
 pub settings-of-spec : {M : Type 1} → statement M
@@ -90,14 +90,14 @@ settings-of-spec =
     part-copy-end
     slice-aggregate-copy
     copy-requires
+    channel-at-requires
     number-at-requires
     number-at-requires-2
-    number-at-requires-3
     cast-t13
-    number-at-requires-4
+    number-at-requires-3
     cast-t15
     shared-slice-read-t17
+    cast-t18
     shared-slice-read-t20
-    shared-slice-read-t22
-    shared-slice-read-t24
+    shared-slice-read-t23
     returns)

@@ -1,4 +1,4 @@
--- The eight tests are the definition's, the serial's before the others.
+-- The tests are the definition's, the serial's before the others.
 use mathlib.Core.Path.{_≡_, _∙_, sym}
 use mathlib.Core.Bool.{and-true, and-false}
 use lib.ListN.{length}
@@ -25,44 +25,34 @@ returns c =
       and-false,
     )
 
-in-bands-requires : tie.Need-in-bands-requires
-in-bands-requires c κs = search needs
-
-is-clock-requires : tie.Need-is-clock-requires
-is-clock-requires c κs = search needs
+is-tuned-requires : tie.Need-is-tuned-requires
+is-tuned-requires c κs = search needs
 
 is-d-requires : tie.Need-is-d-requires
 is-d-requires c κs = search needs
 
-is-mode-requires : tie.Need-is-mode-requires
-is-mode-requires c κs = search needs
-
-is-gain-requires : tie.Need-is-gain-requires
-is-gain-requires c κs = search needs
-
 is-size-requires : tie.Need-is-size-requires
 is-size-requires c κs = search needs
+
+is-mode-requires : tie.Need-is-mode-requires
+is-mode-requires c κs = search needs
 
 returns-2 : tie.Need-returns-2
 unfolding inRange
 returns-2 c =
     -- the tests, from the last back to the first
-    let gain = c .before in
-    let mode = gain .before in
-    let divisor = mode .before in
-    let clock = divisor .before in
-    let bands = clock .before in
-    let d = bands .before .before in
+    let size = c .before in
+    let divisor = size .before in
+    let channel = divisor .before in
+    let d = channel .before .before .before in
     let start = d .before .before .before in
     rw (
-      bands .in-bands .ensures,
-      clock .is-clock .ensures,
+      channel .is-tuned .ensures,
       divisor .is-d .ensures,
-      mode .is-mode .ensures,
-      gain .is-gain .ensures,
-      c .is-size .ensures,
+      size .is-size .ensures,
+      c .is-mode .ensures,
       eq-eqb (length (start .args .t1 .serial)) 8 (long start),
-      sym (d .all-serial .ensures) ∙ not-false (d .all-serial .result) (bands .before .if1 .left),
+      sym (d .all-serial .ensures) ∙ not-false (d .all-serial .result) (channel .before .before .if1 .left),
     )
     (sym (and-true _))
 
@@ -72,10 +62,8 @@ in-range-spec =
     (tie.spec
     all-serial-requires
     returns
-    in-bands-requires
-    is-clock-requires
+    is-tuned-requires
     is-d-requires
-    is-mode-requires
-    is-gain-requires
     is-size-requires
+    is-mode-requires
     returns-2)

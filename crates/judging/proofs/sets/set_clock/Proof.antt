@@ -1,9 +1,11 @@
 -- The clock is what the row asks; four bytes fit 32 bits.
-use mathlib.Core.Path.{refl, sym}
+use Prim.Native.Nat.{ℕ}
+use mathlib.Core.Path.{refl, sym, ap}
 use mathlib.Core.Bool.{and-false}
 use denote.Ref.{now}
 use native.Mathlib.Omega.{arith}
 use Rattle.wire.proofs.Numbers.{field-below}
+use Rattle.items.specs.Settings.{withClock}
 use Rattle.items.specs.Items.{clock}
 use Rattle.judging.proofs.Setting.{set-by}
 use borrow.Author.Needs.{needs}
@@ -21,16 +23,20 @@ cast-hz c =
 is-clock-requires : tie.Need-is-clock-requires
 is-clock-requires c κs = search needs
 
-decide-requires : tie.Need-decide-requires
-decide-requires c κs = search needs
+set-code-requires : tie.Need-set-code-requires
+set-code-requires c κs = search needs
+
+tune-requires : tie.Need-tune-requires
+tune-requires c κs = search needs
 
 returns : tie.Need-returns
 returns c =
-    let a = c .before .before .before .before .args in
-    let hz = c .before .before .number-at .ensures in
-    set-by clock (a .s) (now (a .p)) (c .decide .ensures) refl (rw hz at (c .before .is-clock .ensures)) (sym (and-false (a .s .running)))
-    (λ e. rw hz refl)
+    let coded = c .before .before in
+    let a = coded .before .before .before .before .args in
+    let hz = coded .before .before .number-at .ensures in
+    set-by clock (a .s) (now (a .p)) (coded .set-code .ensures) refl (rw hz at (coded .before .is-clock .ensures))
+    (sym (and-false (a .s .running))) (c .tune .ensures) (λ e. ap (λ (n : ℕ). withClock n (a .s)) hz)
 
 pub set-clock-spec : {M : Type 1} → statement M
 set-clock-spec =
-    tie.close (tie.spec number-at-requires cast-hz is-clock-requires decide-requires returns)
+    tie.close (tie.spec number-at-requires cast-hz is-clock-requires set-code-requires tune-requires returns)

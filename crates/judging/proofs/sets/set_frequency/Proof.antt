@@ -1,7 +1,9 @@
 -- Channel and bands are what the row asks.
-use mathlib.Core.Path.{refl, sym}
+use Prim.Native.Nat.{ℕ}
+use mathlib.Core.Path.{sym, ap}
 use mathlib.Core.Bool.{and-false}
 use denote.Ref.{now}
+use Rattle.items.specs.Settings.{withFrequency}
 use Rattle.items.specs.Items.{frequency}
 use Rattle.judging.proofs.Setting.{set-by}
 use borrow.Author.Needs.{needs}
@@ -20,15 +22,20 @@ set-channel-requires c κs = search needs
 in-bands-requires : tie.Need-in-bands-requires
 in-bands-requires c κs = search needs
 
-decide-requires : tie.Need-decide-requires
-decide-requires c κs = search needs
+set-code-requires : tie.Need-set-code-requires
+set-code-requires c κs = search needs
+
+tune-requires : tie.Need-tune-requires
+tune-requires c κs = search needs
 
 returns : tie.Need-returns
 returns c =
-    let a = c .before .before .before .before .before .before .args in
-    let hz = c .before .before .before .before .number-at .ensures in
-    set-by frequency (a .s) (now (a .p)) (c .decide .ensures) (c .before .before .set-channel .ensures)
-    (rw hz at (c .before .in-bands .ensures)) (sym (and-false (a .s .running))) (λ e. rw hz refl)
+    let coded = c .before in
+    let a = coded .before .before .before .before .before .before .args in
+    let hz = coded .before .before .before .before .number-at .ensures in
+    set-by frequency (a .s) (now (a .p)) (coded .set-code .ensures) (coded .before .before .set-channel .ensures)
+    (rw hz at (coded .before .in-bands .ensures)) (sym (and-false (a .s .running))) (c .tune .ensures)
+    (λ e. ap (λ (n : ℕ). withFrequency n (a .s)) hz)
 
 pub set-frequency-spec : {M : Type 1} → statement M
 set-frequency-spec =
@@ -38,5 +45,6 @@ set-frequency-spec =
     shared-slice-read-set-channel
     set-channel-requires
     in-bands-requires
-    decide-requires
+    set-code-requires
+    tune-requires
     returns)

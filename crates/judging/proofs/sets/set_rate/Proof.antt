@@ -29,17 +29,23 @@ nearest-requires c κs = search needs
 may-ask-requires : tie.Need-may-ask-requires
 may-ask-requires c κs = search needs
 
+set-code-requires : tie.Need-set-code-requires
+set-code-requires c κs = search needs
+
 decide-requires : tie.Need-decide-requires
 decide-requires c κs = search needs
 
 returns : tie.Need-returns
 returns c =
-    let a = c .before .before .before .before .before .args in
-    let hz = c .before .before .before .number-at .ensures in
+    let coded = c .before in
+    let a = coded .before .before .before .before .before .args in
+    let hz = coded .before .before .before .number-at .ensures in
     let asked = field 1 4 (now (a .p)) in
-    set-by rate (a .s) (now (a .p)) (c .decide .ensures) refl (rw hz at (c .before .may-ask .ensures)) (sym (and-true (a .s .running)))
+    set-by rate (a .s) (now (a .p)) (coded .set-code .ensures) refl (rw hz at (coded .before .may-ask .ensures))
+    (sym (and-true (a .s .running))) (c .decide .ensures)
     (λ e.
-    ap (λ (d : ℕ). withDivisor d (a .s)) (rw hz at (c .before .before .nearest .ensures) ∙ pick-true (mayAsk asked) (nearestOf asked) 0 e))
+    ap (λ (d : ℕ). withDivisor d (a .s))
+    (rw hz at (coded .before .before .nearest .ensures) ∙ pick-true (mayAsk asked) (nearestOf asked) 0 e))
 
 pub set-rate-spec : {M : Type 1} → statement M
 set-rate-spec =
@@ -49,5 +55,6 @@ set-rate-spec =
     cast-asked
     nearest-requires
     may-ask-requires
+    set-code-requires
     decide-requires
     returns)

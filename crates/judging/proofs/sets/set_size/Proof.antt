@@ -2,6 +2,7 @@
 use mathlib.Core.Path.{refl, sym}
 use mathlib.Core.Bool.{and-true}
 use denote.Ref.{now}
+use native.Mathlib.Omega.{arith}
 use Rattle.items.specs.Items.{packetSize}
 use Rattle.judging.proofs.Setting.{set-by}
 use borrow.Author.Needs.{needs}
@@ -11,18 +12,25 @@ use Rattle.judging.proofs.sets.set_size.Tie as tie
 shared-slice-read-byte : tie.Need-shared-slice-read-byte
 shared-slice-read-byte c = search needs
 
+cast-byte : tie.Need-cast-byte
+cast-byte c = omega (arith, c .before .shared-slice-known .given 0)
+
 is-size-requires : tie.Need-is-size-requires
 is-size-requires c κs = search needs
+
+set-code-requires : tie.Need-set-code-requires
+set-code-requires c κs = search needs
 
 decide-requires : tie.Need-decide-requires
 decide-requires c κs = search needs
 
 returns : tie.Need-returns
 returns c =
-    let a = c .before .before .before .before .args in
-    set-by packetSize (a .s) (now (a .p)) (c .decide .ensures) refl (c .before .is-size .ensures) (sym (and-true (a .s .running)))
-    (λ e. refl)
+    let coded = c .before in
+    let a = coded .before .before .before .before .args in
+    set-by packetSize (a .s) (now (a .p)) (coded .set-code .ensures) refl (coded .before .is-size .ensures)
+    (sym (and-true (a .s .running))) (c .decide .ensures) (λ e. refl)
 
 pub set-size-spec : {M : Type 1} → statement M
 set-size-spec =
-    tie.close (tie.spec shared-slice-read-byte is-size-requires decide-requires returns)
+    tie.close (tie.spec shared-slice-read-byte cast-byte is-size-requires set-code-requires decide-requires returns)

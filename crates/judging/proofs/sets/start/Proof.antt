@@ -12,6 +12,9 @@ use Rattle.judging.proofs.sets.start.Tie as tie
 is-mode-requires : tie.Need-is-mode-requires
 is-mode-requires c κs = search needs
 
+set-code-requires : tie.Need-set-code-requires
+set-code-requires c κs = search needs
+
 started-requires : tie.Need-started-requires
 started-requires c κs = search needs
 
@@ -20,10 +23,15 @@ decide-requires c κs = search needs
 
 returns : tie.Need-returns
 returns c =
-    let a = c .before .before .before .before .before .args in
-    set-by state (a .s) (a .first ∷ run ∷ a .mode ∷ []) (c .decide .ensures) refl
-    (ap (λ (b : Bool). eqb (a .first) 0x80 && b) (c .before .before .before .before .is-mode .ensures)) refl
-    (λ e. c .before .before .started .ensures)
+    let begun = c .before in
+    let coded = begun .before in
+    let moded = coded .before .before .before in
+    let a = moded .before .args in
+    set-by state (a .s) (a .first ∷ run ∷ a .mode ∷ []) (coded .set-code .ensures) refl
+    (ap (λ (b : Bool). eqb (a .first) 0x80 && b) (moded .is-mode .ensures)) refl (c .decide .ensures)
+    (λ e. begun .started .ensures)
 
 pub start-spec : {M : Type 1} → statement M
-start-spec = tie.close (tie.spec is-mode-requires started-requires decide-requires returns)
+start-spec =
+    tie.close
+    (tie.spec is-mode-requires set-code-requires started-requires decide-requires returns)

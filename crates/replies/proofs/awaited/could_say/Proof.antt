@@ -1,5 +1,7 @@
 -- Each arm tests its wish's values; a set that is left is answered with the value sent.
+use Prim.Native.Nat.{_<_}
 use mathlib.Core.Path.{refl, ap, _∙_}
+use native.Mathlib.Omega.{arith}
 use lib.Dec.{eqb, ltb}
 use borrow.Author.Needs.{needs}
 use Rattle.layouts.specs.declared.Layout.{Layout}
@@ -56,7 +58,9 @@ enum-told-7 : tie.Need-enum-told-7
 enum-told-7 c = search needs
 
 cast-is-gain : tie.Need-cast-is-gain
-cast-is-gain c = record { fits = rw (c .enum-told7 .given .1) at (c .before .before .pre .2) }
+cast-is-gain c =
+    let byte : c .before .before .args .n < 256 = rw (c .enum-told7 .given .1) at (c .before .before .pre .2) in
+    record { fits = omega arith }
 
 is-gain-requires : tie.Need-is-gain-requires
 is-gain-requires c κs = search needs
@@ -95,7 +99,9 @@ enum-told-10 : tie.Need-enum-told-10
 enum-told-10 c = search needs
 
 cast-is-size : tie.Need-cast-is-size
-cast-is-size c = record { fits = rw (c .enum-told10 .given .1) at (c .before .before .pre .2) }
+cast-is-size c =
+    let byte : c .before .before .args .n < 256 = rw (c .enum-told10 .given .1) at (c .before .before .pre .2) in
+    record { fits = omega arith }
 
 is-size-requires : tie.Need-is-size-requires
 is-size-requires c κs = search needs
