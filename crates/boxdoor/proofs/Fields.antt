@@ -1,22 +1,23 @@
 -- Fields stored one behind the other are the store of the whole state.
-use Prim.Native.Nat.{ℕ, _+_}
-use mathlib.Core.Path.{_≡_, refl, ap, _∙_}
-use mathlib.Core.Bool.{Bool, true, false}
+use Prim.Native.Nat.{ℕ, _+_, _≤_}
+use mathlib.Core.Path.{_≡_, refl, sym, ap, _∙_}
+use mathlib.Core.Bool.{Bool, true, false, not}
 use mathlib.Core.List.{List, [], _++_, append-assoc, append-nil}
 use native.Mathlib.Omega.{arith}
 use mir.Val.{boolByte}
-use lib.ListN.{length, take, drop, drop-of-length-le}
+use lib.Dec.{eqb}
+use lib.ListN.{length, getD, take, drop, drop-of-length-le}
 use lib.Seq.{sets, sets-eq, length-sets, length-take-le, take-append-add, take-at, drop-at}
-use borrow.Rule.Slice.PartMut.{putMid}
+use borrow.Rule.Slice.PartMut.{midOf, putMid}
 use Rattle.wire.specs.Choice.{pick}
-use Rattle.wire.specs.Number.{bytes}
+use Rattle.wire.specs.Number.{bytes, field}
 use Rattle.wire.proofs.Laws.{flag-byte}
 use Rattle.wire.proofs.Numbers.{length-bytes}
-use Rattle.wire.proofs.Stores.{sets-then}
+use Rattle.wire.proofs.Stores.{sets-then, sets-whole}
 use Rattle.items.specs.declared.Channel.{Channel}
 use Rattle.items.specs.declared.Settings.{Settings}
 use Rattle.station.specs.Station.{boxOf}
-use Rattle.boxdoor.specs.States.{stationSize, channelBytes, commonBytes, settingsBytes, stationBytes}
+use Rattle.boxdoor.specs.States.{stationSize, channelIn, settingsIn, channelBytes, commonBytes, settingsBytes, stationBytes}
 
 -- ---- the settings, one behind the other
 
@@ -40,6 +41,30 @@ pub settings-stored : (s : Settings) (l a b c : List ℕ) → a ≡ sets l 0 (ch
 unfolding channelBytes commonBytes
 settings-stored s l a b c p q r =
     sets-then l 0 (channelBytes (s .first)) (commonBytes s ++ s .serial) p (sets-then a 13 (commonBytes s) (s .serial) q r)
+
+-- stored in the part in front of the held bytes
+pub front-stored : (l vs : List ℕ) → length vs ≡ 40 → 40 ≤ length l → putMid 0 40 l (sets (midOf 0 40 l) 0 vs) ≡ sets l 0 vs
+front-stored l vs long room =
+    let part : length (take 40 l) ≡ 40 = length-take-le 40 l room in
+    ap (λ (r : List ℕ). r ++ drop 40 l) (sets-whole (take 40 l) vs (long ∙ sym part))
+    ∙ sym (sets-eq vs l 0 (omega arith) ∙ rw long refl)
+
+-- the settings from what was read
+pub settings-read : (b : List ℕ) {first : Channel} {count clock divisor : ℕ} {serial : List ℕ} → first ≡ channelIn 0 b → count ≡ field 13 8 b
+    → clock ≡ field 21 4 b → divisor ≡ field 25 4 b → serial ≡ take 8 (drop 32 b)
+    → record {
+      first = first;
+      count = count;
+      clock = clock;
+      divisor = divisor;
+      size = getD b 31 0;
+      running = not (eqb (getD b 29 0) 0);
+      mode = getD b 30 0;
+      serial = serial;
+    }
+    ≡ settingsIn b
+unfolding settingsIn
+settings-read b f n c d l = rw (f, n, c, d, l) refl
 
 -- ---- all but the held bytes: 40 bytes at the start, and eight from the 104th on
 

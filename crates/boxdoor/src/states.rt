@@ -59,11 +59,13 @@ pub(crate) fn settings_of(b: &[u8]) -> Settings
 {
     let mut serial = [0u8; 8];
     wire::copy(&b[SERIAL..HELD], &mut serial, 0);
+    // a part of a length that the compiler sees
+    let front = &b[..HELD];
     Settings {
-        first: channel_at(b, FIRST),
-        count: wire::number_at(b, COUNT, 8),
-        clock: wire::number_at(b, CLOCK, 4) as u32,
-        divisor: wire::number_at(b, DIVISOR, 4) as u32,
+        first: channel_at(front, FIRST),
+        count: wire::number_at(front, COUNT, 8),
+        clock: wire::number_at(front, CLOCK, 4) as u32,
+        divisor: wire::number_at(front, DIVISOR, 4) as u32,
         size: b[SIZE] as u32,
         running: b[RUNNING] != 0,
         mode: b[MODE],
@@ -108,7 +110,7 @@ fn put_channel(b: &mut [u8], at: usize, c: Channel)
 
 // Stores the numbers among the settings that are no channel's, behind the channel.
 fn put_common(b: &mut [u8], s: Settings)
-    requires { ⌜ length (now b) ≡ stationSize ⌝ }
+    requires { ⌜ length (now b) ≡ 40 ⌝ }
     ensures { λ _. ⌜ now (b .exit) ≡ sets (now (b .entry)) 13 (commonBytes s) ⌝ }
 {
     wire::put(b, COUNT, 8, s.count);
@@ -119,9 +121,9 @@ fn put_common(b: &mut [u8], s: Settings)
     wire::put(b, SIZE, 1, s.size as u64);
 }
 
-// Stores the settings in front of the held bytes.
+// Stores the settings in the bytes in front of the held ones.
 fn put_settings(b: &mut [u8], s: Settings)
-    requires { ⌜ length (now b) ≡ stationSize ⌝ }
+    requires { ⌜ length (now b) ≡ 40 ⌝ }
     ensures { λ _. ⌜ now (b .exit) ≡ sets (now (b .entry)) 0 (settingsBytes s) ⌝ }
 {
     put_channel(b, FIRST, s.first);
@@ -135,7 +137,8 @@ pub(crate) fn put_parts(b: &mut [u8], s: Settings, taken: usize)
     requires { ⌜ length (now b) ≡ stationSize ⌝ }
     ensures { λ _. ⌜ now (b .exit) ≡ sets (sets (now (b .entry)) 0 (settingsBytes s)) 104 (bytes 8 taken) ⌝ }
 {
-    put_settings(b, s);
+    // a part of a length that the compiler sees
+    put_settings(&mut b[..HELD], s);
     wire::put(b, TAKEN, 8, taken as u64);
 }
 

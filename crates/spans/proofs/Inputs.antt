@@ -4,16 +4,16 @@ use mathlib.Core.Path.{_≡_, refl, sym, ap, _∙_}
 use mathlib.Core.Bool.{Bool, true, false}
 use mathlib.Core.List.{List, [], _∷_, _++_}
 use native.Mathlib.Decide.{decLt}
-use native.Mathlib.Nat.{zero-add, suc-add}
 use native.Mathlib.Omega.{arith}
 use lib.Dec.{eqb}
 use lib.ListN.{length, take, drop, replicate, length-drop}
-use lib.Seq.{sets, take-take, take-nil, length-take-le}
+use lib.Seq.{sets, length-take-le}
 use borrow.Author.Tests.{lt-ltb, le-ltb, eqb-true}
 use Rattle.wire.specs.Choice.{pick}
 use Rattle.wire.specs.Lists.{allBytes, joined}
-use Rattle.wire.specs.Number.{number, field}
+use Rattle.wire.specs.Number.{field}
 use Rattle.wire.proofs.Lists.{bytes-drop}
+use Rattle.wire.proofs.Numbers.{field-front}
 use Rattle.wire.proofs.Stores.{sets-whole}
 use Rattle.heads.specs.declared.Head.{Head}
 use Rattle.heads.specs.Head.{mark, version, headLength, allowedHead, headIn}
@@ -31,19 +31,9 @@ use Rattle.spans.proofs.Reported.{Knows, coming-lines}
 
 -- ---- a head in the first 14 bytes
 
-drop-take : (a m : ℕ) (l : List ℕ) → drop a (take (a + m) l) ≡ take m (drop a l)
-drop-take zero m l = ap (λ (k : ℕ). take k l) (zero-add m)
-drop-take (suc a) m [] = rw (suc-add a m) (sym (take-nil m))
-drop-take (suc a) m (x ∷ l) = rw (suc-add a m) (drop-take a m l)
-
 -- a field within the first 14 bytes
 field-head : (at n : ℕ) (s : List ℕ) → at + n ≤ headLength → field at n (take headLength s) ≡ field at n s
-field-head at n s inside =
-    let all : headLength ≡ at + (headLength - at) = omega arith in
-    ap number
-    (ap (λ (k : ℕ). take n (drop at (take k s))) all
-    ∙ ap (take n) (drop-take at (headLength - at) s)
-    ∙ take-take n (headLength - at) (drop at s) (omega arith))
+field-head at n s inside = field-front at n headLength s inside
 
 head-taken-in : (s : List ℕ) → headIn (take headLength s) ≡ headIn s
 head-taken-in s =

@@ -2,17 +2,31 @@
 use Prim.Native.Nat.{ℕ, zero, suc, _+_, _*_, _-_, _/_, _%_, _^_, _≤_, _<_, min}
 use mathlib.Core.Path.{_≡_, refl, sym, ap, _∙_}
 use mathlib.Core.List.{List, [], _∷_}
-use native.Mathlib.Nat.{zero-min, min-zero, suc-min-suc, pow-le-pow-right, lt-of-lt-of-le}
+use native.Mathlib.Nat.{zero-min, min-zero, suc-min-suc, pow-le-pow-right, lt-of-lt-of-le, zero-add, suc-add}
 use native.Mathlib.Omega.{arith}
 use native.Mathlib.Decide.{decLt}
 use lib.ListN.{length, getD, set, take, drop, length-drop}
-use lib.Seq.{drop-cons, sets, take-length, getD-drop}
+use lib.Seq.{drop-cons, sets, take-length, take-nil, take-take, getD-drop}
 use Rattle.wire.proofs.Stores.{sets-out}
 use Rattle.wire.specs.Number.{number, bytes, field}
 
 -- a field is its first byte, and 256 times the field after it
 pub field-step : (s : List ℕ) (at n : ℕ) → at < length s → field at (suc n) s ≡ getD s at 0 + 256 * field (suc at) n s
 field-step s at n h = rw (drop-cons s at 0 h)
+
+-- a field in the front of a list
+pub drop-front : (at m : ℕ) (l : List ℕ) → drop at (take (at + m) l) ≡ take m (drop at l)
+drop-front zero m l = ap (λ (k : ℕ). take k l) (zero-add m)
+drop-front (suc at) m [] = rw (suc-add at m) (sym (take-nil m))
+drop-front (suc at) m (b ∷ l) = rw (suc-add at m) (drop-front at m l)
+
+pub field-front : (at n m : ℕ) (l : List ℕ) → at + n ≤ m → field at n (take m l) ≡ field at n l
+field-front at n m l inside =
+    let all : m ≡ at + (m - at) = omega arith in
+    ap number
+    (ap (λ (k : ℕ). take n (drop at (take k l))) all
+    ∙ ap (take n) (drop-front at (m - at) l)
+    ∙ take-take n (m - at) (drop at l) (omega arith))
 
 -- no more is taken than there is
 take-there : (n : ℕ) (l : List ℕ) → take (min n (length l)) l ≡ take n l
