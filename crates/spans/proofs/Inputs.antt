@@ -11,7 +11,7 @@ use lib.Seq.{sets, length-take-le}
 use borrow.Author.Tests.{lt-ltb, le-ltb, eqb-true}
 use Rattle.wire.specs.Choice.{pick}
 use Rattle.wire.specs.Lists.{allBytes, joined}
-use Rattle.wire.specs.Number.{field}
+use Rattle.wire.specs.Number.{number, field}
 use Rattle.wire.proofs.Lists.{bytes-drop}
 use Rattle.wire.proofs.Numbers.{field-front}
 use Rattle.wire.proofs.Stores.{sets-whole}
