@@ -18,8 +18,8 @@ pub struct Answered {
     pub settings: Settings,
 }
 
-// Answers a finished message of a type and a length, of which `opening` is the first ten bytes, zero where it has fewer. A
-// buffer that is shorter than the reply is 20: nothing is written, and the settings are those given.
+// Answers a finished message of a type and a length, of which `opening` is the first ten bytes; what lies behind a shorter
+// one does not decide. A buffer that is shorter than the reply is 20: nothing is written, and the settings are those given.
 pub fn answer(s: Settings, kind: u8, size: u16, opening: &[u8; 10], reply: &mut [u8]) -> Answered
     ensures { λ r.
         ⌜ (r ≡ answerOf s (record { type = kind; size = size; bytes = now (opening .entry) }) (length (now (reply .entry))) .answered)

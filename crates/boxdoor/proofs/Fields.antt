@@ -1,7 +1,7 @@
 -- Fields stored one behind the other are the store of the whole state.
 use Prim.Native.Nat.{ℕ, _+_, _≤_}
 use mathlib.Core.Path.{_≡_, refl, sym, ap, _∙_}
-use mathlib.Core.Bool.{Bool, true, false, not}
+use mathlib.Core.Bool.{not}
 use mathlib.Core.List.{List, [], _++_, append-assoc, append-nil}
 use native.Mathlib.Omega.{arith}
 use mir.Val.{boolByte}
@@ -9,7 +9,6 @@ use lib.Dec.{eqb}
 use lib.ListN.{length, getD, take, drop, drop-of-length-le}
 use lib.Seq.{sets, sets-eq, length-sets, length-take-le, take-append-add, take-at, drop-at}
 use borrow.Rule.Slice.PartMut.{midOf, putMid}
-use Rattle.wire.specs.Choice.{pick}
 use Rattle.wire.specs.Number.{bytes, field}
 use Rattle.wire.proofs.Laws.{flag-byte}
 use Rattle.wire.proofs.Numbers.{length-bytes}
@@ -50,8 +49,8 @@ front-stored l vs long room =
     ∙ sym (sets-eq vs l 0 (omega arith) ∙ rw long refl)
 
 -- the settings from what was read
-pub settings-read : (b : List ℕ) {first : Channel} {count clock divisor : ℕ} {serial : List ℕ} → first ≡ channelIn 0 b → count ≡ field 13 8 b
-    → clock ≡ field 21 4 b → divisor ≡ field 25 4 b → serial ≡ take 8 (drop 32 b)
+pub settings-read : (b : List ℕ) {first : Channel} {count clock divisor : ℕ} {serial : List ℕ} → first ≡ channelIn 0 b
+    → count ≡ field 13 8 b → clock ≡ field 21 4 b → divisor ≡ field 25 4 b → serial ≡ take 8 (drop 32 b)
     → record {
       first = first;
       count = count;

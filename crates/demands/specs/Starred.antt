@@ -1,5 +1,5 @@
 -- The judged examples of document 01 that are marked to be proved, as one table in the page's order, and behind them those that
--- document 02 gives with a request. What a message does is asked of a fresh box, fed in one call with 64 bytes of room.
+-- belong to a request of document 02. What a message does is asked of a fresh box, fed in one call with 64 bytes of room.
 use Prim.Native.Nat.{ℕ}
 use mathlib.Core.Bool.{Bool, true, _&&_}
 use mathlib.Core.List.{List, [], _∷_}

@@ -9,7 +9,8 @@ use native.Mathlib.Nat.{add-zero, add-suc, suc-add, le-refl}
 use native.Mathlib.Omega.{arith}
 use borrow.Author.Tests.{eqb-true}
 use lib.Dec.{eqb}
-use lib.ListN.{length, getD, set, take, drop, drop-of-length-le, length-set, replicate, length-append, length-take, length-replicate, getD-replicate}
+use lib.ListN.{length, getD, set, take, drop, drop-of-length-le, length-set, replicate}
+use lib.ListN.{length-append, length-take, length-replicate, getD-replicate}
 use lib.ListN.{List·getD-eq-default as getD-past, List·getD-append as getD-append}
 use lib.Seq.{sets, getD-take, getD-drop, getD-set-same, getD-append-add, take-append-le, length-take-le, ext-getD}
 use Rattle.wire.specs.Number.{number, bytes, field}

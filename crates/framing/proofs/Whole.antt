@@ -1,7 +1,7 @@
--- What one call takes, told by its count, the message's first ten bytes and what is held after it.
+-- What one call takes, told by its count, ten bytes from the message's first on and what is held after it.
 -- Assumes nothing.
 use Prim.Native.Nat.{ℕ, _+_, _-_, _≤_, _<_, min}
-use mathlib.Core.Path.{_≡_, refl, ap}
+use mathlib.Core.Path.{_≡_, refl}
 use mathlib.Core.Bool.{true, false}
 use mathlib.Core.List.{List}
 use native.Mathlib.Omega.{arith}

@@ -4,7 +4,7 @@
 use Prim.Native.Nat.{ℕ, zero, suc, _-_, _≤_, _<_}
 use mathlib.Core.Path.{_≡_, refl, sym, ap, _∙_}
 use mathlib.Core.Bool.{Bool, true, false, _&&_, _||_, not, and-false}
-use mathlib.Core.List.{List, [], _∷_, _++_}
+use mathlib.Core.List.{List, [], _∷_}
 use native.Mathlib.Decide.{ℕ-discrete, decLt}
 use native.Mathlib.Omega.{arith}
 use lib.Dec.{eqb, leb}
@@ -20,10 +20,10 @@ use Rattle.items.specs.declared.Settings.{Settings}
 use Rattle.items.specs.Items.{Offer, total, dash, Item, items, noItem, rowOf}
 use Rattle.items.specs.Header.{headerChecks}
 use Rattle.items.specs.Table.{offered, isTotal, tableChecks}
-use Rattle.items.specs.Answer.{Message, itemChecks, itemCode, replyTo, replyDue, codeOf, settingsAfter, replyOf}
+use Rattle.items.specs.Answer.{Message, itemChecks, replyTo, replyDue, codeOf, settingsAfter, replyOf}
 use Rattle.items.proofs.Classes.{short, two, three, unnamed, other, data-other}
 use Rattle.items.proofs.Rows.{allHave, _then_, found}
-use Rattle.items.proofs.Judging.{by-header, by-table, by-item, has-length, reply-by-code}
+use Rattle.items.proofs.Judging.{by-header, by-table, by-item, reply-by-code}
 use Rattle.items.proofs.TenBytes.{heldMessage, Same}
 
 -- zero from the n-th byte on

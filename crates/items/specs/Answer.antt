@@ -16,8 +16,8 @@ use Rattle.items.specs.Items.{Echoed, noByte, anId, anyChannel, zeroAndA
 use Rattle.items.specs.Header.{headerChecks}
 use Rattle.items.specs.Table.{tableChecks}
 
--- A finished message: its type, its length as the header has it, and its first bytes: the 64 that are held, or the ten of
--- them that decide (TenBytes in proofs/).
+-- A finished message: its type, its length as the header has it, and its first bytes: the 64 that are held, or ten that decide
+-- as well (TenBytes and Behind in proofs/).
 pub record Message : Type 0 where
   pub type : ℕ
   pub size : ℕ

@@ -10,8 +10,8 @@ use crate::FreshSettings;
 use crate::Settings;
 use wire::codes;
 
-// Every setting lies within its range. The serial's bytes are tested first; of the numbers all are tested, with no branch
-// between them.
+// Every setting lies within its range. The serial's bytes are tested first; of the numbers all are tested, none left
+// out because of another.
 pub fn in_range(s: Settings) -> bool
     ensures { λ r. ⌜ r ≡ inRange s ⌝ }
 {

@@ -15,8 +15,8 @@ use items::values;
 use wire::codes;
 use wire::types;
 
-// The code of a finished message of a type and a length, and the settings after it. `opening` is its first ten bytes, zero
-// where it has fewer. "Codes 10 to 17 stand in order of checking (11 first)."
+// The code of a finished message of a type and a length, and the settings after it. `opening` is its first ten bytes;
+// what lies behind a shorter one does not decide. "Codes 10 to 17 stand in order of checking (11 first)."
 pub fn judge(s: Settings, kind: u8, size: u16, opening: &[u8; 10]) -> Judged
     ensures { λ r. ⌜ r ≡ judgedOf s (record { type = kind; size = size; bytes = now (opening .entry) }) ⌝ }
 {

@@ -76,8 +76,8 @@ seven a b c d e f g t =
     )
 
 -- all seven, in the order of the fields above
-seven-in : {s : Settings} → isClock (s .clock) ≡ true → Channels (s .clock) (s .first) → leb (s .count) most ≡ true → isD (s .divisor) ≡ true
-    → isSize (s .size) ≡ true → isMode (s .mode) ≡ true → isSerial (s .serial) ≡ true → Ranges s
+seven-in : {s : Settings} → isClock (s .clock) ≡ true → Channels (s .clock) (s .first) → leb (s .count) most ≡ true
+    → isD (s .divisor) ≡ true → isSize (s .size) ≡ true → isMode (s .mode) ≡ true → isSerial (s .serial) ≡ true → Ranges s
 seven-in c h n d z m l = record { clock = c; first = h; count = n; divisor = d; size = z; mode = m; serial = l }
 
 pub ranges : (s : Settings) → inRange s ≡ true → Ranges s

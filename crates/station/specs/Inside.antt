@@ -11,7 +11,7 @@ use Rattle.items.specs.Answer.{Message, replyOf}
 use Rattle.station.specs.declared.Station.{Station}
 use Rattle.station.specs.Feeding.{Feeding, messageIn, refused, answered}
 
--- a message of which only the first ten bytes are at hand
+-- a message of which only ten bytes from its first on are at hand
 abbrev pub openedMessage : List ℕ → Message
 openedMessage ten = messageIn (record { held = ten; taken = 0 })
 

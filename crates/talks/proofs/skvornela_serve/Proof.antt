@@ -153,7 +153,8 @@ kept c = rw (rest-part (eaten c) (host c), rest-long (place c) (replies c)) at (
 add-i : tie.Need-add-i Inv-loop μ-loop
 add-i c =
     let f = c .before .before .before .before .before in
-    omega (arith, ap (λ (r : FedHeld). r .consumed) (fed f), bound f .consumed, length-drop (eaten f) (host f), going f .inside, start f .good)
+    let consumed = ap (λ (r : FedHeld). r .consumed) (fed f) in
+    omega (arith, consumed, bound f .consumed, length-drop (eaten f) (host f), going f .inside, start f .good)
 
 add-at : tie.Need-add-at Inv-loop μ-loop
 add-at c =

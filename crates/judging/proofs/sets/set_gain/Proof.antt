@@ -34,8 +34,8 @@ returns : tie.Need-returns
 returns c =
     let coded = c .before in
     let a = coded .before .before .before .before .before .before .before .args in
-    set-by gain (a .s) (now (a .p)) (coded .set-code .ensures) (coded .before .before .set-channel .ensures) (coded .before .is-gain .ensures)
-    (sym (and-false (a .s .running))) (c .decide .ensures) (λ e. refl)
+    set-by gain (a .s) (now (a .p)) (coded .set-code .ensures) (coded .before .before .set-channel .ensures)
+    (coded .before .is-gain .ensures) (sym (and-false (a .s .running))) (c .decide .ensures) (λ e. refl)
 
 pub set-gain-spec : {M : Type 1} → statement M
 set-gain-spec =

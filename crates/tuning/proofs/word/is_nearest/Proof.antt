@@ -31,8 +31,8 @@ returns c =
     let a = start .args in
     let x = a .n * 2 ^ 32 + a .clock / 2 in
     λ some.
-    small-difference x (a .clock * a .word) (a .clock) (c .wrapping-sub-u64 .result) (omega arith) (omega arith) (omega (arith, small start))
-    (c .wrapping-sub-u64 .ensures)
+    small-difference x (a .clock * a .word) (a .clock) (c .wrapping-sub-u64 .result) (omega arith) (omega arith)
+    (omega (arith, small start)) (c .wrapping-sub-u64 .ensures)
     ∙ by-product x (a .clock) (a .word) some
     ∙ ap (λ (w : ℕ). eqb (a .word) w) (half-more (a .n * 2 ^ 32) (a .clock) some)
 

@@ -38,7 +38,8 @@ cast-result : tie.Need-cast-result
 cast-result c =
     let start = c .before .before .before in
     let a = start .args in
-    omega (arith, half-more (a .n * 2 ^ 32) (a .clock) (omega (arith, start .pre)), word-fits (a .n) (a .clock) (start .pre .0) (start .pre .1))
+    let small = word-fits (a .n) (a .clock) (start .pre .0) (start .pre .1) in
+    omega (arith, half-more (a .n * 2 ^ 32) (a .clock) (omega (arith, start .pre)), small)
 
 returns-2 : tie.Need-returns-2
 returns-2 c =

@@ -1,7 +1,6 @@
 -- Up to the first band's end the offset is the frequency, above it what it lacks to the oscillator's.
 use Prim.Native.Nat.{_≤_, _-_, _%_}
 use mathlib.Core.Path.{_≡_, _∙_}
-use mathlib.Core.Bool.{true}
 use native.Mathlib.Omega.{arith}
 use borrow.Author.Needs.{needs}
 use Rattle.wire.proofs.Laws.{within-high}
