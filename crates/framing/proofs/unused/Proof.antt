@@ -7,12 +7,18 @@ use Rattle.framing.proofs.Zeros.{last-places, four-windows}
 use Rattle.framing.proofs.unused.Statement.{statement}
 use Rattle.framing.proofs.unused.Tie as tie
 
+empty-requires : tie.Need-empty-requires
+empty-requires c κs = search needs
+
+returns : tie.Need-returns
+returns c = rw (c .before .if1 .taken) (c .empty .ensures)
+
 any-in-requires : tie.Need-any-in-requires
 any-in-requires c κs = search needs
 
-returns : tie.Need-returns
-returns c =
-    let a = c .before .before .before .args in
+returns-2 : tie.Need-returns-2
+returns-2 c =
+    let a = c .before .before .before .before .args in
     c .any-in .ensures ∙ last-places (now (a .held)) (omega arith) (a .from)
 
 add-lesser : tie.Need-add-lesser
@@ -39,15 +45,15 @@ window-requires-3 c κs = search needs
 window-requires-4 : tie.Need-window-requires-4
 window-requires-4 c κs = search needs
 
-returns-2 : tie.Need-returns-2
-returns-2 c =
+returns-3 : tie.Need-returns-3
+returns-3 c =
     -- the windows from the last back to the first, and where the third and the second begin
     let w3 = c .before in
     let w2 = w3 .before in
     let w1 = w2 .before in
     let third = w1 .before in
     let second = third .before in
-    let a = second .before .before .before .args in
+    let a = second .before .before .before .before .args in
     four-windows (now (a .held)) (omega arith) (a .from) (second .lesser .result) (third .lesser2 .result)
     (w1 .window .result) (w2 .window2 .result) (w3 .window3 .result) (c .window4 .result) (omega arith)
     (second .lesser .ensures) (third .lesser2 .ensures)
@@ -57,8 +63,10 @@ pub unused-spec : {M : Type 1} → statement M
 unused-spec =
     tie.close
     (tie.spec
-    any-in-requires
+    empty-requires
     returns
+    any-in-requires
+    returns-2
     add-lesser
     lesser-requires
     add-lesser-2
@@ -67,4 +75,4 @@ unused-spec =
     window-requires-2
     window-requires-3
     window-requires-4
-    returns-2)
+    returns-3)
