@@ -1,18 +1,16 @@
 -- "Unused places are zero", tested without an early return: the bytes are joined by `or`, which is zero where all of them are.
-use Prim.Native.Nat.{ℕ, zero, suc, _+_, _*_, _-_, _≤_, _<_, min}
+use Prim.Native.Nat.{ℕ, zero, suc, _+_, _-_, _≤_, _<_, min}
 use mathlib.Core.Path.{_≡_, refl, sym, ap, _∙_}
-use mathlib.Core.Bool.{Bool, true, false, _&&_, and-assoc, and-true, and-false}
+use mathlib.Core.Bool.{Bool, true, false, _&&_, and-assoc, and-true}
 use mathlib.Core.List.{List, [], _∷_}
 use native.Mathlib.Decide.{decLt}
-use native.Mathlib.Nat.{zero-add, suc-add}
 use native.Mathlib.Numerals.{add-one}
 use native.Mathlib.Omega.{arith}
 use borrow.Author.Tests.{eq-eqb, ne-eqb}
 use lib.Bits.{bitOr, bitAnd, or-add-and, and-le-l, and-le-r}
 use lib.Dec.{eqb}
 use lib.ListN.{length, getD, take, drop, length-drop}
-use lib.Seq.{drop-cons, drop-drop, take-all, take-nil}
-use Rattle.wire.specs.Number.{number, field}
+use lib.Seq.{drop-cons, take-all, take-nil}
 use Rattle.framing.specs.Framing.{zeros}
 
 pub or-zero : (a b : ℕ) → eqb (bitOr a b) 0 ≡ (eqb a 0 && eqb b 0)
@@ -82,40 +80,3 @@ module _ (l : List ℕ) (long : length l ≡ 64) where
       (rw (and-assoc (one && two) three (zeros (drop 48 l)), windowed 16 third 48 l (omega arith) (omega arith))
       (rw (and-assoc one two (zeros (drop third l)), windowed 16 second third l (omega arith) (omega arith))
       (windowed 16 from second l (omega arith) (omega arith))))
-
--- ---- eight numbers of eight bytes
-
--- a number is zero where its bytes are
-pub zero-number : (l : List ℕ) → eqb (number l) 0 ≡ zeros l
-zero-number [] = refl
-zero-number (b ∷ l) = first (decLt 0 b) ∙ ap (λ (z : Bool). eqb b 0 && z) (zero-number l)
-  where
-    first : Dec (0 < b) → eqb (b + 256 * number l) 0 ≡ (eqb b 0 && eqb (number l) 0)
-    first (yes w) = rw (ne-eqb (b + 256 * number l) 0 (λ e. omega arith), ne-eqb b 0 (λ e. omega arith)) refl
-    first (no w) =
-        elim (decLt 0 (number l)) [
-          | yes v ↦ rw (ne-eqb (b + 256 * number l) 0 (λ e. omega arith), ne-eqb (number l) 0 (λ e. omega arith), and-false) refl
-          | no v ↦ rw (eq-eqb (b + 256 * number l) 0 (omega arith), eq-eqb b 0 (omega arith), eq-eqb (number l) 0 (omega arith)) refl
-        ]
-
-zeros-split : (n m : ℕ) (l : List ℕ) → zeros (take (n + m) l) ≡ (zeros (take n l) && zeros (take m (drop n l)))
-zeros-split zero m l = ap (λ (k : ℕ). zeros (take k l)) (zero-add m)
-zeros-split (suc n) m [] = rw (suc-add n m, take-nil m) refl
-zeros-split (suc n) m (b ∷ l) = rw (suc-add n m, and-assoc) (ap (λ (z : Bool). eqb b 0 && z) (zeros-split n m l))
-
--- two of them behind each other, from a place on
-two-numbers : (l : List ℕ) (at : ℕ) → eqb (bitOr (field at 8 l) (field (at + 8) 8 l)) 0 ≡ zeros (take 16 (drop at l))
-two-numbers l at =
-    or-zero (field at 8 l) (field (at + 8) 8 l)
-    ∙ rw (zero-number (take 8 (drop at l)), zero-number (take 8 (drop (at + 8) l)), ← drop-drop 8 at l) (sym (zeros-split 8 8 (drop at l)))
-
-pub eight-numbers : (l : List ℕ) → length l ≡ 64
-    → eqb
-    (bitOr
-    (bitOr (bitOr (bitOr (field 0 8 l) (field 8 8 l)) (bitOr (field 16 8 l) (field 24 8 l))) (bitOr (field 32 8 l) (field 40 8 l)))
-    (bitOr (field 48 8 l) (field 56 8 l))) 0
-    ≡ zeros l
-eight-numbers l long =
-    let pair : ℕ → ℕ = λ at. bitOr (field at 8 l) (field (at + 8) 8 l) in
-    four-windows l long 0 16 32 (pair 0) (pair 16) (pair 32) (pair 48) (omega arith) refl refl (two-numbers l 0) (two-numbers l 16)
-    (two-numbers l 32) (two-numbers l 48)

@@ -204,9 +204,9 @@ fn unused(held: &[u8], from: usize) -> bool
     requires { ⌜ length (now held) ≡ 64 ⌝ }
     ensures { λ r. ⌜ r ≡ zeros (drop from (now (held .entry))) ⌝ }
 {
-    // between messages all of them
+    // between messages, at places that the compiler sees
     if from == 0 {
-        return empty(held);
+        return (window(held, 0) | window(held, 16) | window(held, 32) | window(held, 48)) == 0;
     }
     if 48 < from {
         return any_in(held, from, 64) == 0;
@@ -214,18 +214,6 @@ fn unused(held: &[u8], from: usize) -> bool
     let second = wire::lesser(from + 16, 48);
     let third = wire::lesser(from + 32, 48);
     (window(held, from) | window(held, second) | window(held, third) | window(held, 48)) == 0
-}
-
-// Whether all 64 places are zero.
-fn empty(held: &[u8]) -> bool
-    requires { ⌜ length (now held) ≡ 64 ⌝ }
-    ensures { λ r. ⌜ r ≡ zeros (now (held .entry)) ⌝ }
-{
-    let first = wire::number_at(held, 0, 8) | wire::number_at(held, 8, 8);
-    let second = wire::number_at(held, 16, 8) | wire::number_at(held, 24, 8);
-    let third = wire::number_at(held, 32, 8) | wire::number_at(held, 40, 8);
-    let fourth = wire::number_at(held, 48, 8) | wire::number_at(held, 56, 8);
-    (first | second | third | fourth) == 0
 }
 
 // The 16 bytes at a place, joined by `or`.

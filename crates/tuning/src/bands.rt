@@ -3,7 +3,6 @@ ghost use mathlib.Core.Path.{_≡_};
 ghost use mathlib.Core.List.{_++_};
 ghost use Prim.Native.Nat.{_+_, _^_, _<_};
 ghost use lib.Seq.{sets};
-ghost use Rattle.wire.specs.Choice.{within};
 ghost use Rattle.wire.specs.Number.{bytes};
 ghost use Rattle.tuning.specs.Bands.{bands, inBands, rangeBytes};
 
@@ -19,28 +18,12 @@ const SECOND_MAXIMUM: u64 = 150_000_000;
 
 pub const SECOND_OSCILLATOR: u64 = 160_000_000;
 
-// The frequency lies in the first band.
-pub(crate) fn in_first(hz: u64) -> bool
-    ensures { λ r. ⌜ r ≡ within 100000 34000000 hz ⌝ }
-{
-    wire::within(FIRST_MINIMUM, FIRST_MAXIMUM, hz)
-}
-
-// The frequency lies in the second band.
-pub(crate) fn in_second(hz: u64) -> bool
-    ensures { λ r. ⌜ r ≡ within 140000000 150000000 hz ⌝ }
-{
-    wire::within(SECOND_MINIMUM, SECOND_MAXIMUM, hz)
-}
-
 // The frequency lies in one of the bands.
 pub fn in_bands(hz: u64) -> bool
     ensures { λ r. ⌜ r ≡ inBands hz ⌝ }
 {
-    if in_first(hz) {
-        return true;
-    }
-    in_second(hz)
+    wire::within(FIRST_MINIMUM, FIRST_MAXIMUM, hz)
+        | wire::within(SECOND_MINIMUM, SECOND_MAXIMUM, hz)
 }
 
 // Minimum, maximum and oscillator of a band, in five bytes each, at a place of the slice.

@@ -31,7 +31,10 @@ fn offset_of(hz: u64) -> u64
     if hz <= FIRST_MAXIMUM {
         return hz;
     }
-    std::num::wrapping_sub_u64(SECOND_OSCILLATOR, hz) % 0x1_0000_0000
+    if hz <= SECOND_OSCILLATOR {
+        return SECOND_OSCILLATOR - hz;
+    }
+    0
 }
 
 // Whether a word is n x 2^32 / clock to the nearest whole number, halves up. A product tells it, for each call of feeding and
@@ -41,7 +44,9 @@ fn is_nearest(n: u64, clock: u32, word: u32) -> bool
     ensures { λ r. ⌜ (0 < clock → r ≡ eqb word (halvesUp (n * 2 ^ 32) clock)) ⌝ }
 {
     let clock = clock as u64;
-    std::num::wrapping_sub_u64(n * 0x1_0000_0000 + clock / 2, clock * word as u64) < clock
+    let dividend = n * 0x1_0000_0000 + clock / 2;
+    let least = clock * word as u64;
+    (least <= dividend) & (dividend < least + clock)
 }
 
 // A guess at it by three products; nothing rests on it. In the place of 2^64 / clock a curve of the second degree is taken,
@@ -92,7 +97,7 @@ pub fn word_kept(hz: u64, clock: u32) -> u32
 pub fn agree(hz: u64, clock: u32, word: u32) -> bool
     ensures { λ r. ⌜ r ≡ hasWord hz clock && eqb word (wordOf hz clock) ⌝ }
 {
-    has_word(hz, clock) & is_nearest(offset_of(hz), clock, word)
+    in_bands(hz) & is_clock(clock) & is_nearest(offset_of(hz), clock, word)
 }
 
 // A frequency of a band and a clock that may be set.

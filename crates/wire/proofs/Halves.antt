@@ -1,6 +1,6 @@
 -- A quotient rounded to the nearest whole number, halves up.
 -- Assumes nothing.
-use Prim.Native.Nat.{ℕ, suc, _+_, _*_, _/_, _%_, _≤_, _<_}
+use Prim.Native.Nat.{ℕ, suc, _+_, _*_, _/_, _≤_, _<_}
 use mathlib.Core.Path.{_≡_, refl, sym, ap, _∙_}
 use mathlib.Core.Bool.{Bool, true, false, _&&_}
 use native.Mathlib.Nat.{div-mul-le-self, lt-mul-div-succ, le-div-iff-mul-le, div-lt-iff-lt-mul}
@@ -8,7 +8,7 @@ use native.Mathlib.Nat.{mul-comm, mul-assoc, mul-add, mul-suc, mul-le-mul-left}
 use native.Mathlib.Omega.{arith}
 use native.Mathlib.Decide.{decLt}
 use lib.Dec.{leb, ltb, eqb}
-use borrow.Author.Tests.{leb-true, leb-false, ltb-true, ltb-false, le-leb, lt-ltb, le-ltb, eq-eqb, ne-eqb}
+use borrow.Author.Tests.{leb-true, leb-false, ltb-true, ltb-false, eq-eqb, ne-eqb}
 use Rattle.wire.specs.Halves.{halvesUp, apart, NearestUp}
 
 -- A multiple of c that lies at most half of c above x, and less than half of c below, is the nearest of them.
@@ -84,16 +84,3 @@ half-more x c some =
     let high : x + c / 2 < c * w + c = omega (arith, mul-add c w 1, lt-mul-div-succ (x + c / 2) some) in
     let twice : 2 * c * w ≡ 2 * (c * w) = mul-assoc 2 c w in
     quotient-is (2 * x + c) (2 * c) w (omega arith) (omega (arith, twice, low)) (omega (arith, twice, high))
-
--- a difference of 64 bits that wraps around is small exactly where it does not wrap around and is small
-pub small-difference : (x y c r : ℕ) → r < 18446744073709551616 → x < 18446744073709551616 → y + c ≤ 18446744073709551616
-    → (r + y) % 18446744073709551616 ≡ x → ltb r c ≡ (leb y x && ltb x (y + c))
-small-difference x y c r fits below room wraps =
-    elim (decLt r c) [
-      | yes less ↦ rw (lt-ltb r c less, le-leb y x (omega arith), lt-ltb x (y + c) (omega arith))
-      | no less ↦ rw (le-ltb r c (omega arith)) (sym (go (omega arith) (leb y x) refl))
-    ]
-  where
-    go : c ≤ r → (b : Bool) → leb y x ≡ b → (b && ltb x (y + c)) ≡ false
-    go far true at-least = le-ltb x (y + c) (omega (arith, leb-true y x at-least))
-    go far false more = refl
