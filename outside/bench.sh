@@ -3,7 +3,7 @@
 #
 #     outside/bench.sh [--quick]
 #
-# It makes a capture of 1 GB in a temporary folder (100 MB with --quick), and removes it.
+# It makes two captures of 1 GB, one after the other, in a temporary folder (100 MB with --quick), and removes them.
 set -eu
 cd "$(dirname "$0")"
 export CARGO_TARGET_DIR="$PWD/target"

@@ -1,5 +1,5 @@
 #!/bin/sh
-# fails.sh: what span and session do where a read or a write fails: one line on standard error, which says why, and nothing
+# fails.sh: what span, session, newer and older do where a read or a write fails: one line on standard error, which says why, and nothing
 # on standard output after it. The gate runs programs on files that can be read, and cannot show it.
 #
 #     outside/fails.sh
@@ -18,8 +18,8 @@ is() { # WHAT SAID-EXPECTED WRITTEN-EXPECTED
         wrong=1
     fi
 }
-for program in span session; do
-    case $program in span) what='a line' ;; *) what='a reply' ;; esac
+for program in span session newer older; do
+    case $program in span) what='a line' ;; session) what='a reply' ;; *) what='the output' ;; esac
     start=$(./run --command "$program")
     input=crates/$program/stdin
     run() { $start 2>"$room/said"; } # $start is a command in several words

@@ -1,5 +1,5 @@
 #!/usr/bin/env python3
-"""The cases of span_cases, and what it must print of them, from document 01 and request No. 1 of 02 alone:
+"""The cases of span_cases, and what it must print of them, from document 01 and requests Nos. 1 and 9 of 02 alone:
 
     python3 expected.py stdin > stdin; python3 expected.py stdout > stdout
 
@@ -26,18 +26,35 @@ def head(d=100, hz=10_000_000, mode=0x80, size=1, mark=b"SPN", version=1):
     return mark + little(version, 2) + little(d, 2) + little(hz, 5) + bytes([mode, size])
 
 
+def newer(serial=b"MT123456", clock=79_992_000, **values):
+    return head(version=2, **values) + serial + little(clock, 4)
+
+
 def packet(form, number):
     start = form[0] + little(number, 2)
     return start + bytes(form[1] - len(start))
 
 
+def number(data, at, width):
+    return int.from_bytes(data[at : at + width], "little")
+
+
+def named(serial, clock):
+    """Serial and clock of a head of version 2 are allowed."""
+    known = len(serial) == 8 and all(chr(b) in "ABCDEFGHIJKLMNOPQRSTUVWXYZ0123456789" for b in serial)
+    return (known or serial == bytes(8)) and 79_992_000 <= clock <= 80_008_000
+
+
 def head_code(data):
     if len(data) < 14 or data[:3] != b"SPN":
         return 40
-    if int.from_bytes(data[3:5], "little") != 1:
+    version = number(data, 3, 2)
+    if version not in (1, 2):
         return 41
-    d = int.from_bytes(data[5:7], "little")
-    hz = int.from_bytes(data[7:12], "little")
+    if version == 2 and (len(data) < 26 or not named(data[14:22], number(data, 22, 4))):
+        return 40
+    d = number(data, 5, 2)
+    hz = number(data, 7, 5)
     band = 100_000 <= hz <= 34_000_000 or 140_000_000 <= hz <= 150_000_000
     if not 10 <= d <= 625 or not band or (data[12], data[13]) not in OF_HEAD:
         return 40
@@ -50,20 +67,22 @@ def report(data):
     if code:
         yield f"R {code} 0"
         return
-    d = int.from_bytes(data[5:7], "little")
+    d = number(data, 5, 2)
     form = OF_HEAD[data[12], data[13]]
-    captures, positions, number, at = 0, [], 0, 14
+    at, clock = (26, number(data, 22, 4)) if number(data, 3, 2) == 2 else (14, 80_000_000)
+    captures, positions, last = 0, [], 0
 
     def line():
         covered = positions[-1] + 1
         samples = covered * form[3]
         missed = sum(after - before - 1 for before, after in zip(positions, positions[1:]))
-        return f"C {captures} {form[2]} {form[3]} {len(positions)} {covered} {samples} {samples * d // 20} {missed}"
+        time = samples * 4 * d * 1_000_000 // clock
+        return f"C {captures} {form[2]} {form[3]} {len(positions)} {covered} {samples} {time} {missed}"
 
     while at < len(data):
         found = [f for f in FORMS if data[at : at + 2] == f[0] and at + f[1] <= len(data)]
-        t = int.from_bytes(data[at + 2 : at + 4], "little")
-        step = t - number if t > number else t - number + 65535
+        t = number(data, at + 2, 2)
+        step = t - last if t > last else t - last + 65535
         if not found:
             code = 30
         elif found[0] is not form:
@@ -83,7 +102,7 @@ def report(data):
             captures, positions = captures + 1, [0]
         else:
             positions.append(positions[-1] + step)
-        number, at = t, at + form[1]
+        last, at = t, at + form[1]
     if positions:
         yield line()
     yield f"E {captures}"
@@ -91,7 +110,8 @@ def report(data):
 
 def line_of(name, data):
     """The case as the program reads it."""
-    words, at = [data[:14].hex().upper()], 14
+    at = 26 if number(data, 3, 2) == 2 else 14
+    words = [data[:at].hex().upper()]
     while at < len(data):
         total = next((f[1] for f in FORMS if data[at : at + 2] == f[0]), 0)
         short = at + total - len(data)
@@ -130,9 +150,27 @@ CASES = [
     ("a head alone", head()),
     ("wrong mark", head(mark=b"SPM") + small(0)),
     ("wrong mark, too short", b"XYZ"),
-    ("another version", head(version=2) + small(0)),
+    ("another version", head(version=3) + small(0)),
     ("another version, no D", head(version=256, d=0)),
-    ("wrong mark, another version", head(mark=b"NPS", version=2)),
+    ("wrong mark, another version", head(mark=b"NPS", version=3)),
+    ("version 2", newer() + small(0, 1, 4)),
+    ("version 2 of an unknown box", newer(serial=bytes(8), clock=80_000_000) + small(0, 1, 4)),
+    ("the least clock", newer(d=10) + small(0, 46_874)),
+    ("the greatest clock", newer(d=10, clock=80_008_000) + small(0, 46_874)),
+    ("version 2, large", newer(d=625, mode=0, size=0, clock=80_008_000) + packet(LARGE16, 0) + packet(LARGE16, 65_535)),
+    ("version 2 alone", newer()),
+    ("version 2 of 25 bytes", newer()[:25]),
+    ("version 2 of 14 bytes", newer()[:14]),
+    ("version 2 of 13 bytes", newer()[:13]),
+    ("wrong mark, version 2", newer(mark=b"SPM") + small(0)),
+    ("version 2, D = 9", newer(d=9) + small(0)),
+    ("a zero in the serial", newer(serial=b"MT12345\0") + small(0)),
+    ("a small letter in the serial", newer(serial=b"MT12345a") + small(0)),
+    ("clock 79991999", newer(clock=79_991_999) + small(0)),
+    ("clock 80008001", newer(clock=80_008_001) + small(0)),
+    ("version 2, rubbish", newer() + b"\0\0"),
+    ("version 2, rubbish in a capture", newer() + small(0, 1) + b"\xff\xff\xff"),
+    ("version 2, another form", newer() + small(0) + packet(SMALL16, 1)),
     ("D = 9", head(d=9) + small(0)),
     ("D = 626", head(d=626)),
     ("34000001 Hz", head(hz=34_000_001)),

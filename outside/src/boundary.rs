@@ -2,10 +2,11 @@
 //!
 //! A box, a reader and a wish cross it as plain bytes or numbers, so that every state can be handed over, sound or broken.
 
+use crate::code::Code;
 use crate::reader::Place;
 use crate::station::{Channel, Settings};
 use crate::wish::StateWish;
-use crate::{reader, reply, span, station, Form, Head, Reader, Reply, Station, Wish};
+use crate::{head, reader, reply, span, station, Form, Head, Reader, Reply, Station, Wish};
 
 /// A box in bytes: its channel (frequency 8, word 4, gain 1), count 8, clock 4, D 4, running 1, mode 1, size 1, serial 8, held
 /// 64, taken 8.
@@ -45,9 +46,13 @@ pub trait Library {
     /// Code, and what the bytes say.
     fn read_reply(&self, fields: WishFields, bytes: &[u8]) -> (u8, Said);
     /// Code.
-    fn write_head(&self, divisor: u32, frequency: u64, mode: u8, size: u8, buffer: &mut [u8]) -> u8;
+    fn write_head(&self, head: Head, buffer: &mut [u8]) -> u8;
     /// Code, and the head, zeros where there is none.
     fn read_head(&self, bytes: &[u8]) -> (u8, Head);
+    /// Code; the head in version 2 in `buffer`.
+    fn newer(&self, bytes: &[u8], buffer: &mut [u8]) -> u8;
+    /// Code; the head in version 1 in `buffer`.
+    fn older(&self, bytes: &[u8], buffer: &mut [u8]) -> u8;
     /// Bytes of reply written.
     fn serve(&self, host: &[u8], replies: &mut [u8]) -> usize;
     /// The position of the first sample of the last packet heard, and how many were missed in its capture up to it.
@@ -236,6 +241,11 @@ pub struct Plain;
 const BROKEN: u8 = 21;
 const BAD_VALUE: u8 = 16;
 
+/// The code alone, where the head's version tells how many bytes are written.
+fn done(written: Result<usize, Code>) -> u8 {
+    written.map_or_else(|code| code as u8, |_| 1)
+}
+
 impl Library for Plain {
     #[inline(never)]
     fn fresh(&self, serial: &[u8], state: &mut [u8]) -> u8 {
@@ -332,19 +342,26 @@ impl Library for Plain {
     }
 
     #[inline(never)]
-    fn write_head(&self, divisor: u32, frequency: u64, mode: u8, size: u8, buffer: &mut [u8]) -> u8 {
-        match (Head { divisor, frequency, mode, size }).write(buffer) {
-            Ok(_) => 1,
-            Err(code) => code as u8,
-        }
+    fn write_head(&self, head: Head, buffer: &mut [u8]) -> u8 {
+        done(head.write(buffer))
     }
 
     #[inline(never)]
     fn read_head(&self, bytes: &[u8]) -> (u8, Head) {
         match Head::read(bytes) {
             Ok(head) => (1, head),
-            Err(code) => (code as u8, Head { divisor: 0, frequency: 0, mode: 0, size: 0 }),
+            Err(code) => (code as u8, Head::default()),
         }
+    }
+
+    #[inline(never)]
+    fn newer(&self, bytes: &[u8], buffer: &mut [u8]) -> u8 {
+        done(head::newer(bytes, buffer))
+    }
+
+    #[inline(never)]
+    fn older(&self, bytes: &[u8], buffer: &mut [u8]) -> u8 {
+        done(head::older(bytes, buffer))
     }
 
     fn serve(&self, host: &[u8], replies: &mut [u8]) -> usize {

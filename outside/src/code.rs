@@ -1,4 +1,4 @@
-//! What comes back: the codes of document 01 in its table's order. Their names, and nothing else here, are taken from the
+//! What comes back: the codes of document 01 in its table's order, then those of document 02. Their names, and nothing else here, are taken from the
 //! proved crates, so that a difference can be told in one set of words.
 
 #[derive(Clone, Copy, Debug, PartialEq, Eq)]
@@ -29,4 +29,5 @@ pub enum Code {
     PastLast = 33,
     NotAHead = 40,
     OtherVersion = 41,
+    WouldLose = 42,
 }

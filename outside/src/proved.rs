@@ -63,21 +63,29 @@ mod door {
             wrote: *mut usize,
         ) -> u8;
         pub fn skvornela_head_write(
+            version: u32,
             divisor: u32,
             frequency: u64,
             mode: u8,
             size: u8,
+            serial: u64,
+            clock: u32,
             buffer: *mut u8,
             buffer_len: usize,
         ) -> u8;
         pub fn skvornela_head_read(
             bytes: *const u8,
             bytes_len: usize,
+            version: *mut u32,
             divisor: *mut u32,
             frequency: *mut u64,
             mode: *mut u8,
             size: *mut u8,
+            serial: *mut u64,
+            clock: *mut u32,
         ) -> u8;
+        pub fn skvornela_head_newer(bytes: *const u8, bytes_len: usize, buffer: *mut u8, buffer_len: usize) -> u8;
+        pub fn skvornela_head_older(bytes: *const u8, bytes_len: usize, buffer: *mut u8, buffer_len: usize) -> u8;
         pub fn skvornela_reply(
             which: u8,
             byte: u8,
@@ -226,23 +234,49 @@ impl Library for Proved {
         (code, said)
     }
 
-    fn write_head(&self, divisor: u32, frequency: u64, mode: u8, size: u8, buffer: &mut [u8]) -> u8 {
-        unsafe { door::skvornela_head_write(divisor, frequency, mode, size, buffer.as_mut_ptr(), buffer.len()) }
+    /// The serial crosses as the number of its eight bytes, the least significant first.
+    fn write_head(&self, head: Head, buffer: &mut [u8]) -> u8 {
+        unsafe {
+            door::skvornela_head_write(
+                head.version,
+                head.divisor,
+                head.frequency,
+                head.mode,
+                head.size,
+                u64::from_le_bytes(head.serial),
+                head.clock,
+                buffer.as_mut_ptr(),
+                buffer.len(),
+            )
+        }
     }
 
     fn read_head(&self, bytes: &[u8]) -> (u8, Head) {
-        let mut head = Head { divisor: u32::MAX, frequency: u64::MAX, mode: u8::MAX, size: u8::MAX };
+        let (mut version, mut divisor, mut clock) = (u32::MAX, u32::MAX, u32::MAX);
+        let (mut frequency, mut serial) = (u64::MAX, u64::MAX);
+        let (mut mode, mut size) = (u8::MAX, u8::MAX);
         let code = unsafe {
             door::skvornela_head_read(
                 bytes.as_ptr(),
                 bytes.len(),
-                &mut head.divisor,
-                &mut head.frequency,
-                &mut head.mode,
-                &mut head.size,
+                &mut version,
+                &mut divisor,
+                &mut frequency,
+                &mut mode,
+                &mut size,
+                &mut serial,
+                &mut clock,
             )
         };
-        (code, head)
+        (code, Head { version, divisor, frequency, mode, size, serial: serial.to_le_bytes(), clock })
+    }
+
+    fn newer(&self, bytes: &[u8], buffer: &mut [u8]) -> u8 {
+        unsafe { door::skvornela_head_newer(bytes.as_ptr(), bytes.len(), buffer.as_mut_ptr(), buffer.len()) }
+    }
+
+    fn older(&self, bytes: &[u8], buffer: &mut [u8]) -> u8 {
+        unsafe { door::skvornela_head_older(bytes.as_ptr(), bytes.len(), buffer.as_mut_ptr(), buffer.len()) }
     }
 
     fn serve(&self, host: &[u8], replies: &mut [u8]) -> usize {

@@ -3,7 +3,7 @@
 use std::fmt::Write;
 
 use crate::code::Code;
-use crate::head::{self, Head};
+use crate::head::Head;
 use crate::packet::Form;
 use crate::reader::{Place, Reader};
 
@@ -25,7 +25,7 @@ pub fn text(input: &[u8]) -> String {
     let mut captures = 0;
     let mut open: Option<Capture> = None;
     let mut reader = Reader::default();
-    let mut rest = &input[head::LENGTH..];
+    let mut rest = &input[head.length()..];
     while !rest.is_empty() {
         match next_packet(&head, &mut reader, rest) {
             Ok(place) if place.position == 0 => {
@@ -78,9 +78,15 @@ fn line(out: &mut String, head: &Head, number: u64, capture: &Capture) {
         form.bits,
         form.pairs,
         capture.packets,
-        samples * u64::from(head.divisor) / 20,
+        end_time(head, samples),
         capture.last.total,
     );
+}
+
+/// The end of so many samples in microseconds, rounded down: a sample lasts 4 D ticks of the head's clock.
+pub fn end_time(head: &Head, samples: u64) -> u64 {
+    // of a long capture the product has more than 64 bits, the quotient never
+    (u128::from(samples) * 4 * u128::from(head.divisor) * 1_000_000 / u128::from(head.clock)) as u64
 }
 
 fn refuse(out: &mut String, code: Code, offset: usize) {

@@ -3,7 +3,7 @@
 use outside::packet::{number_at, sample_bytes, samples_fit, to_sixteen};
 use outside::reader::{read_run, unpack, Place};
 use outside::wish::StateWish;
-use outside::{reply, span, Code, Form, Head, Reader, Reply, Station, Wish};
+use outside::{head, reply, span, Code, Form, Head, Reader, Reply, Station, Wish};
 
 fn hex(text: &str) -> Vec<u8> {
     text.split_whitespace().map(|byte| u8::from_str_radix(byte, 16).expect("two hexadecimal digits")).collect()
@@ -445,19 +445,44 @@ fn wishes_reach_the_box_and_its_reply_is_read() {
     assert_eq!(reply::read(Wish::Version(4), &[2, 0]), Err(Code::ValueNotAllowed));
 }
 
-fn capture(numbers: &[u16]) -> Vec<u8> {
-    let head = Head { divisor: 100, frequency: 10_000_000, mode: 0x80, size: 1 };
-    let mut bytes = vec![0; 14];
-    head.write(&mut bytes).unwrap();
+const OLD_HEAD: Head = Head {
+    version: head::VERSION_1,
+    divisor: 100,
+    frequency: 10_000_000,
+    mode: 0x80,
+    size: 1,
+    serial: head::UNKNOWN,
+    clock: 80_000_000,
+};
+
+/// Of version 2.
+fn named_head(serial: &[u8; 8], clock: u32) -> Head {
+    Head { version: head::VERSION_2, serial: *serial, clock, ..OLD_HEAD }
+}
+
+fn head_bytes(head: &Head) -> Vec<u8> {
+    let mut bytes = vec![0xEE; 30];
+    let length = head.write(&mut bytes).unwrap();
+    assert!(bytes[length..].iter().all(|&b| b == 0xEE));
+    bytes.truncate(length);
+    bytes
+}
+
+fn capture_of(head: &Head, numbers: &[u16]) -> Vec<u8> {
+    let mut bytes = head_bytes(head);
     bytes.extend(numbers.iter().flat_map(|&number| small_24(number)));
     bytes
+}
+
+fn capture(numbers: &[u16]) -> Vec<u8> {
+    capture_of(&OLD_HEAD, numbers)
 }
 
 #[test]
 fn heads() {
     let bytes = capture(&[]);
     assert_eq!(bytes, hex("53 50 4E 01 00 64 00 80 96 98 00 00 80 01"));
-    assert_eq!(Head::read(&bytes).unwrap().divisor, 100);
+    assert_eq!(Head::read(&bytes), Ok(OLD_HEAD));
     assert_eq!(Head::read(&bytes[..13]), Err(Code::NotAHead));
     let with = |at: usize, value: u8| {
         let mut changed = bytes.clone();
@@ -465,9 +490,170 @@ fn heads() {
         Head::read(&changed)
     };
     assert_eq!(with(0, b's'), Err(Code::NotAHead));
-    assert_eq!(with(3, 2), Err(Code::OtherVersion));
+    assert_eq!(with(3, 2), Err(Code::NotAHead));
+    assert_eq!(with(3, 3), Err(Code::OtherVersion));
     assert_eq!(with(12, 1), Err(Code::NotAHead));
     assert_eq!(with(5, 9), Err(Code::NotAHead));
+}
+
+/// What moving makes of a head's bytes, where there is room; where it refuses, nothing is written.
+fn moved(bytes: &[u8], by: fn(&[u8], &mut [u8]) -> Result<usize, Code>) -> Result<Vec<u8>, Code> {
+    let mut buffer = [0xEE; 30];
+    let written = by(bytes, &mut buffer);
+    assert!(buffer[written.unwrap_or(0)..].iter().all(|&b| b == 0xEE));
+    written.map(|length| buffer[..length].to_vec())
+}
+
+/// Document 02, No. 9.
+#[test]
+fn heads_move_between_versions() {
+    let old = hex("53 50 4E 01 00 64 00 90 C6 D5 00 00 80 01");
+    let new = hex("53 50 4E 02 00 64 00 90 C6 D5 00 00 80 01 00 00 00 00 00 00 00 00 00 B4 C4 04");
+    assert_eq!(moved(&old, head::newer), Ok(new.clone()));
+    assert_eq!(moved(&new, head::older), Ok(old.clone()));
+    // a head that is there already
+    assert_eq!(moved(&old, head::older), Ok(old.clone()));
+    assert_eq!(moved(&new, head::newer), Ok(new.clone()));
+    // what stands behind the head is not looked at
+    for (bytes, length) in [(&old, 14), (&new, 26)] {
+        let longer = [&bytes[..], &[0xFF; 400]].concat();
+        assert_eq!(Head::read(&longer), Head::read(bytes));
+        assert_eq!(Head::read(bytes).unwrap().length(), length);
+        assert_eq!(moved(&longer, head::newer), Ok(new.clone()));
+        assert_eq!(moved(&longer, head::older), Ok(old.clone()));
+    }
+    let named = hex("53 50 4E 02 00 64 00 90 C6 D5 00 00 80 01 4D 54 31 32 33 34 35 36 F6 B3 C4 04");
+    let read = Head { frequency: 14_010_000, ..named_head(b"MT123456", 79_999_990) };
+    assert_eq!((Head::read(&named), head_bytes(&read)), (Ok(read), named.clone()));
+    assert_eq!(moved(&named, head::newer), Ok(named.clone()));
+    assert_eq!(moved(&named, head::older), Err(Code::WouldLose));
+}
+
+#[test]
+fn going_back_would_lose() {
+    for (serial, clock) in [(b"MT123456", 79_999_990), (&head::UNKNOWN, 80_000_001), (b"MT123456", 80_000_000)] {
+        let bytes = head_bytes(&named_head(serial, clock));
+        assert_eq!(moved(&bytes, head::older), Err(Code::WouldLose));
+        // before the room
+        assert_eq!(head::older(&bytes, &mut []), Err(Code::WouldLose));
+    }
+    let old = head_bytes(&OLD_HEAD);
+    let new = head_bytes(&named_head(&head::UNKNOWN, 80_000_000));
+    for bytes in [&old, &new] {
+        assert_eq!(head::newer(bytes, &mut [0; 25]), Err(Code::NoRoom));
+        assert_eq!(head::newer(bytes, &mut [0; 26]), Ok(26));
+        assert_eq!(head::older(bytes, &mut [0; 13]), Err(Code::NoRoom));
+        assert_eq!(head::older(bytes, &mut [0; 14]), Ok(14));
+    }
+}
+
+#[test]
+fn heads_of_version_2_refused() {
+    let bytes = head_bytes(&named_head(b"MT123456", 79_999_990));
+    for length in 0..26 {
+        assert_eq!(Head::read(&bytes[..length]), Err(Code::NotAHead), "{length} bytes");
+    }
+    let with = |at: usize, field: &[u8]| {
+        let mut changed = bytes.clone();
+        changed[at..at + field.len()].copy_from_slice(field);
+        let answer = Head::read(&changed);
+        for by in [head::newer, head::older] {
+            assert_eq!(moved(&changed, by).err(), answer.err());
+        }
+        answer
+    };
+    for version in [0u16, 3, 256, 513, 65_535] {
+        assert_eq!(with(3, &version.to_le_bytes()), Err(Code::OtherVersion));
+        let mut short = bytes[..14].to_vec();
+        short[3..5].copy_from_slice(&version.to_le_bytes());
+        assert_eq!(Head::read(&short), Err(Code::OtherVersion));
+        assert_eq!(Head::read(&short[..13]), Err(Code::NotAHead));
+    }
+    for serial in [b"MT12345\0", b"\0T123456", b"MT12345/", b"MT12345:", b"MT12345@", b"MT12345[", b"MT12345a"] {
+        assert_eq!(with(14, serial), Err(Code::NotAHead));
+    }
+    for clock in [0u32, 79_991_999, 80_008_001, u32::MAX] {
+        assert_eq!(with(22, &clock.to_le_bytes()), Err(Code::NotAHead));
+    }
+    assert_eq!(with(5, &[9]), Err(Code::NotAHead));
+    assert_eq!(with(0, b"SPM"), Err(Code::NotAHead));
+}
+
+#[test]
+fn heads_that_are_not_written() {
+    let named = named_head(b"AZ09AZ09", 79_992_000);
+    for head in [OLD_HEAD, named, named_head(&head::UNKNOWN, 80_008_000)] {
+        let length = head.length();
+        assert_eq!(Head::read(&head_bytes(&head)), Ok(head));
+        assert_eq!(head.write(&mut vec![0; length - 1]), Err(Code::NoRoom));
+        assert_eq!(head.write(&mut vec![0; length]), Ok(length));
+    }
+    let bad = [
+        Head { version: 0, ..OLD_HEAD },
+        Head { version: 3, ..named },
+        Head { version: 65_536 + 2, ..named },
+        Head { serial: *b"MT123456", ..OLD_HEAD },
+        Head { clock: 80_000_001, ..OLD_HEAD },
+        Head { serial: *b"MT12345\0", ..named },
+        Head { serial: *b"mt123456", ..named },
+        Head { clock: 79_991_999, ..named },
+        Head { clock: 80_008_001, ..named },
+        Head { divisor: 9, ..named },
+        Head { divisor: 65_536 + 100, ..OLD_HEAD },
+    ];
+    for head in bad {
+        let mut buffer = [0xEE; 30];
+        assert_eq!(head.write(&mut buffer), Err(Code::ValueNotAllowed), "{head:?}");
+        assert_eq!(buffer, [0xEE; 30]);
+        // before the room
+        assert_eq!(head.write(&mut []), Err(Code::ValueNotAllowed), "{head:?}");
+    }
+}
+
+#[test]
+fn end_times() {
+    let time =
+        |samples, divisor, clock| span::end_time(&Head { divisor, ..named_head(&head::UNKNOWN, clock) }, samples);
+    for (samples, divisor, clock, microseconds) in [
+        (320, 100, 80_000_000, 1600),
+        (320, 100, 79_992_000, 1600),
+        (3_000_000, 10, 79_992_000, 1_500_150),
+        (3_000_000, 10, 80_008_000, 1_499_850),
+        (2_000, 10, 80_008_000, 999),
+        (2_000, 10, 80_000_000, 1000),
+        // the longest capture: multiplied out it has 72 bits
+        (1_024_000_000_000, 625, 79_992_000, 32_003_200_320_032),
+        (1_024_000_000_000, 625, 80_000_000, 32_000_000_000_000),
+        (1_024_000_000_000, 625, 80_008_000, 31_996_800_319_968),
+    ] {
+        assert_eq!(time(samples, divisor, clock), microseconds, "{samples} samples, D {divisor}, clock {clock}");
+    }
+    // at the usual clock samples x D / 20, as document 01 has it
+    for divisor in 10..=625 {
+        for samples in [0, 1, 63, 64, 65, 319, 4_194_303, 1_023_999_999_999, 1_024_000_000_000] {
+            assert_eq!(time(samples, divisor, 80_000_000), samples * u64::from(divisor) / 20);
+        }
+    }
+}
+
+#[test]
+fn span_lines_of_version_2() {
+    let head = named_head(b"MT123456", 79_992_000);
+    assert_eq!(span::text(&capture_of(&head, &[0, 1, 4])), "SPAN 1\nC 1 24 64 3 5 320 1600 2\nE 1\n");
+    let bytes = capture_of(&head, &[]);
+    assert_eq!(span::text(&bytes), "SPAN 1\nE 0\n");
+    for length in 14..26 {
+        assert_eq!(span::text(&bytes[..length]), "SPAN 1\nR 40 0\n");
+    }
+    assert_eq!(span::text(&[&bytes[..], &[0x00, 0x00]].concat()), "SPAN 1\nR 30 26\n");
+    assert_eq!(span::text(&capture_of(&head, &[1])), "SPAN 1\nR 31 26\n");
+    let cut_off = &capture_of(&head, &[0, 1])[..26 + 388 + 387];
+    assert_eq!(span::text(cut_off), "SPAN 1\nC 1 24 64 1 1 64 320 0\nR 30 414\n");
+    // 65,536 packets of 64 samples: 20,971,520 microseconds at the usual clock
+    for (clock, microseconds) in [(79_992_000, 20_973_617), (80_000_000, 20_971_520), (80_008_000, 20_969_423)] {
+        let text = span::text(&capture_of(&named_head(&head::UNKNOWN, clock), &[0, 65_535]));
+        assert_eq!(text, format!("SPAN 1\nC 1 24 64 2 65536 4194304 {microseconds} 65534\nE 1\n"));
+    }
 }
 
 #[test]

@@ -6,13 +6,13 @@ use native.Mathlib.Omega.{arith}
 use mathlib.Core.Path.{_≡_, refl, sym, ap, subst, _∙_}
 use mathlib.Core.Bool.{Bool, true, false, _&&_, not}
 use mathlib.Core.List.{List, [], _∷_, _++_}
-use mathlib.Core.Logic.{_⊎_, inl, inr, _↔_}
+use mathlib.Core.Logic.{inl, inr, _↔_, Iff·trans}
 use borrow.Author.Tests.{eqb-true, eqb-false, ltb-true, ltb-false, ne-eqb, not-true}
 use lib.Dec.{eqb, ltb}
 use lib.ListN.{length, replicate}
 use Rattle.wire.specs.Choice.{pick, Check, firstOf, Absent}
 use Rattle.wire.specs.Number.{number, field}
-use Rattle.wire.proofs.Checks.{differ, given-exactly, not-given}
+use Rattle.wire.proofs.Checks.{differ, given-exactly, not-given, Each, given-has, first-stops, first-goes-on}
 use Rattle.wire.proofs.Laws.{and-left, and-right, and-both, true-not-false}
 use Rattle.items.specs.Answer.{Message, checks, codeOf}
 use Rattle.items.specs.declared.Settings.{Settings}
@@ -26,13 +26,14 @@ use Rattle.station.proofs.Valid.{comes-below, feeding-by, feeding-waiting, feed
 use Rattle.station.specs.Feeding.{Feeding, refused, comesTo, feedChecks, feedCode, feedingOf}
 use Rattle.cutting.specs.Cutting.{cutCode}
 use Rattle.reader.specs.Reading.{readingCode, unpackCode}
-use Rattle.heads.specs.Head.{mark, version, headLength, allowedHead, headIn}
-use Rattle.heads.specs.Head.{headWriteCode}
+use Rattle.heads.specs.Head.{mark, isVersion, versionIn, headLengthIn, allowedHead, headIn}
+use Rattle.heads.specs.Head.{headWriteCode, headReadChecks, headReadCode}
+use Rattle.heads.specs.Moving.{movedChecks, movingCode}
 use Rattle.heads.proofs.Codes.{code-by}
 use Rattle.wishes.specs.Writing.{wishCode}
 use Rattle.replies.specs.Reading.{replyCode}
 use Rattle.demands.specs.Shown.{finishedBy}
-use Rattle.demands.specs.Given.{EachExactly, HeadExactly, Answers, GivenExactly}
+use Rattle.demands.specs.Given.{EachExactly, EachWhere, IsNoHead, IsOtherVersion, HeadExactly, Answers, GivenExactly}
 
 -- no two checks of the list have one code
 abbrev distinct : List Check → Bool
@@ -71,6 +72,38 @@ each cs n d other before c after e =
   where
     parts : (differ (c .code) before ≡ true) × (differ (c .code) after ≡ true)
     parts = apart-in before c after (subst (λ (l : List Check). distinct l ≡ true) e d)
+
+-- ---- two lists, one behind the other
+
+-- a code that no later check has is given as by the earlier ones
+earlier : (ds cs : List Check) (n m : ℕ) → differ m cs ≡ true → (n ≡ m → ⊥) → (firstOf (ds ++ cs) n ≡ m) ↔ (firstOf ds n ≡ m)
+earlier [] cs n m d other = (λ e. absurd (not-given cs n m d other e), λ e. absurd (other e))
+earlier (c ∷ ds) cs n m d other = go (c .holds) (earlier ds cs n m d other)
+  where
+    go : (b : Bool) → (firstOf (ds ++ cs) n ≡ m) ↔ (firstOf ds n ≡ m)
+        → (pick b (c .code) (firstOf (ds ++ cs) n) ≡ m) ↔ (pick b (c .code) (firstOf ds n) ≡ m)
+    go true more = (λ e. e, λ e. e)
+    go false more = more
+
+-- the later checks are made where none of the earlier ones holds, if these have other codes
+later : (ds cs : List Check) (n : ℕ) → distinct cs ≡ true → differ n cs ≡ true → differ n ds ≡ true
+    → Each (λ m. differ m cs ≡ true) ds → EachWhere (firstOf ds n ≡ n) cs (firstOf (ds ++ cs) n)
+later ds cs n d other own apart before c after is = (
+  λ e. let made = into (eqb (firstOf ds n) n) refl e in let here = exactly .0 (sym (on made) ∙ e) in (made, here .0, here .1),
+  λ h. on (h .0) ∙ exactly .1 (h .1, h .2),
+)
+  where
+    exactly : (firstOf cs n ≡ c .code) ↔ (Absent before × (c .holds ≡ true))
+    exactly = each cs n d other before c after is
+
+    on : firstOf ds n ≡ n → firstOf (ds ++ cs) n ≡ firstOf cs n
+    on = first-goes-on ds cs n own
+
+    into : (b : Bool) → eqb (firstOf ds n) n ≡ b → firstOf (ds ++ cs) n ≡ c .code → firstOf ds n ≡ n
+    into true q e = eqb-true _ _ q
+    into false q e =
+        absurd (other-code cs (firstOf ds n) before c after is (given-has (λ m. differ m cs ≡ true) ds n apart other)
+        (sym e ∙ first-stops ds cs n (eqb-false _ _ q)))
 
 message-each : (s : Settings) (m : Message) → EachExactly (checks s m) (codeOf s m)
 unfolding codeOf
@@ -144,8 +177,7 @@ module _ (s : Station) (host : List ℕ) (room : ℕ) where
     λ h. own-given (h .0) ∙ h .1,
   )
 
-  answered-each : (before : List Check) (c : Check) (after : List Check) → checks (s .settings) (finishedBy s host) ≡ before ++ c ∷ after
-      → (code ≡ c .code) ↔ (Answers s host room × Absent before × (c .holds ≡ true))
+  answered-each : EachWhere (Answers s host room) (checks (s .settings) (finishedBy s host)) code
   answered-each before c after is = (
     λ e.
         let a = own-asked (c .code) (other 0 refl) (other 20 refl) (other 21 refl) e in
@@ -161,55 +193,69 @@ module _ (s : Station) (host : List ℕ) (room : ℕ) where
       other : (n : ℕ) → differ n (checks (s .settings) (finishedBy s host)) ≡ true → c .code ≡ n → ⊥
       other n d = other-code (checks (s .settings) (finishedBy s host)) n before c after is d
 
-head-each : (s : List ℕ) → HeadExactly s
-head-each s =
-    by (ltb (length s) headLength) (eqb (field 0 3 s) (number mark)) (eqb (field 3 2 s) version) (allowedHead (headIn s)) refl refl refl refl
-  where
-    -- none of the three ways to be no head
-    against : headLength ≤ length s → field 0 3 s ≡ number mark → (field 3 2 s ≡ version → allowedHead (headIn s) ≡ false → ⊥)
-        → (length s < headLength) ⊎ (field 0 3 s ≡ number mark → ⊥) ⊎ ((field 3 2 s ≡ version) × (allowedHead (headIn s) ≡ false)) → ⊥
-    against long marked fine (inl short) = omega arith
-    against long marked fine (inr (inl other)) = other marked
-    against long marked fine (inr (inr bad)) = fine (bad .0) (bad .1)
+-- ---- a head
 
-    by : (short marked one ok : Bool) → ltb (length s) headLength ≡ short → eqb (field 0 3 s) (number mark) ≡ marked
-        → eqb (field 3 2 s) version ≡ one → allowedHead (headIn s) ≡ ok → HeadExactly s
-    by true marked one ok p q r t =
-        let code = code-by s p q r t in
-        let less = ltb-true (length s) headLength p in
-        record {
-          notAHead = (λ e. inl less, λ h. code);
-          otherVersion = (λ e. absurd (omega arith), λ h. absurd (omega (arith, h .0)));
-        }
-    by false false one ok p q r t =
-        let code = code-by s p q r t in
-        let other = eqb-false (field 0 3 s) (number mark) q in
-        record {
-          notAHead = (λ e. inr (inl other), λ h. code);
-          otherVersion = (λ e. absurd (omega arith), λ h. absurd (other (h .1)));
-        }
-    by false true false ok p q r t =
-        let code = code-by s p q r t in
-        let other = eqb-false (field 3 2 s) version r in
-        record {
-          notAHead = (λ e. absurd (omega arith), λ h. absurd (against (ltb-false _ _ p) (eqb-true _ _ q) (λ v a. other v) h));
-          otherVersion = (λ e. (ltb-false _ _ p, eqb-true _ _ q, other), λ h. code);
-        }
-    by false true true false p q r t =
-        let code = code-by s p q r t in
-        record {
-          notAHead = (λ e. inr (inr (eqb-true _ _ r, t)), λ h. code);
-          otherVersion = (λ e. absurd (omega arith), λ h. absurd (h .2 (eqb-true _ _ r)));
-        }
-    by false true true true p q r t =
-        let code = code-by s p q r t in
-        record {
-          notAHead = (
-            λ e. absurd (omega arith),
-            λ h. absurd (against (ltb-false _ _ p) (eqb-true _ _ q) (λ v a. true-not-false (sym t ∙ a)) h),
-          );
-          otherVersion = (λ e. absurd (omega arith), λ h. absurd (h .2 (eqb-true _ _ r)));
-        }
+module _ (s : List ℕ) where
+  -- no bytes are both
+  not-both : IsNoHead s → IsOtherVersion s → ⊥
+  not-both (inl short) h = omega (arith, h .0)
+  not-both (inr (inl other)) h = other (h .1)
+  not-both (inr (inr bad)) h = true-not-false (sym (bad .0) ∙ h .2)
+
+  no-head : {n : ℕ} → IsNoHead s → n ≡ 40 → HeadExactly s n
+  no-head why code =
+      record {
+        notAHead = (λ e. why, λ h. code);
+        otherVersion = (λ e. absurd (omega arith), λ h. absurd (not-both why h));
+      }
+
+  other-version : {n : ℕ} → IsOtherVersion s → n ≡ 41 → HeadExactly s n
+  other-version why code =
+      record {
+        notAHead = (λ e. absurd (omega arith), λ h. absurd (not-both h why));
+        otherVersion = (λ e. why, λ h. code);
+      }
+
+  head-each : HeadExactly s (headReadCode s)
+  head-each =
+      by (ltb (length s) 14) (eqb (field 0 3 s) (number mark)) (isVersion (versionIn s)) (ltb (length s) (headLengthIn s))
+      (allowedHead (headIn s)) refl refl refl refl refl
+    where
+      by : (short marked known cut ok : Bool) → ltb (length s) 14 ≡ short → eqb (field 0 3 s) (number mark) ≡ marked
+          → isVersion (versionIn s) ≡ known → ltb (length s) (headLengthIn s) ≡ cut → allowedHead (headIn s) ≡ ok
+          → HeadExactly s (headReadCode s)
+      by true marked known cut ok p q r t u = no-head (inl (ltb-true _ _ p)) (code-by s p q r t u)
+      by false false known cut ok p q r t u = no-head (inr (inl (eqb-false _ _ q))) (code-by s p q r t u)
+      by false true false cut ok p q r t u = other-version (ltb-false _ _ p, eqb-true _ _ q, r) (code-by s p q r t u)
+      by false true true true ok p q r t u = no-head (inr (inr (r, inl (ltb-true _ _ t)))) (code-by s p q r t u)
+      by false true true false false p q r t u = no-head (inr (inr (r, inr u))) (code-by s p q r t u)
+      by false true true false true p q r t u =
+          let code = code-by s p q r t u in
+          record {
+            notAHead = (λ e. absurd (omega arith), λ h. absurd (none h));
+            otherVersion = (λ e. absurd (omega arith), λ h. absurd (true-not-false (sym r ∙ h .2)));
+          }
+        where
+          none : IsNoHead s → ⊥
+          none (inl less) = omega (arith, ltb-false (length s) 14 p)
+          none (inr (inl other)) = other (eqb-true _ _ q)
+          none (inr (inr (v, inl less))) = omega (arith, ltb-false (length s) (headLengthIn s) t)
+          none (inr (inr (v, inr bad))) = true-not-false (sym u ∙ bad)
+
+  -- what is read as no head does not move
+  moving-each : (v room : ℕ) → HeadExactly s (movingCode v s room)
+  unfolding movingCode headReadCode
+  moving-each v room =
+      let same = earlier (headReadChecks s) (movedChecks v (headIn s) room) 1 in
+      record {
+        notAHead = Iff·trans (same 40 refl (λ e. omega arith)) (head-each .notAHead);
+        otherVersion = Iff·trans (same 41 refl (λ e. omega arith)) (head-each .otherVersion);
+      }
+
+  moved-each : (v room : ℕ) → EachWhere (headReadCode s ≡ 1) (movedChecks v (headIn s) room) (movingCode v s room)
+  unfolding movingCode headReadCode
+  moved-each v room =
+      later (headReadChecks s) (movedChecks v (headIn s) room) 1 refl refl refl (refl, (refl, (refl, (refl, (refl, tt)))))
 
 pub codes-given-exactly : GivenExactly
 unfolding cutCode readingCode unpackCode headWriteCode wishCode replyCode
@@ -227,6 +273,8 @@ codes-given-exactly =
       unpacking = λ packet room. each _ 1 refl refl;
       headWritten = λ h room. each _ 1 refl refl;
       headRead = head-each;
+      headMoving = λ v s room. moving-each s v room;
+      headMoved = λ v s room. moved-each s v room;
       wish = λ w room. each _ 1 refl refl;
       reply = λ w bs. each _ 1 refl refl;
     }

@@ -20,8 +20,9 @@ use Rattle.cutting.specs.Cutting.{cutChecks, cutCode}
 use Rattle.reader.specs.declared.Reader.{Reader}
 use Rattle.reader.specs.Reading.{readingChecks, readingCode, unpackChecks, unpackCode}
 use Rattle.heads.specs.declared.Head.{Head}
-use Rattle.heads.specs.Head.{mark, version, headLength, allowedHead, headIn}
+use Rattle.heads.specs.Head.{mark, isVersion, versionIn, headLength, headLengthIn, allowedHead, headIn}
 use Rattle.heads.specs.Head.{headWriteChecks, headWriteCode, headReadCode}
+use Rattle.heads.specs.Moving.{movedChecks, movingCode}
 use Rattle.wishes.specs.declared.Wish.{Wish}
 use Rattle.wishes.specs.Writing.{wishChecks, wishCode}
 use Rattle.replies.specs.Reading.{replyChecks, replyCode}
@@ -33,15 +34,27 @@ EachExactly cs given =
     (before : List Check) (c : Check) (after : List Check) → cs ≡ before ++ c ∷ after
     → (given ≡ c .code) ↔ (Absent before × (c .holds ≡ true))
 
--- Reading a head, whose list has 40 three times: "Under 14 bytes, wrong mark or a value not allowed is 40 (checked before 41, the
--- version; with another version only mark and length are looked at)."
-pub record HeadExactly (s : List ℕ) : Type 0 where
-  pub notAHead :
-      (headReadCode s ≡ Code.notAHead)
-      ↔ ((length s < headLength) ⊎ (field 0 3 s ≡ number mark → ⊥) ⊎ ((field 3 2 s ≡ version) × (allowedHead (headIn s) ≡ false)))
-  pub otherVersion :
-      (headReadCode s ≡ Code.otherVersion)
-      ↔ ((headLength ≤ length s) × (field 0 3 s ≡ number mark) × (field 3 2 s ≡ version → ⊥))
+-- the same of checks that are made only where a condition holds
+abbrev pub EachWhere : Type 0 → List Check → ℕ → Type 0
+EachWhere Made cs given =
+    (before : List Check) (c : Check) (after : List Check) → cs ≡ before ++ c ∷ after
+    → (given ≡ c .code) ↔ (Made × Absent before × (c .holds ≡ true))
+
+-- Bytes that are no head: "Under 14 bytes, wrong mark or a value not allowed is 40 (.. with another version only mark and length are
+-- looked at)"; 02: "a version 2 head under 26 bytes or with a bad field is 40".
+abbrev pub IsNoHead : List ℕ → Type 0
+IsNoHead s =
+    (length s < headLength 1) ⊎ (field 0 3 s ≡ number mark → ⊥)
+    ⊎ ((isVersion (versionIn s) ≡ true) × ((length s < headLengthIn s) ⊎ (allowedHead (headIn s) ≡ false)))
+
+-- "41 now means a version other than 1 and 2", and 40 is "checked before 41"
+abbrev pub IsOtherVersion : List ℕ → Type 0
+IsOtherVersion s = (headLength 1 ≤ length s) × (field 0 3 s ≡ number mark) × (isVersion (versionIn s) ≡ false)
+
+-- The codes of bytes that are read as a head: their list has 40 four times.
+pub record HeadExactly (s : List ℕ) (given : ℕ) : Type 0 where
+  pub notAHead : (given ≡ Code.notAHead) ↔ IsNoHead s
+  pub otherVersion : (given ≡ Code.otherVersion) ↔ IsOtherVersion s
 
 -- A call that answers a message: the box is not broken, the bytes finish the message, and there is room for what is written.
 pub record Answers (s : Station) (host : List ℕ) (room : ℕ) : Type 0 where
@@ -63,14 +76,17 @@ pub record GivenExactly : Type 0 where
   pub ownExactly : (s : Station) (host : List ℕ) (room code : ℕ) → 1 ≤ code → code < 20
       → (feedingOf s host room .fed .code ≡ code) ↔ (Answers s host room × (codeOf (s .settings) (finishedBy s host) ≡ code))
   -- so each check of the message is the call's, where the call answers it
-  pub answered : (s : Station) (host : List ℕ) (room : ℕ) (before : List Check) (c : Check) (after : List Check)
-      → checks (s .settings) (finishedBy s host) ≡ before ++ c ∷ after
-      → (feedingOf s host room .fed .code ≡ c .code) ↔ (Answers s host room × Absent before × (c .holds ≡ true))
+  pub answered : (s : Station) (host : List ℕ) (room : ℕ)
+      → EachWhere (Answers s host room) (checks (s .settings) (finishedBy s host)) (feedingOf s host room .fed .code)
   pub message : (s : Settings) (m : Message) → EachExactly (checks s m) (codeOf s m)
   pub cutting : (s : Station) (samples : List ℤ) (room : ℕ) → EachExactly (cutChecks s samples room) (cutCode s samples room)
   pub reading : (r : Reader) (packet : List ℕ) → EachExactly (readingChecks r packet) (readingCode r packet)
   pub unpacking : (packet : List ℕ) (room : ℕ) → EachExactly (unpackChecks packet room) (unpackCode packet room)
   pub headWritten : (h : Head) (room : ℕ) → EachExactly (headWriteChecks h room) (headWriteCode h room)
-  pub headRead : (s : List ℕ) → HeadExactly s
+  pub headRead : (s : List ℕ) → HeadExactly s (headReadCode s)
+  -- bytes that are to move to a version: 40 and 41 as in reading them, then 42 and 20
+  pub headMoving : (v : ℕ) (s : List ℕ) (room : ℕ) → HeadExactly s (movingCode v s room)
+  pub headMoved : (v : ℕ) (s : List ℕ) (room : ℕ)
+      → EachWhere (headReadCode s ≡ Code.done) (movedChecks v (headIn s) room) (movingCode v s room)
   pub wish : (w : Wish) (room : ℕ) → EachExactly (wishChecks w room) (wishCode w room)
   pub reply : (w : Wish) (bs : List ℕ) → EachExactly (replyChecks w bs) (replyCode w bs)

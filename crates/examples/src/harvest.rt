@@ -6,6 +6,8 @@ use crate::telling::say_code;
 use crate::telling::say_number;
 use crate::telling::tell;
 use heads::Head;
+use heads::Moved;
+use heads::Opened;
 use reader::Reader;
 use replies::Reply;
 use wire::codes;
@@ -181,18 +183,43 @@ pub(crate) fn replies_read() {
     );
 }
 
+// 01: "SPN".
+const MARK: u64 = 0x4E_50_53;
+
+// 02, No. 9: "unknown serial and 80,000,000".
+const CLOCK: u32 = 80_000_000;
+
+// MT123456, its first character in the low byte; and a zero byte in the place of the 3.
+const NAMED: u64 = 0x36_35_34_33_32_31_54_4D;
+
+const HOLED: u64 = 0x36_35_34_00_32_31_54_4D;
+
+fn head_of(version: u32, divisor: u32, serial: u64, clock: u32) -> Head {
+    Head {
+        version,
+        divisor,
+        frequency: 10_000_000,
+        mode: 0x80,
+        size: 0,
+        serial,
+        clock,
+    }
+}
+
+fn bare(version: u32, divisor: u32) -> Head {
+    head_of(version, divisor, 0, CLOCK)
+}
+
+fn naming(version: u32, serial: u64, clock: u32) -> Head {
+    head_of(version, 100, serial, clock)
+}
+
 // Writes a head to so many bytes.
-fn head(words: &[u8], divisor: u32, frequency: u64, mode: u8, size: u8, room: usize) {
-    let mut out = [0u8; 14];
-    if 14 < room {
+fn head(words: &[u8], h: Head, room: usize) {
+    let mut out = [0u8; 26];
+    if 26 < room {
         return;
     }
-    let h = Head {
-        divisor,
-        frequency,
-        mode,
-        size,
-    };
     let part = &mut out[..room];
     let written = heads::write_head(h, part);
     name(words);
@@ -203,11 +230,164 @@ fn head(words: &[u8], divisor: u32, frequency: u64, mode: u8, size: u8, room: us
     }
 }
 
+fn written_by_d() {
+    let mut last = bare(1, 625);
+    last.mode = 0x00;
+    last.size = 1;
+    head(b"D 9", bare(1, 9), 14);
+    head(b"D 10", bare(1, 10), 14);
+    head(b"D 625", last, 14);
+    head(b"D 626", bare(1, 626), 14);
+    head(b"in 13 bytes", bare(1, 100), 13);
+    head(b"16 before 20", bare(1, 9), 13);
+}
+
+fn written_by_version() {
+    head(b"version 0", bare(0, 100), 26);
+    head(b"version 1", bare(1, 100), 26);
+    head(b"version 2", bare(2, 100), 26);
+    head(b"version 3", bare(3, 100), 26);
+    head(b"version 1, a serial", naming(1, NAMED, CLOCK), 26);
+    head(b"version 1, clock 79999999", naming(1, 0, 79_999_999), 26);
+    head(b"version 1, clock 80000001", naming(1, 0, 80_000_001), 26);
+}
+
+fn written_by_name() {
+    head(b"clock 79991999", naming(2, 0, 79_991_999), 26);
+    head(b"clock 79992000", naming(2, 0, 79_992_000), 26);
+    head(b"clock 80008000", naming(2, 0, 80_008_000), 26);
+    head(b"clock 80008001", naming(2, 0, 80_008_001), 26);
+    head(b"MT123456", naming(2, NAMED, CLOCK), 26);
+    head(b"a zero byte", naming(2, HOLED, CLOCK), 26);
+    head(b"version 2 in 25 bytes", naming(2, NAMED, CLOCK), 25);
+    head(b"version 2, 16 before 20", naming(2, HOLED, CLOCK), 25);
+}
+
 pub(crate) fn heads_written() {
-    head(b"D 9", 9, 10_000_000, 0x80, 0, 14);
-    head(b"D 10", 10, 10_000_000, 0x80, 0, 14);
-    head(b"D 625", 625, 10_000_000, 0x00, 1, 14);
-    head(b"D 626", 626, 10_000_000, 0x80, 0, 14);
-    head(b"in 13 bytes", 100, 10_000_000, 0x80, 0, 13);
-    head(b"16 before 20", 9, 10_000_000, 0x80, 0, 13);
+    written_by_d();
+    written_by_version();
+    written_by_name();
+}
+
+// A head's values where version 2 has them.
+fn head_bytes(h: Head) -> [u8; 26] {
+    let mut out = [0u8; 26];
+    wire::put(&mut out, 0, 3, MARK);
+    wire::put(&mut out, 3, 2, h.version as u64);
+    wire::put(&mut out, 5, 2, h.divisor as u64);
+    wire::put(&mut out, 7, 5, h.frequency);
+    wire::put(&mut out, 12, 1, h.mode as u64);
+    wire::put(&mut out, 13, 1, h.size as u64);
+    wire::put(&mut out, 14, 8, h.serial);
+    wire::put(&mut out, 22, 4, h.clock as u64);
+    out
+}
+
+fn tell_head(h: Head) {
+    say_code(codes::DONE);
+    say_number(h.version as u64);
+    say_number(h.divisor as u64);
+    say_number(h.frequency);
+    say_number(h.mode as u64);
+    say_number(h.size as u64);
+    say_number(h.serial);
+    say_number(h.clock as u64);
+    say(b"\n");
+}
+
+// Reads the first n bytes of a head, and tells its values.
+fn open(words: &[u8], h: Head, n: usize) {
+    let bytes = head_bytes(h);
+    name(words);
+    match heads::read_head(first(&bytes, n)) {
+        Opened::Head(read) => tell_head(read),
+        Opened::NotAHead => tell(codes::NOT_A_HEAD, b""),
+        Opened::OtherVersion => tell(codes::OTHER_VERSION, b""),
+    }
+}
+
+fn read_by_version() {
+    open(b"13 bytes", bare(1, 100), 13);
+    open(b"14 bytes", bare(1, 100), 14);
+    open(b"more behind", naming(1, NAMED, 79_992_000), 26);
+    open(b"version 0", bare(0, 100), 14);
+    open(b"version 3", bare(3, 100), 14);
+    open(b"version 3, D 9", bare(3, 9), 14);
+    open(b"version 3, 13 bytes", bare(3, 100), 13);
+}
+
+fn read_of_version_2() {
+    open(b"version 2, 14 bytes", bare(2, 100), 14);
+    open(b"version 2, 25 bytes", bare(2, 100), 25);
+    open(b"version 2, 26 bytes", bare(2, 100), 26);
+    open(b"version 2, MT123456", naming(2, NAMED, 79_999_990), 26);
+    open(b"version 2, D 9", bare(2, 9), 26);
+    open(b"version 2, clock 79991999", naming(2, 0, 79_991_999), 26);
+    open(b"version 2, clock 80008001", naming(2, 0, 80_008_001), 26);
+    open(b"version 2, a zero byte", naming(2, HOLED, CLOCK), 26);
+}
+
+pub(crate) fn heads_read() {
+    read_by_version();
+    read_of_version_2();
+}
+
+fn tell_moved(m: Moved, bytes: &[u8]) {
+    match m {
+        Moved::Whole => tell(codes::DONE, bytes),
+        Moved::NotAHead => tell(codes::NOT_A_HEAD, b""),
+        Moved::OtherVersion => tell(codes::OTHER_VERSION, b""),
+        Moved::WouldLose => tell(codes::WOULD_LOSE, b""),
+        Moved::NoRoom => tell(codes::NO_ROOM, b""),
+    }
+}
+
+fn moved(back: bool, bytes: &[u8], out: &mut [u8]) -> Moved {
+    if back {
+        return heads::older(bytes, out);
+    }
+    heads::newer(bytes, out)
+}
+
+// Moves a head back to version 1, or on to version 2, in so many bytes.
+fn shift(words: &[u8], back: bool, h: Head, room: usize) {
+    let mut out = [0u8; 26];
+    if 26 < room {
+        return;
+    }
+    let part = &mut out[..room];
+    let m = moved(back, &head_bytes(h), part);
+    name(words);
+    tell_moved(m, part);
+}
+
+fn moved_on() {
+    shift(b"on, 25 bytes", false, bare(1, 100), 25);
+    shift(b"on, 26 bytes", false, bare(1, 100), 26);
+    shift(b"on, more behind", false, naming(1, NAMED, 79_992_000), 26);
+    shift(b"on, version 2", false, naming(2, NAMED, 79_999_990), 26);
+    shift(b"40 before 20", false, bare(1, 9), 25);
+    shift(b"41 before 20", false, bare(3, 100), 25);
+}
+
+fn moved_back() {
+    shift(b"back, 13 bytes", true, bare(2, 100), 13);
+    shift(b"back, 14 bytes", true, bare(2, 100), 14);
+    shift(b"back, version 1", true, bare(1, 100), 14);
+    shift(b"back, more behind", true, naming(1, NAMED, 79_992_000), 14);
+}
+
+fn not_moved_back() {
+    shift(b"back, MT123456", true, naming(2, NAMED, CLOCK), 14);
+    shift(b"back, clock 79999999", true, naming(2, 0, 79_999_999), 14);
+    shift(b"back, clock 80000001", true, naming(2, 0, 80_000_001), 14);
+    shift(b"42 before 20", true, naming(2, NAMED, CLOCK), 13);
+    shift(b"40 before 42", true, head_of(2, 9, NAMED, CLOCK), 13);
+    shift(b"41 before 20", true, bare(3, 100), 13);
+}
+
+pub(crate) fn heads_moved() {
+    moved_on();
+    moved_back();
+    not_moved_back();
 }

@@ -29,6 +29,10 @@ fn main() {
     harvest::replies_read();
     telling::say(b"\n# Heads written\n");
     harvest::heads_written();
+    telling::say(b"\n# Heads read: code, version, D, frequency, mode, size, serial, clock\n");
+    harvest::heads_read();
+    telling::say(b"\n# Heads moved to version 2, and back to version 1\n");
+    harvest::heads_moved();
     telling::say(b"\n# Packets of 16 bits: code, and the packet's first ten bytes\n");
     boxes::sixteen_bits();
     telling::say(b"\n# The tuning word: code, the word kept; what asking for it answers\n");

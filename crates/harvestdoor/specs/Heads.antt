@@ -9,12 +9,21 @@ pub record Found : Type 0 where
   pub code : ℕ
   pub head : Head
 
--- the head of four values
-abbrev pub headWith : ℕ → ℕ → ℕ → ℕ → Head
-headWith divisor frequency mode size = record { divisor = divisor; frequency = frequency; mode = mode; size = size }
+-- the head of seven values
+abbrev pub headWith : ℕ → ℕ → ℕ → ℕ → ℕ → ℕ → ℕ → Head
+headWith version divisor frequency mode size serial clock =
+    record {
+      version = version;
+      divisor = divisor;
+      frequency = frequency;
+      mode = mode;
+      size = size;
+      serial = serial;
+      clock = clock;
+    }
 
 abbrev pub noHead : Head
-noHead = headWith 0 0 0 0
+noHead = headWith 0 0 0 0 0 0 0
 
 abbrev pub firstHead : List Head → Head
 firstHead [] = noHead

@@ -1,3 +1,9 @@
 pub mod Answers
 pub mod Codes
+pub mod Examples
+pub mod Fronts
+pub mod Moves
+pub mod Listed
 pub mod Rounds
+pub mod Values
+pub mod Words

@@ -1,137 +1,121 @@
--- Writing and reading a head undo each other: each allowed head comes back, and 14 bytes that are read as a head are the
--- bytes of that head.
-use Prim.Native.Nat.{ℕ, zero, suc, _+_, _≤_, _<_}
+-- Writing and reading a head undo each other, in either version: each allowed head comes back, and bytes that are read as a head
+-- begin with the bytes of that head.
+use Prim.Native.Nat.{ℕ, _+_, _≤_}
 use mathlib.Core.Path.{_≡_, refl, sym, ap, _∙_}
-use mathlib.Core.Bool.{Bool, true, false, _&&_}
+use mathlib.Core.Bool.{true}
 use mathlib.Core.List.{List, [], _∷_, _++_}
-use native.Mathlib.Decide.{decLt}
 use native.Mathlib.Omega.{arith}
-use lib.Dec.{eqb, ltb}
-use lib.ListN.{length, getD, take, drop, length-drop}
-use lib.Seq.{take-add, drop-drop, length-take-le, getD-drop}
-use borrow.Author.Tests.{le-ltb, ltb-false, eqb-true, eq-eqb, ne-eqb}
+use lib.Dec.{eqb}
+use lib.ListN.{length, take, drop, length-drop}
+use lib.Seq.{take-add, drop-drop, length-take-le}
+use borrow.Author.Tests.{le-ltb, ltb-false, eqb-true, eq-eqb, not-false}
+use Rattle.wire.specs.Choice.{pick}
 use Rattle.wire.specs.Number.{number, bytes, field}
-use Rattle.wire.proofs.Laws.{and-left, and-right, never, within-high}
 use Rattle.wire.specs.Lists.{allBytes}
-use Rattle.wire.proofs.Lists.{byte-at}
-use Rattle.wire.proofs.Numbers.{bytes-number}
-use Rattle.rates.specs.Rate.{isD}
-use Rattle.tuning.specs.Bands.{inBands}
-use Rattle.tuning.proofs.Covered.{bands-high}
-use Rattle.packets.specs.Forms.{formFor, listedForm}
+use Rattle.wire.proofs.Checks.{absent}
+use Rattle.wire.proofs.Lists.{bytes-take, bytes-drop, byte-at}
+use Rattle.wire.proofs.Numbers.{number-bytes, bytes-number}
 use Rattle.heads.specs.declared.Head.{Head}
-use Rattle.heads.proofs.Codes.{code-by, reading-by}
-use Rattle.heads.specs.Head.{mark, version, headLength, formIn, allowedHead, headBytes, headIn, headReadCode, headReadingOf}
-
--- ---- what an allowed head has
-
-module _ (h : Head) (a : allowedHead h ≡ true) where
-  abbrev divisorOk : Bool
-  divisorOk = isD (h .divisor)
-
-  abbrev bandsOk : Bool
-  bandsOk = inBands (h .frequency)
-
-  pub form-listed : listedForm (formIn h) ≡ true
-  form-listed = and-right (divisorOk && bandsOk) (listedForm (formIn h)) a
-
-  numbers-ok : divisorOk && bandsOk ≡ true
-  numbers-ok = and-left (divisorOk && bandsOk) (listedForm (formIn h)) a
-
-  pub divisor-small : h .divisor ≤ 625
-  divisor-small = within-high 10 625 (h .divisor) (and-left divisorOk bandsOk numbers-ok)
-
-  pub frequency-small : h .frequency ≤ 150_000_000
-  frequency-small = bands-high (h .frequency) (and-right divisorOk bandsOk numbers-ok)
-
--- a mode or a size that is no byte has no form
-mode-small : (mode size : ℕ) → listedForm (formFor mode size) ≡ true → mode < 256
-mode-small mode size l = elim (decLt mode 256) [ yes m ↦ m | no m ↦ never (none (omega arith)) ]
-  where
-    none : 256 ≤ mode → false ≡ true
-    none m = rw (ne-eqb 0x80 mode (λ e. omega arith), ne-eqb 0x00 mode (λ e. omega arith)) at l
-
-size-small : (mode size : ℕ) → listedForm (formFor mode size) ≡ true → size < 256
-size-small mode size l =
-    elim (decLt size 256) [ yes m ↦ m | no m ↦ never (none (omega arith) (eqb 0x80 mode) (eqb 0x00 mode) refl refl) ]
-  where
-    none : 256 ≤ size → (deep flat : Bool) → eqb 0x80 mode ≡ deep → eqb 0x00 mode ≡ flat → false ≡ true
-    none m true true p q = rw (ne-eqb 0 size (λ e. omega arith), ne-eqb 1 size (λ e. omega arith), p, q) at l
-    none m true false p q = rw (ne-eqb 0 size (λ e. omega arith), ne-eqb 1 size (λ e. omega arith), p, q) at l
-    none m false true p q = rw (ne-eqb 0 size (λ e. omega arith), ne-eqb 1 size (λ e. omega arith), p, q) at l
-    none m false false p q = rw (p, q) at l
+use Rattle.heads.specs.Head.{mark, isVersion, fieldsOf, fieldBytes, headBytes, headLength, headLengthIn, versionIn, headIn}
+use Rattle.heads.specs.Head.{unknown, nominal, allowedHead, headReadChecks, headReadCode, headReadingOf}
+use Rattle.heads.proofs.Codes.{code-by, reading-by, by-version, least-long, more, bytes-old, bytes-new}
+use Rattle.heads.proofs.Values.{is-version, divisor-small, frequency-small, form-listed, mode-small, size-small}
+use Rattle.heads.proofs.Values.{serial-small, clock-most, old-bare, bare-serial, bare-clock}
 
 -- ---- written and read
 
--- what has a head's length, mark and version, and holds an allowed head, is read as that head
-pub reads : (s : List ℕ) (h : Head) → headLength ≤ length s → field 0 3 s ≡ number mark → field 3 2 s ≡ version → headIn s ≡ h
-    → allowedHead h ≡ true
+-- What has a head's mark and length, and holds an allowed head, is read as that head.
+pub reads : (s : List ℕ) (h : Head) → headLength (h .version) ≤ length s → field 0 3 s ≡ number mark → headIn s ≡ h → allowedHead h ≡ true
     → headReadingOf s ≡ record { code = 1; heads = h ∷ [] }
-reads s h long marked one is a =
-    reading-by s (code-by s (le-ltb _ _ long) (eq-eqb _ _ marked) (eq-eqb _ _ one) (ap allowedHead is ∙ a))
+reads s h long marked is a =
+    let version : versionIn s ≡ h .version = ap (λ (x : Head). x .version) is in
+    let whole : headLengthIn s ≤ length s = omega (arith, long, ap headLength version) in
+    reading-by s
+    (code-by s (le-ltb (length s) 14 (omega (arith, long, least-long (h .version)))) (eq-eqb _ _ marked)
+    (ap isVersion version ∙ is-version h a) (le-ltb (length s) (headLengthIn s) whole) (ap allowedHead is ∙ a))
     ∙ ap (λ (x : Head). record { code = 1; heads = x ∷ [] }) is
 
--- what holds a head's values, holds the head
-holds : (s : List ℕ) (h : Head) → field 5 2 s ≡ h .divisor → field 7 5 s ≡ h .frequency → field 12 1 s ≡ h .mode → field 13 1 s ≡ h .size
-    → headIn s ≡ h
-holds s h divisor frequency mode size = rw (divisor, frequency, mode, size)
+-- bytes are read as a head
+abbrev ReadAs : List ℕ → Head → Type 0
+ReadAs s h = headReadingOf s ≡ record { code = 1; heads = h ∷ [] }
 
-pub read-written : (h : Head) (rest : List ℕ) → allowedHead h ≡ true → headReadingOf (headBytes h ++ rest) ≡ record { code = 1; heads = h ∷ [] }
-unfolding headBytes
-read-written h rest a = reads s h (omega arith) refl refl values a
+-- a head's bytes, and what follows them, as those that both versions have and what follows these
+abbrev begun : Head → List ℕ → List ℕ
+begun h after = fieldBytes 1 (fieldsOf h) ++ after
+
+module _ (h : Head) (a : allowedHead h ≡ true) (after : List ℕ) where
+  version-back : versionIn (begun h after) ≡ h .version
+  version-back = number-bytes 2 (h .version) (by-version (h .version) (is-version h a) (λ e. omega arith) (λ e. omega arith))
+
+  -- of serial and clock what the version says
+  begun-reads : headLength (h .version) ≤ length (begun h after)
+      → pick (eqb (h .version) 2) (field 14 8 (begun h after)) unknown ≡ h .serial
+      → pick (eqb (h .version) 2) (field 22 4 (begun h after)) nominal ≡ h .clock
+      → ReadAs (begun h after) h
+  begun-reads long serial clock = reads (begun h after) h long refl holds a
+    where
+      divisor : field 5 2 (begun h after) ≡ h .divisor
+      divisor = number-bytes 2 (h .divisor) (omega (arith, divisor-small h a))
+
+      frequency : field 7 5 (begun h after) ≡ h .frequency
+      frequency = number-bytes 5 (h .frequency) (omega (arith, frequency-small h a))
+
+      mode : field 12 1 (begun h after) ≡ h .mode
+      mode = number-bytes 1 (h .mode) (omega (arith, mode-small (h .mode) (h .size) (form-listed h a)))
+
+      size : field 13 1 (begun h after) ≡ h .size
+      size = number-bytes 1 (h .size) (omega (arith, size-small (h .mode) (h .size) (form-listed h a)))
+
+      holds : headIn (begun h after) ≡ h
+      holds = rw (version-back, divisor, frequency, mode, size, serial, clock)
+
+pub read-written : (h : Head) (rest : List ℕ) → allowedHead h ≡ true
+    → headReadingOf (headBytes h ++ rest) ≡ record { code = 1; heads = h ∷ [] }
+read-written h rest a = by-version (h .version) (is-version h a) old new
   where
-    s : List ℕ
-    s = headBytes h ++ rest
+    old : h .version ≡ 1 → ReadAs (headBytes h ++ rest) h
+    old e =
+        let bare = old-bare h a e in
+        rw (bytes-old h e) (begun-reads h a rest (rw e (omega arith)) (rw e (sym (bare-serial h bare))) (rw e (sym (bare-clock h bare))))
 
-    divisor : field 5 2 s ≡ h .divisor
-    divisor = omega (arith, divisor-small h a)
+    new : h .version ≡ 2 → ReadAs (headBytes h ++ rest) h
+    new e =
+        let after : List ℕ = more h ++ rest in
+        let serial : field 14 8 (begun h after) ≡ h .serial = number-bytes 8 (h .serial) (serial-small h a) in
+        let clock : field 22 4 (begun h after) ≡ h .clock = number-bytes 4 (h .clock) (omega (arith, clock-most h a)) in
+        rw (bytes-new h e) (begun-reads h a after (rw e (omega arith)) (rw e serial) (rw e clock))
 
-    frequency : field 7 5 s ≡ h .frequency
-    frequency = omega (arith, frequency-small h a)
-
-    mode : field 12 1 s ≡ h .mode
-    mode = omega (arith, mode-small (h .mode) (h .size) (form-listed h a))
-
-    size : field 13 1 s ≡ h .size
-    size = omega (arith, size-small (h .mode) (h .size) (form-listed h a))
-
-    values : headIn s ≡ h
-    values = holds s h divisor frequency mode size
+-- a head has as many bytes as its version says
+pub bytes-long : (h : Head) → isVersion (h .version) ≡ true → length (headBytes h) ≡ headLength (h .version)
+bytes-long h known =
+    by-version (h .version) known (λ (e : h .version ≡ 1). rw (bytes-old h e, e)) (λ (e : h .version ≡ 2). rw (bytes-new h e, e))
 
 -- ---- read and written
 
 -- What bytes that are read as a head have.
 pub record Passed (s : List ℕ) : Type 0 where
-  pub long : headLength ≤ length s
+  pub long : headLengthIn s ≤ length s
   pub marked : field 0 3 s ≡ number mark
-  pub one : field 3 2 s ≡ version
+  pub known : isVersion (versionIn s) ≡ true
   pub ok : allowedHead (headIn s) ≡ true
 
 pub passed : (s : List ℕ) → headReadCode s ≡ 1 → Passed s
+unfolding headReadCode
 passed s e =
-    by (ltb (length s) headLength) (eqb (field 0 3 s) (number mark)) (eqb (field 3 2 s) version) (allowedHead (headIn s))
-    refl refl refl refl
-  where
-    by : (short marked one ok : Bool) → ltb (length s) headLength ≡ short → eqb (field 0 3 s) (number mark) ≡ marked
-        → eqb (field 3 2 s) version ≡ one → allowedHead (headIn s) ≡ ok → Passed s
-    by true marked one ok p q r t = absurd (omega (arith, code-by s p q r t))
-    by false false one ok p q r t = absurd (omega (arith, code-by s p q r t))
-    by false true false ok p q r t = absurd (omega (arith, code-by s p q r t))
-    by false true true false p q r t = absurd (omega (arith, code-by s p q r t))
-    by false true true true p q r t = record { long = ltb-false _ _ p; marked = eqb-true _ _ q; one = eqb-true _ _ r; ok = t }
-
-taken-small : (n : ℕ) (l : List ℕ) → ((k : ℕ) → getD l k 0 < 256) → (k : ℕ) → getD (take n l) k 0 < 256
-taken-small zero l h k = omega arith
-taken-small (suc n) [] h k = omega arith
-taken-small (suc n) (b ∷ l) h zero = h 0
-taken-small (suc n) (b ∷ l) h (suc k) = taken-small n l (λ j. h (suc j)) k
+    let none = absent (headReadChecks s) 1 refl e in
+    record {
+      long = ltb-false (length s) (headLengthIn s) (none .1 .1 .1 .0);
+      marked = eqb-true (field 0 3 s) (number mark) (not-false _ (none .1 .0));
+      known = not-false _ (none .1 .1 .0);
+      ok = not-false _ (none .1 .1 .1 .1 .0);
+    }
 
 -- the bytes of a field are those that stand there
-field-bytes : (s : List ℕ) (at n : ℕ) → ((k : ℕ) → getD s k 0 < 256) → at + n ≤ length s → bytes n (field at n s) ≡ take n (drop at s)
+field-bytes : (s : List ℕ) (at n : ℕ) → allBytes s → at + n ≤ length s → bytes n (field at n s) ≡ take n (drop at s)
 field-bytes s at n small room =
     let there : length (take n (drop at s)) ≡ n = length-take-le n (drop at s) (simp length-drop (omega arith)) in
-    let same = bytes-number (take n (drop at s)) (taken-small n (drop at s) (λ k. rw (getD-drop at s k 0) (small (at + k)))) in
-    rw there at same
+    let part = bytes-take n (drop at s) (bytes-drop at s small) in
+    rw there at (bytes-number (take n (drop at s)) (byte-at (take n (drop at s)) part))
 
 -- fields that stand one after the other
 next : (s : List ℕ) (at n m : ℕ) → take (n + m) (drop at s) ≡ take n (drop at s) ++ take m (drop (at + n) s)
@@ -140,24 +124,39 @@ next s at n m = take-add n m (drop at s) ∙ ap (λ (l : List ℕ). take n (drop
 both : {a b c d : List ℕ} → a ≡ b → c ≡ d → a ++ c ≡ b ++ d
 both p q = cc
 
--- the fields of a head, one after the other, are its 14 bytes
-fields : (s : List ℕ)
-    → take 3 s ++ (take 2 (drop 3 s) ++ (take 2 (drop 5 s) ++ (take 5 (drop 7 s) ++ (take 1 (drop 12 s) ++ take 1 (drop 13 s)))))
-    ≡ take headLength s
-fields s =
-    sym (next s 0 3 11 ∙ after 0 3 (next s 3 2 9 ∙ after 3 2 (next s 5 2 7 ∙ after 5 2 (next s 7 5 2 ∙ after 7 5 (next s 12 1 1)))))
-  where
-    after : (at n : ℕ) {c d : List ℕ} → c ≡ d → take n (drop at s) ++ c ≡ take n (drop at s) ++ d
-    after at n e = ap (λ (l : List ℕ). take n (drop at s) ++ l) e
+module _ (s : List ℕ) (small : allBytes s) where
+  -- a field that stands there, before what does
+  joins : (at n m : ℕ) {after : List ℕ} → at + n ≤ length s → after ≡ take m (drop (at + n) s)
+      → bytes n (field at n s) ++ after ≡ take (n + m) (drop at s)
+  joins at n m room is =
+      both (field-bytes s at n small room) is ∙ sym (next s at n m)
 
-pub written-read : (s : List ℕ) → allBytes s → headReadCode s ≡ 1 → headBytes (headIn s) ≡ take headLength s
-unfolding headBytes
-written-read s small ok =
-    let p = passed s ok in
-    let there : (at n : ℕ) → at + n ≤ headLength → bytes n (field at n s) ≡ take n (drop at s)
-    = λ at n h. field-bytes s at n (byte-at s small) (omega (arith, p .long)) in
-    let first : mark ≡ take 3 s = sym (ap (bytes 3) (p .marked)) ∙ there 0 3 (omega arith) in
-    let second : bytes 2 version ≡ take 2 (drop 3 s) = sym (ap (bytes 2) (p .one)) ∙ there 3 2 (omega arith) in
-    let last = both (there 12 1 (omega arith)) (there 13 1 (omega arith)) in
-    let values = both (there 5 2 (omega arith)) (both (there 7 5 (omega arith)) last) in
-    both first (both second values) ∙ fields s
+  -- what both versions have
+  first-there : 14 ≤ length s → field 0 3 s ≡ number mark → fieldBytes 1 (fieldsOf (headIn s)) ≡ take 14 s
+  first-there long marked =
+      let last = joins 12 1 1 (omega arith) (joins 13 1 0 (omega arith) refl) in
+      let values = joins 3 2 9 (omega arith) (joins 5 2 7 (omega arith) (joins 7 5 2 (omega arith) last)) in
+      ap (λ (l : List ℕ). mark ++ l) values
+      ∙ ap (λ (n : ℕ). bytes 3 n ++ take 11 (drop 3 s)) (sym marked)
+      ∙ joins 0 3 11 (omega arith) refl
+
+  -- what version 2 adds
+  more-there : 26 ≤ length s → versionIn s ≡ 2 → more (headIn s) ≡ take 12 (drop 14 s)
+  more-there long two = rw two (joins 14 8 4 (omega arith) (joins 22 4 0 (omega arith) refl))
+
+pub written-read : (s : List ℕ) → allBytes s → headReadCode s ≡ 1 → headBytes (headIn s) ≡ take (headLengthIn s) s
+written-read s small e = by-version (versionIn s) (p .known) old new
+  where
+    p : Passed s
+    p = passed s e
+
+    first : fieldBytes 1 (fieldsOf (headIn s)) ≡ take 14 s
+    first = first-there s small (omega (arith, p .long, least-long (versionIn s))) (p .marked)
+
+    old : versionIn s ≡ 1 → headBytes (headIn s) ≡ take (headLengthIn s) s
+    old one = bytes-old (headIn s) one ∙ first ∙ rw one
+
+    new : versionIn s ≡ 2 → headBytes (headIn s) ≡ take (headLengthIn s) s
+    new two =
+        let all : 26 ≤ length s = rw two at (p .long) in
+        bytes-new (headIn s) two ∙ both first (more-there s small all two) ∙ sym (next s 0 14 12) ∙ rw two

@@ -1,1 +1,4 @@
 pub mod Head
+pub mod Moving
+pub mod Inside
+pub mod Examples

@@ -1,12 +1,13 @@
 -- The settings of a box: their ranges, a fresh box, and one setting changed.
-use Prim.Native.Nat.{ℕ}
+use Prim.Native.Nat.{ℕ, _^_}
 use mathlib.Core.Bool.{Bool, true, false, _&&_, _||_}
 use mathlib.Core.List.{List, [], _∷_, map}
-use lib.Dec.{leb, eqb}
+use lib.Dec.{leb, ltb, eqb}
 use lib.ListN.{length, replicate}
 use lib.IntN.{ℤ, pos}
 use Rattle.wire.specs.Choice.{pick, oneOf, within}
 use Rattle.wire.specs.Codes as Code
+use Rattle.wire.specs.Number.{bytes}
 use Rattle.wire.specs.Signed.{coded, minus}
 use Rattle.rates.specs.Rate.{isD}
 use Rattle.tuning.specs.Bands.{inBands}
@@ -43,6 +44,10 @@ allSerial (b ∷ bs) = isSerialByte b && allSerial bs
 -- a serial: eight of them
 abbrev pub isSerial : List ℕ → Bool
 isSerial serial = eqb (length serial) 8 && allSerial serial
+
+-- as a number, of its eight bytes (below 256 ^ 8: there is no ninth)
+abbrev pub holdsSerial : ℕ → Bool
+holdsSerial n = allSerial (bytes 8 n) && ltb n (256 ^ 8)
 
 -- a channel of a box with this clock. "A box whose stored word disagrees with its frequency and clock is broken (21)." (02, No. 5)
 abbrev pub channelInRange : ℕ → Channel → Bool

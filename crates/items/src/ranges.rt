@@ -4,7 +4,7 @@ ghost use mathlib.Core.Bool.{_&&_};
 ghost use lib.ListN.{length};
 ghost use Rattle.tuning.specs.Word.{isClock};
 ghost use Rattle.items.specs.Settings.{channelInRange, inRange, freshOf, freshAnswer, isMode, isGain, isSize};
-ghost use Rattle.items.specs.Settings.{isSerialByte, allSerial};
+ghost use Rattle.items.specs.Settings.{isSerialByte, allSerial, holdsSerial};
 use crate::Channel;
 use crate::FreshSettings;
 use crate::Settings;
@@ -125,6 +125,27 @@ pub fn is_size(byte: u32) -> bool
     ensures { λ r. ⌜ r ≡ isSize byte ⌝ }
 {
     (byte == packets::LARGE as u32) | (byte == packets::SMALL as u32)
+}
+
+// A serial as the number of its eight bytes: each is A-Z or 0-9.
+pub fn is_serial(n: u64) -> bool
+    ensures { λ r. ⌜ r ≡ holdsSerial n ⌝ }
+{
+    let second = n / 256;
+    let third = second / 256;
+    let fourth = third / 256;
+    let fifth = fourth / 256;
+    let sixth = fifth / 256;
+    let seventh = sixth / 256;
+    let eighth = seventh / 256;
+    is_serial_byte((n % 256) as u8)
+        & is_serial_byte((second % 256) as u8)
+        & is_serial_byte((third % 256) as u8)
+        & is_serial_byte((fourth % 256) as u8)
+        & is_serial_byte((fifth % 256) as u8)
+        & is_serial_byte((sixth % 256) as u8)
+        & is_serial_byte((seventh % 256) as u8)
+        & is_serial_byte((eighth % 256) as u8)
 }
 
 // A character of a serial: A-Z, 0-9.

@@ -162,15 +162,19 @@ fn packets_of(night: Night, count: u32) -> Night {
     after
 }
 
-// A span that has taken the head of the capture that the box begins.
+// A span that has taken the head of the capture that the box begins; it names the box and its clock.
 fn open(settings: Settings) -> Span {
-    let mut head = [0u8; 14];
+    let mut head = [0u8; 26];
+    let serial = settings.serial;
     heads::write_head(
         Head {
+            version: 2,
             divisor: settings.divisor,
             frequency: settings.first.frequency,
             mode: settings.mode,
             size: size_byte(settings),
+            serial: wire::number_at(&serial, 0, 8),
+            clock: settings.clock,
         },
         &mut head,
     );

@@ -11,6 +11,7 @@ use lib.Dec.{leb}
 use borrow.Author.Tests.{lt-ltb, le-ltb, le-leb, leb-true}
 use Rattle.wire.proofs.Laws.{and-left, and-right}
 use Rattle.wire.proofs.Stores.{sets-taken}
+use Rattle.tuning.specs.Word.{isClock}
 use Rattle.lines.specs.declared.Due.{Due}
 use Rattle.lines.specs.Lines.{Line, lineText, textOf}
 use Rattle.lines.specs.Inside.{Stored}
@@ -39,15 +40,17 @@ pub record Sized (d : Due) : Type 0 where
   pub position : d .position ≤ 3_999_999_999
   pub pairs : d .pairs ≤ 256
   pub divisor : d .divisor ≤ 625
+  pub clock : isClock (d .clock) ≡ true
   pub heard : d .heard ≤ d .position + 1
 
-pub sized-by : (d : Due) {a b c e : Bool} → leb (d .position) 3_999_999_999 ≡ a → leb (d .pairs) 256 ≡ b → leb (d .divisor) 625 ≡ c
-    → leb (d .heard) (d .position + 1) ≡ e → sized d ≡ a && b && c && e
+pub sized-by : (d : Due) {a b c k e : Bool} → leb (d .position) 3_999_999_999 ≡ a → leb (d .pairs) 256 ≡ b → leb (d .divisor) 625 ≡ c
+    → isClock (d .clock) ≡ k → leb (d .heard) (d .position + 1) ≡ e → sized d ≡ a && b && c && k && e
 unfolding sized
-sized-by d p q r s = rw (p, q, r, s)
+sized-by d p q r s t = rw (p, q, r, s, t)
 
 pub is-sized : (d : Due) → Sized d → sized d ≡ true
-is-sized d s = sized-by d (le-leb _ _ (s .position)) (le-leb _ _ (s .pairs)) (le-leb _ _ (s .divisor)) (le-leb _ _ (s .heard))
+is-sized d s =
+    sized-by d (le-leb _ _ (s .position)) (le-leb _ _ (s .pairs)) (le-leb _ _ (s .divisor)) (s .clock) (le-leb _ _ (s .heard))
 
 pub sizes : (d : Due) → sized d ≡ true → Sized d
 unfolding sized
@@ -55,14 +58,17 @@ sizes d all =
     let a : Bool = leb (d .position) 3_999_999_999 in
     let b : Bool = leb (d .pairs) 256 in
     let c : Bool = leb (d .divisor) 625 in
+    let k : Bool = isClock (d .clock) in
     let e : Bool = leb (d .heard) (d .position + 1) in
-    let abc = and-left (a && b && c) e all in
+    let abck = and-left (a && b && c && k) e all in
+    let abc = and-left (a && b && c) k abck in
     let ab = and-left (a && b) c abc in
     record {
       position = leb-true _ _ (and-left a b ab);
       pairs = leb-true _ _ (and-right a b ab);
       divisor = leb-true _ _ (and-right (a && b) c abc);
-      heard = leb-true _ _ (and-right (a && b && c) e all);
+      clock = and-right (a && b && c) k abck;
+      heard = leb-true _ _ (and-right (a && b && c && k) e all);
     }
 
 pub samples-fit : (positions pairs : ℕ) → positions ≤ 4_000_000_000 → pairs ≤ 256 → positions * pairs ≤ 1_024_000_000_000

@@ -1,3 +1,4 @@
 pub mod Texts
 pub mod Dues
 pub mod Lengths
+pub mod Times

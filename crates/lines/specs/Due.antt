@@ -7,6 +7,7 @@ use lib.Dec.{eqb, leb, ltb}
 use lib.ListN.{length}
 use Rattle.wire.specs.Choice.{pick}
 use Rattle.wire.specs.Codes as Code
+use Rattle.tuning.specs.Word.{isClock}
 use Rattle.packets.specs.Numbers.{last}
 use Rattle.packets.specs.Missed.{missedOf}
 use Rattle.lines.specs.declared.Due.{Due}
@@ -21,7 +22,7 @@ openingIf on = pick on (openingLine ∷ []) []
 -- the open capture's line
 abbrev pub captureIn : Due → Line
 captureIn d =
-    captureLine (record { bits = d .bits; pairs = d .pairs }) (d .divisor) (d .capture) (d .heard) (d .position)
+    captureLine (record { bits = d .bits; pairs = d .pairs }) (d .divisor) (d .clock) (d .capture) (d .heard) (d .position)
     (missedOf (d .heard) (d .position))
 
 -- where packets were heard in it
@@ -36,10 +37,15 @@ endingLines (Captures captures) = endLine captures ∷ []
 abbrev pub dueLines : Due → List Line
 dueLines d = openingIf (d .opening) ++ (captureIf d ++ endingLines (d .ending))
 
--- A position, pairs and a D within what a capture can have: the products of its line fit 64 bits then. No more packets are heard
--- than there are positions.
+-- A position, pairs and a D that are not above all that captures have, and a clock that one can have, also where no capture's line
+-- is due: what is multiplied for its line fits 64 bits then. No more packets are heard than there are positions.
 unfoldable pub sized : Due → Bool
-sized d = leb (d .position) last && leb (d .pairs) 256 && leb (d .divisor) 625 && leb (d .heard) (d .position + 1)
+sized d =
+    leb (d .position) last
+    && leb (d .pairs) 256
+    && leb (d .divisor) 625
+    && isClock (d .clock)
+    && leb (d .heard) (d .position + 1)
 
 -- what writing answers, and the bytes that it writes at the start of the lent slice
 pub record Telling : Type 0 where

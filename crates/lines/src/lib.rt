@@ -13,13 +13,14 @@ pub enum Ending {
 }
 
 // The lines that are due: the opening line, the line of the capture that ends (where packets were heard in it), and what
-// comes last.
+// comes last. The clock is the box's, in Hz: with D it says how long a sample takes.
 pub struct Due {
     pub opening: bool,
     pub capture: u64,
     pub bits: u64,
     pub pairs: u64,
     pub divisor: u64,
+    pub clock: u64,
     pub heard: u64,
     pub position: u64,
     pub ending: Ending,

@@ -4,7 +4,8 @@ ghost use Prim.Native.Nat.{_+_, _≤_};
 ghost use lib.ListN.{length};
 ghost use lib.Seq.{sets};
 ghost use mathlib.Core.Bool.{true};
-ghost use Rattle.lines.specs.Lines.{textOf};
+ghost use Rattle.tuning.specs.Word.{isClock};
+ghost use Rattle.lines.specs.Lines.{textOf, endTime};
 ghost use Rattle.lines.specs.Inside.{Stored};
 ghost use Rattle.lines.specs.Due.{openingIf, captureIf, endingLines, dueLines, sized, tellingOf};
 use crate::Due;
@@ -34,6 +35,16 @@ fn put_opening(on: bool, buf: &mut [u8], at: usize) -> usize
     at
 }
 
+// "samples x 4D / clock seconds, in microseconds rounded down". A sample takes 4D cycles of the clock. The cycles times a million can
+// have more than 64 bits, so the whole seconds are counted first, and then the microseconds of the cycles that are left.
+fn end_time(samples: u64, divisor: u64, clock: u64) -> u64
+    requires { ⌜ (samples ≤ 1_024_000_000_000) × (divisor ≤ 625) × (isClock clock ≡ true) ⌝ }
+    ensures { λ r. ⌜ r ≡ endTime divisor clock samples ⌝ }
+{
+    let cycles = samples * (4 * divisor);
+    cycles / clock * 1_000_000 + cycles % clock * 1_000_000 / clock
+}
+
 // The line of the capture that ends, where packets were heard in it.
 fn put_capture(d: Due, buf: &mut [u8], at: usize) -> usize
     requires { ⌜ (at + 170 ≤ length (now buf)) × (sized d ≡ true) ⌝ }
@@ -51,7 +62,7 @@ fn put_capture(d: Due, buf: &mut [u8], at: usize) -> usize
         d.heard,
         positions,
         samples,
-        samples * d.divisor / 20,
+        end_time(samples, d.divisor, d.clock),
         positions - d.heard,
     ];
     put_line(C, 1, &ns, buf, at)
@@ -86,6 +97,16 @@ fn put_due(d: Due, buf: &mut [u8]) -> usize
     put_ending(ending, buf, second)
 }
 
+// The clock is one that may be set. No clock of more than 32 bits is.
+fn is_clock(hz: u64) -> bool
+    ensures { λ r. ⌜ r ≡ isClock hz ⌝ }
+{
+    if 0xFFFF_FFFF < hz {
+        return false;
+    }
+    tuning::is_clock(hz as u32)
+}
+
 // Whether the products of a capture's line are those of numbers that a capture can have, and no more packets are heard than
 // there are positions.
 fn is_sized(d: Due) -> bool
@@ -100,12 +121,15 @@ fn is_sized(d: Due) -> bool
     if 625 < d.divisor {
         return false;
     }
+    if !is_clock(d.clock) {
+        return false;
+    }
     d.heard <= d.position + 1
 }
 
-// Writes the lines that are due at the start of a slice: 240 bytes are room enough. It refuses with 16 a position, pairs
-// or a D that no capture has, or more packets heard than positions, and then with 20 a slice that has no room for all lines;
-// nothing is written then.
+// Writes the lines that are due at the start of a slice: 240 bytes are room enough. It refuses with 16 a position, pairs or a D
+// above all that captures have, a clock that none has (also where no capture's line is due), or more packets heard than positions,
+// and then with 20 a slice that has no room for all lines; nothing is written then.
 pub fn tell(d: Due, out: &mut [u8]) -> LinesAnswer
     ensures { λ r.
         ⌜ (r ≡ tellingOf d (length (now (out .entry))) .answer)

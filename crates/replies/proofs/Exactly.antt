@@ -25,7 +25,7 @@ use Rattle.layouts.specs.Layouts.{parametersOf, sizeOf, laid}
 use Rattle.layouts.proofs.Sizes.{length-laid}
 use Rattle.items.proofs.States.{status-bytes}
 use Rattle.items.specs.declared.Settings.{Settings}
-use Rattle.items.specs.Settings.{isMode, isSerialByte, allSerial, isSerial, inRange, freshOf, withFrequency}
+use Rattle.items.specs.Settings.{isMode, isSerialByte, allSerial, isSerial, holdsSerial, inRange, freshOf, withFrequency}
 use Rattle.items.specs.Settings.{withClock, withDivisor, withRunning, withMode, withGain, withSize, withCount}
 use Rattle.items.specs.Items.{nameBytes, versionTable, run, idle, achievedRate}
 use Rattle.items.specs.Answer.{settingsAfter, replyOf, replyTo, framed, parameters}
@@ -42,7 +42,7 @@ use Rattle.wishes.proofs.Allowed.{state-has}
 use Rattle.wire.proofs.Laws.{by-or, one-has}
 use Rattle.wishes.proofs.Understood.{code-of-wish, row-of-wish, settings-of-wish}
 use Rattle.replies.specs.declared.Reply.the-variants.{Nak, Status, State}
-use Rattle.replies.specs.Awaited.{awaited, holdsSerial, idleShown, runShown, isState, stateShown}
+use Rattle.replies.specs.Awaited.{awaited, idleShown, runShown, isState, stateShown}
 use Rattle.replies.specs.Awaited.{saysState, replyType, replyLayout, replyBytes, numberIn}
 use Rattle.replies.specs.Reading.{isReply, isNak, replyCode, replySays, replyReaderSays}
 use Rattle.replies.specs.Saying.{saysOf, saidBy}

@@ -1,9 +1,9 @@
 -- The replies that some valid box could give to a wish. "Replies have the item's set layout with the current value; the
 -- channel byte or id is echoed."
-use Prim.Native.Nat.{ℕ, _^_}
+use Prim.Native.Nat.{ℕ}
 use mathlib.Core.Bool.{Bool, true, false, _&&_}
 use mathlib.Core.List.{List, [], _∷_, _++_}
-use lib.Dec.{eqb, ltb}
+use lib.Dec.{eqb}
 use lib.ListN.{getD}
 use Rattle.wire.specs.Choice.{pick, oneOf}
 use Rattle.wire.specs.Number.{bytes, number, field}
@@ -15,7 +15,7 @@ use Rattle.tuning.specs.Bands.{bands, inBands, rangeBytes}
 use Rattle.tuning.specs.Word.{isClock}
 use Rattle.layouts.specs.declared.Layout.{Layout}
 use Rattle.layouts.specs.Layouts.{laid}
-use Rattle.items.specs.Settings.{isGain, isSize, allSerial}
+use Rattle.items.specs.Settings.{isGain, isSize, holdsSerial}
 use Rattle.items.specs.Items.{nameBytes, interfaceNumber, versionTable, statusByte, idle, run, stateBytes}
 use Rattle.wishes.specs.declared.StateFields.{StateFields}
 use Rattle.wishes.specs.declared.Wish.{Wish}
@@ -35,10 +35,6 @@ pub record Awaited : Type 0 where
 
 abbrev pub value : ℕ → (ℕ → Bool) → (ℕ → Reply) → Awaited
 value width could says = record { width = width; could = could; says = says }
-
--- 0002 serial: eight characters and a zero byte (below 256 ^ 8: the ninth byte is zero)
-abbrev pub holdsSerial : ℕ → Bool
-holdsSerial n = allSerial (bytes 8 n) && ltb n (256 ^ 8)
 
 -- 0005 status: 0B idle, 0C running
 abbrev pub isStatus : ℕ → Bool

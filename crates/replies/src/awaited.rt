@@ -6,7 +6,7 @@ ghost use Prim.Native.Nat.{_^_, _<_};
 ghost use Rattle.wire.specs.Choice.{oneOf};
 ghost use Rattle.wire.specs.Signed.{signed};
 ghost use Rattle.wishes.specs.Wishes.{allowedWish};
-ghost use Rattle.replies.specs.Awaited.{awaited, holdsSerial, isStatus, stateShown, isState, stateCould, saysState};
+ghost use Rattle.replies.specs.Awaited.{awaited, isStatus, stateShown, isState, stateCould, saysState};
 ghost use Rattle.replies.specs.declared.Reply.the-variants.{State};
 use crate::Reply;
 use items::values;
@@ -27,22 +27,6 @@ pub(crate) fn width_of(w: Wish) -> u8
         Wish::SetPacketSize(_) | Wish::AskPacketSize => 1,
         _ => 4,
     }
-}
-
-// The eight low bytes of the number are A-Z, 0-9.
-fn is_serial(n: u64) -> bool
-    ensures { λ r. ⌜ r ≡ holdsSerial n ⌝ }
-{
-    let mut rest = n;
-    let mut i: usize = 0;
-    while i < 8 {
-        if !items::ranges::is_serial_byte((rest % 256) as u8) {
-            return false;
-        }
-        rest = rest / 256;
-        i += 1;
-    }
-    true
 }
 
 // 0B idle, 0C running.
@@ -91,7 +75,7 @@ pub(crate) fn could_say(w: Wish, n: u64) -> bool
 {
     match w {
         Wish::AskName => n == values::NAME,
-        Wish::AskSerial => is_serial(n),
+        Wish::AskSerial => items::ranges::is_serial(n),
         Wish::AskInterface => n == values::INTERFACE,
         Wish::AskVersion(id) => n == values::version_of(id),
         Wish::AskStatus => is_status(n),

@@ -8,7 +8,7 @@ use lib.Dec.{eqb}
 use lib.ListN.{length, drop}
 use Rattle.wire.proofs.Laws.{pick-keeps}
 use Rattle.heads.specs.declared.Head.{Head}
-use Rattle.heads.specs.Head.{headLength, headIn, headReadCode}
+use Rattle.heads.specs.Head.{headLengthIn, headIn, headReadCode}
 use Rattle.lines.specs.Lines.{Line, openingLine, refusalLine, endLine}
 use Rattle.spans.specs.Report.{Known, nothing, packetsIn, packetCode, accepts}
 use Rattle.spans.specs.Report.{knownAfter, lineOf, ended, begins}
@@ -54,8 +54,8 @@ lines-add (packet ∷ packets) h k t = by (accepts h k packet) refl (lines-add p
 pub every-line-adds-up : EveryLineAddsUp
 unfolding linesOf
 every-line-adds-up input =
-    let packets : List (List ℕ) = packetsIn (length input) (drop headLength input) in (
+    let packets : List (List ℕ) = packetsIn (length input) (drop (headLengthIn input) input) in (
       opening-adds,
-      pick-keeps allAddUp (eqb (headReadCode input) 1) (linesFrom (headIn input) nothing packets) (refusalLine (headReadCode input) 0 ∷ [])
-          (λ e. lines-add packets (headIn input) nothing tt) (λ e. (refusal-adds (headReadCode input) 0, tt)),
+      pick-keeps allAddUp (eqb (headReadCode input) 1) (linesFrom (headIn input) (nothing (headLengthIn input)) packets) (refusalLine (headReadCode input) 0 ∷ [])
+          (λ e. lines-add packets (headIn input) (nothing (headLengthIn input)) tt) (λ e. (refusal-adds (headReadCode input) 0, tt)),
     )

@@ -16,7 +16,7 @@ use Rattle.wire.proofs.Checks.{given-below}
 use Rattle.wire.proofs.Stores.{sets-append}
 use Rattle.packets.specs.declared.Form.{Form}
 use Rattle.heads.specs.declared.Head.{Head}
-use Rattle.heads.specs.Head.{headLength, formIn, headReadChecks}
+use Rattle.heads.specs.Head.{formIn, headReadChecks}
 use Rattle.heads.specs.Head.{headReadCode}
 use Rattle.hearing.specs.declared.Tally.{Tally}
 use Rattle.hearing.specs.declared.Reach.{Reach}
@@ -24,7 +24,7 @@ use Rattle.spans.specs.declared.Span.{Span}
 use Rattle.lines.specs.Lines.{Line, textOf, openingLine, refusalLine}
 use Rattle.hearing.specs.Hearing.{farthest, accepting, reaching}
 use Rattle.hearing.specs.Inside.{Counted, Sane}
-use Rattle.spans.specs.Eating.{freshSpan, validSpan, headOf, withTally, lacking, headTaken, headLines}
+use Rattle.spans.specs.Eating.{tallyFrom, freshSpan, validSpan, headLacks, headOf, withTally, lacking, headWantsBy, headTaken, headLines}
 use Rattle.spans.specs.Eating.{headRead, heardLines, heardSpan, Eating, silently, saying, sayingAll}
 use Rattle.spans.specs.Eating.{opening, openingBy, listening, listeningBy, eatingOf, lastLines, finishingOf}
 use Rattle.lines.specs.Due.{Telling, telling}
@@ -37,7 +37,9 @@ use Rattle.spans.proofs.Eats.{eating-stopped, eating-head, eating-packe
 use Rattle.spans.proofs.Rooms.{Short, head-room, heard-room, end-room}
 use Rattle.spans.proofs.Telling.{endLines, ifOne, comingBy, reach-ahead, reach-used, coming-on, coming-first}
 use Rattle.spans.proofs.Within.{reach-within}
-use Rattle.spans.proofs.Going.{Going, fresh-going, going-valid, going-short, stopped-valid}
+use Rattle.spans.proofs.Filling.{wantsOf, by-above, early-all, early-lacks, early-taken, early-left}
+use Rattle.spans.proofs.Filling.{late-whole, late-taken, late-left}
+use Rattle.spans.proofs.Going.{Going, fresh-counted, fresh-going, going-valid, going-short, stopped-valid}
 use Rattle.spans.proofs.Going.{passedBy, passed-reach, passed-accepting}
 use Rattle.hearing.proofs.Ranges.{reach-sane}
 
@@ -47,27 +49,27 @@ use Rattle.hearing.proofs.Ranges.{reach-sane}
 abbrev pub headComing : Span → List ℕ → List Line
 headComing after left =
     let code = headReadCode (after .head) in
-    pick (ltb (after .came) headLength) (openingLine ∷ refusalLine 40 0 ∷ [])
-    (headLines code ++ ifOne code (comingBy (headOf after) (after .tally) left))
+    pick (headLacks after) (openingLine ∷ refusalLine 40 0 ∷ [])
+    (headLines code ++ ifOne code (comingBy (headOf after) (tallyFrom (after .came)) left))
 
 -- from a span on whose head is not whole
 abbrev pub comingHead : Span → List ℕ → List Line
-comingHead s bs = headComing (headTaken s bs) (drop (lacking s bs) bs)
+comingHead s bs = headComing (headTaken s bs) (drop (lacking (headWantsBy s bs) s bs) bs)
 
 unfoldable pub coming : Span → List ℕ → List Line
-coming s bs = pick (s .stopped) [] (pick (ltb (s .came) headLength) (comingHead s bs) (comingBy (headOf s) (s .tally) bs))
+coming s bs = pick (s .stopped) [] (pick (headLacks s) (comingHead s bs) (comingBy (headOf s) (s .tally) bs))
 
 coming-stopped : (s : Span) (bs : List ℕ) → s .stopped ≡ true → coming s bs ≡ []
 unfolding coming
 coming-stopped s bs e = rw e
 
-pub coming-head : (s : Span) (bs : List ℕ) → s .stopped ≡ false → s .came < headLength → coming s bs ≡ comingHead s bs
+pub coming-head : (s : Span) (bs : List ℕ) → s .stopped ≡ false → s .came < wantsOf s → coming s bs ≡ comingHead s bs
 unfolding coming
-coming-head s bs e h = rw (e, lt-ltb (s .came) headLength h)
+coming-head s bs e h = rw (e, lt-ltb (s .came) (wantsOf s) h)
 
-coming-packets : (s : Span) (bs : List ℕ) → s .stopped ≡ false → headLength ≤ s .came → coming s bs ≡ comingBy (headOf s) (s .tally) bs
+coming-packets : (s : Span) (bs : List ℕ) → s .stopped ≡ false → wantsOf s ≤ s .came → coming s bs ≡ comingBy (headOf s) (s .tally) bs
 unfolding coming
-coming-packets s bs e h = rw (e, le-ltb (s .came) headLength h)
+coming-packets s bs e h = rw (e, le-ltb (s .came) (wantsOf s) h)
 
 coming-end : (h : Head) (t : Tally) → comingBy h t [] ≡ endLines h t
 unfolding comingBy
@@ -99,7 +101,7 @@ says : (s : Span) (n : ℕ) (lines : List Line) (after : Span) → length (textO
 says s n lines after fits = rw (le-ltb room (length (textOf lines)) fits)
 
 -- the packets' part of a piece b ∷ bs
-module _ (s : Span) (used b : ℕ) (bs rest : List ℕ) (goes : s .stopped ≡ false) (whole : headLength ≤ s .came)
+module _ (s : Span) (used b : ℕ) (bs rest : List ℕ) (goes : s .stopped ≡ false) (whole : wantsOf s ≤ s .came)
     (g : Going s used) (near : used + length (b ∷ bs) ≤ farthest) where
   abbrev h : Head
   h = headOf s
@@ -234,164 +236,130 @@ head-code-small : (s : List ℕ) → headReadCode s < 42
 unfolding headReadCode
 head-code-small s = given-below 42 (headReadChecks s) 1 refl (omega arith)
 
--- a span that goes on, with so many bytes of its head
-abbrev pub filled : Span → ℕ → List ℕ → Span
-filled s came head = record { stopped = false; came = came; head = head; tally = s .tally }
-
 -- the head's part of a piece b ∷ bs
-module _ (s : Span) (used b : ℕ) (bs rest : List ℕ) (goes : s .stopped ≡ false) (few : s .came < headLength) (g : Going s used) where
+module _ (s : Span) (used b : ℕ) (bs rest : List ℕ) (goes : s .stopped ≡ false) (few : s .came < wantsOf s) (g : Going s used) where
   abbrev chunk : List ℕ
   chunk = b ∷ bs
 
-  -- of it alone, and with the rest of the input
-  abbrev lacked : ℕ
-  lacked = lacking s chunk
+  -- how many bytes the head has, and how many it lacks of them
+  abbrev all : ℕ
+  all = headWantsBy s chunk
 
-  abbrev lackedOf : ℕ
-  lackedOf = lacking s (chunk ++ rest)
+  abbrev n : ℕ
+  n = lacking all s chunk
 
   abbrev after : Span
   after = headTaken s chunk
 
-  after-long : length (after .head) ≡ 14
-  after-long = length-sets (s .head) (s .came) (take lacked chunk) ∙ g .long
+  above : s .came < all
+  above = by-above s chunk few
+
+  after-long : length (after .head) ≡ 26
+  after-long = length-sets (s .head) (s .came) (take n chunk) ∙ g .long
 
   -- the piece ends before the head does
-  module _ (early : s .came + length chunk < headLength) where
-    all : lacked ≡ length chunk
-    all = omega arith
+  module _ (early : s .came + length chunk < all) where
+    taken : n ≡ length chunk
+    taken = early-all s chunk rest early
 
-    -- what is lacking then
-    abbrev more : ℕ
-    more = lacking after rest
+    lacks : after .came < wantsOf after
+    lacks = early-lacks s chunk rest early
 
-    split : lackedOf ≡ length chunk + more
-    split = omega (arith, length-append chunk rest, all)
-
-    same-held : sets (s .head) (s .came) (take lackedOf (chunk ++ rest)) ≡ sets (after .head) (after .came) (take more rest)
-    same-held =
-        let first : take lacked chunk ≡ chunk = take-all lacked chunk (omega (arith, all)) in
-        let both : take lackedOf (chunk ++ rest) ≡ chunk ++ take more rest
-        = ap (λ (k : ℕ). take k (chunk ++ rest)) split ∙ take-append-add chunk rest more in
-        ap (sets (s .head) (s .came)) both
-        ∙ sym (sets-append (s .head) (s .came) chunk (take more rest))
-        ∙ ap (λ (l : List ℕ). sets (sets (s .head) (s .came) l) (s .came + length chunk) (take more rest)) (sym first)
-        ∙ ap (λ (k : ℕ). sets (after .head) (s .came + k) (take more rest)) (sym all)
-
-    same-taken : headTaken s (chunk ++ rest) ≡ headTaken after rest
-    same-taken =
-        let count : s .came + lackedOf ≡ after .came + more = omega (arith, split, all) in
-        ap (λ (k : ℕ). filled s k (sets (s .head) (s .came) (take lackedOf (chunk ++ rest)))) count
-        ∙ ap (filled s (after .came + more)) same-held
-
-    same-left : drop lackedOf (chunk ++ rest) ≡ drop more rest
-    same-left = ap (λ (k : ℕ). drop k (chunk ++ rest)) split ∙ drop-append-add chunk rest more
-
-    early-going : Going after (used + lacked)
+    early-going : Going after (used + n)
     early-going =
         record {
           long = after-long;
           head = λ h. (omega (arith, g .head few .0), g .head few .1);
-          packets = λ h. absurd (omega (arith, all));
+          packets = λ h. absurd (omega (arith, lacks));
           counted = g .counted;
         }
 
-    call-early : OneCall s used chunk rest (silently 0 lacked after)
+    call-early : OneCall s used chunk rest (silently 0 n after)
     call-early =
-        let used-up : drop lacked chunk ≡ [] = ap (λ (k : ℕ). drop k chunk) all ∙ drop-length chunk in
+        let used-up : drop n chunk ≡ [] = ap (λ (k : ℕ). drop k chunk) taken ∙ drop-length chunk in
+        let whole : List ℕ = chunk ++ rest in
         record {
           text =
               ap textOf
-              (coming-head s (chunk ++ rest) goes few
-              ∙ ap (λ (x : Span). headComing x (drop lackedOf (chunk ++ rest))) same-taken
-              ∙ ap (headComing (headTaken after rest)) same-left
-              ∙ sym (coming-head after rest refl (omega (arith, all)))
+              (coming-head s whole goes few
+              ∙ ap (λ (x : Span). headComing x (drop (lacking (headWantsBy s whole) s whole) whole)) (early-taken s chunk rest early)
+              ∙ ap (headComing (headTaken after rest)) (early-left s chunk rest early)
+              ∙ sym (coming-head after rest refl lacks)
               ∙ ap (λ (l : List ℕ). coming after (l ++ rest)) (sym used-up));
-          moves = omega (arith, all);
-          inside = omega (arith, all);
+          moves = omega (arith, taken);
+          inside = omega (arith, taken);
           goes = λ e. early-going;
         }
 
   -- the head ends within the piece
-  module _ (late : headLength ≤ s .came + length chunk) where
-    lacks : lacked ≡ headLength - s .came
-    lacks = omega arith
+  module _ (late : all ≤ s .came + length chunk) where
+    whole : wantsOf after ≡ after .came
+    whole = late-whole s chunk few late
 
-    lacks-same : lackedOf ≡ lacked
-    lacks-same = omega (arith, length-append chunk rest)
+    no-more : headLacks after ≡ false
+    no-more = le-ltb (after .came) (wantsOf after) (omega (arith, whole))
 
-    whole : after .came ≡ headLength
-    whole = omega (arith, lacks)
+    came : after .came ≡ s .came + n
+    came = refl
 
     abbrev code : ℕ
     code = headReadCode (after .head)
 
     abbrev left : List ℕ
-    left = drop lacked chunk ++ rest
-
-    same-after : headTaken s (chunk ++ rest) ≡ after
-    same-after =
-        let part : take lackedOf (chunk ++ rest) ≡ take lacked chunk
-        = ap (λ (k : ℕ). take k (chunk ++ rest)) lacks-same ∙ take-append-le lacked chunk rest (omega (arith, lacks)) in
-        ap (λ (k : ℕ). filled s (s .came + k) (sets (s .head) (s .came) (take lackedOf (chunk ++ rest)))) lacks-same
-        ∙ ap (λ (l : List ℕ). filled s (after .came) (sets (s .head) (s .came) l)) part
-
-    same-rest : drop lackedOf (chunk ++ rest) ≡ left
-    same-rest = ap (λ (k : ℕ). drop k (chunk ++ rest)) lacks-same ∙ drop-append-le lacked chunk rest (omega (arith, lacks))
+    left = drop n chunk ++ rest
 
     abbrev RestFollows : Type 0
-    RestFollows = ifOne code (comingBy (headOf after) (after .tally) left) ≡ coming (headRead code after) left
+    RestFollows = ifOne code (comingBy (headOf after) (tallyFrom (after .came)) left) ≡ coming (headRead code after) left
 
     rest-follows : RestFollows
     rest-follows = by (eqb code 1) refl
       where
         by : (one : Bool) → eqb code 1 ≡ one → RestFollows
-        by true e = rw e (sym (coming-packets (withTally false after (after .tally)) left refl (omega (arith, whole))))
-        by false e = rw e (sym (coming-stopped (withTally true after (after .tally)) left refl))
+        by true e = rw e (sym (coming-packets (withTally false after (tallyFrom (after .came))) left refl (omega (arith, whole))))
+        by false e = rw e (sym (coming-stopped (withTally true after (tallyFrom (after .came))) left refl))
 
-    read-going : headRead code after .stopped ≡ false → Going (headRead code after) (used + lacked)
+    read-going : headRead code after .stopped ≡ false → Going (headRead code after) (used + n)
     read-going e =
         let one : eqb code 1 ≡ true = not-false (eqb code 1) e in
-        let begins : s .tally .begins ≡ headLength = ap (λ (t : Tally). t .begins) (g .head few .1) in
-        let none : s .tally .came ≡ 0 = ap (λ (t : Tally). t .came) (g .head few .1) in
         record {
           long = after-long;
           head = λ h. absurd (omega (arith, whole));
-          packets = λ h. (whole, eqb-true code 1 one, omega (arith, lacks, g .head few .0, begins, none));
-          counted = g .counted;
+          packets = λ h. (sym whole, eqb-true code 1 one, omega (arith, g .head few .0));
+          counted = fresh-counted (after .came);
         }
 
-    call-late : OneCall s used chunk rest (sayingAll lacked (headLines code) (headRead code after))
+    call-late : OneCall s used chunk rest (sayingAll n (headLines code) (headRead code after))
     call-late =
+        let input : List ℕ = chunk ++ rest in
         record {
           text =
               ap textOf
-              (coming-head s (chunk ++ rest) goes few
-              ∙ ap (λ (x : Span). headComing x (drop lackedOf (chunk ++ rest))) same-after
-              ∙ ap (headComing after) same-rest
-              ∙ (rw (le-ltb (after .came) headLength (omega (arith, whole))))
+              (coming-head s input goes few
+              ∙ ap (λ (x : Span). headComing x (drop (lacking (headWantsBy s input) s input) input)) (late-taken s chunk rest late)
+              ∙ ap (headComing after) (late-left s chunk rest late)
+              ∙ (rw no-more)
               ∙ ap (λ (ls : List Line). headLines code ++ ls) rest-follows)
               ∙ text-append (headLines code) (coming (headRead code after) left);
-          moves = omega (arith, lacks);
-          inside = omega (arith, lacks);
+          moves = omega (arith, above);
+          inside = omega arith;
           goes = read-going;
         }
 
   call-head : OneCall s used chunk rest (opening s chunk room)
   unfolding opening
-  call-head = elim (decLt (s .came + length chunk) headLength) [ yes early ↦ waits early | no late ↦ said (omega arith) ]
+  call-head = elim (decLt (s .came + length chunk) all) [ yes early ↦ waits early | no late ↦ said (omega arith) ]
     where
-      waits : s .came + length chunk < headLength → OneCall s used chunk rest (openingBy s room lacked after)
+      waits : s .came + length chunk < all → OneCall s used chunk rest (openingBy s room n after)
       waits early =
-          let by = opening-waits s after room lacked (omega (arith, all early)) in
+          let by = opening-waits s after room n (lt-ltb (after .came) (wantsOf after) (lacks early)) in
           subst (OneCall s used chunk rest) (sym by) (call-early early)
 
-      said : headLength ≤ s .came + length chunk → OneCall s used chunk rest (openingBy s room lacked after)
+      said : all ≤ s .came + length chunk → OneCall s used chunk rest (openingBy s room n after)
       said late =
-          let n : ℕ = headReadCode (after .head) in
-          let by = opening-says s after room lacked n (omega (arith, whole late)) refl in
-          let fits = head-room n (omega (arith, head-code-small (after .head))) in
-          subst (OneCall s used chunk rest) (sym (by ∙ says s lacked (headLines n) (headRead n after) fits)) (call-late late)
+          let c : ℕ = headReadCode (after .head) in
+          let by = opening-says s after room n c (no-more late) refl in
+          let fits = head-room c (omega (arith, head-code-small (after .head))) in
+          subst (OneCall s used chunk rest) (sym (by ∙ says s n (headLines c) (headRead c after) fits)) (call-late late)
 
 -- ---- any call, all calls of a piece, all pieces
 
@@ -410,14 +378,17 @@ one-call s used b bs rest good near = by (s .stopped) refl
 
     by : (stop : Bool) → s .stopped ≡ stop → Call (eatingOf s piece′ room)
     by true e = subst Call (sym (eating-stopped s piece′ room (stopped-valid s e) e)) (call-stopped s used piece′ rest e (omega arith))
-    by false e = elim (decLt (s .came) headLength) [ yes few ↦ opened few | no few ↦ heard (omega arith) ]
+    by false e = elim (decLt (s .came) (wantsOf s)) [ yes few ↦ opened few | no few ↦ heard (omega arith) ]
       where
-        opened : s .came < headLength → Call (eatingOf s piece′ room)
-        opened few = subst Call (sym (eating-head s piece′ room (valid e) e few)) (call-head s used b bs rest e few (good e))
+        opened : s .came < wantsOf s → Call (eatingOf s piece′ room)
+        opened few =
+            let lacks = lt-ltb (s .came) (wantsOf s) few in
+            subst Call (sym (eating-head s piece′ room (valid e) e lacks)) (call-head s used b bs rest e few (good e))
 
-        heard : headLength ≤ s .came → Call (eatingOf s piece′ room)
+        heard : wantsOf s ≤ s .came → Call (eatingOf s piece′ room)
         heard all′ =
-            subst Call (sym (eating-packets s piece′ room (valid e) e all′)) (call-packets s used b bs rest e all′ (good e) near)
+            let whole = le-ltb (s .came) (wantsOf s) all′ in
+            subst Call (sym (eating-packets s piece′ room (valid e) e whole)) (call-packets s used b bs rest e all′ (good e) near)
 
 -- What handing a piece over comes to, in front of the rest of the input.
 pub record AllCalls (s : Span) (used : ℕ) (piece rest : List ℕ) (d : Handed) : Type 0 where
@@ -464,7 +435,7 @@ end-comes s used good near = by (s .stopped) refl
     by : (stop : Bool) → s .stopped ≡ stop → finishingOf s room .bytes ≡ textOf (coming s [])
     by true e =
         ap (λ (t : Telling). t .bytes) (finishing-stopped s room (stopped-valid s e) e) ∙ ap textOf (sym (coming-stopped s [] e))
-    by false e = elim (decLt (s .came) headLength) [ yes few ↦ cut few | no few ↦ ended (omega arith) ]
+    by false e = elim (decLt (s .came) (wantsOf s)) [ yes few ↦ cut few | no few ↦ ended (omega arith) ]
       where
         -- the last lines are said, where they are those and fit
         last : (lines : List Line) → lastLines s ≡ lines → length (textOf lines) ≤ room → finishingOf s room .bytes ≡ textOf lines
@@ -473,17 +444,19 @@ end-comes s used good near = by (s .stopped) refl
             ∙ ap (λ (ls : List Line). telling (textOf ls) room .bytes) are
             ∙ whole-text lines fits
 
-        cut : s .came < headLength → finishingOf s room .bytes ≡ textOf (coming s [])
+        cut : s .came < wantsOf s → finishingOf s room .bytes ≡ textOf (coming s [])
         cut few =
-            let short : comingHead s [] ≡ headLines 40 = rw (lt-ltb (headTaken s [] .came) headLength (omega arith)) in
-            last (headLines 40) (rw (lt-ltb (s .came) headLength few)) (head-room 40 (omega arith))
+            let more = by-above s [] few in
+            let lacks : headTaken s [] .came < wantsOf (headTaken s []) = early-lacks s [] [] (omega (arith, more)) in
+            let short : comingHead s [] ≡ headLines 40 = rw (lt-ltb (headTaken s [] .came) (wantsOf (headTaken s [])) lacks) in
+            last (headLines 40) (rw (lt-ltb (s .came) (wantsOf s) few)) (head-room 40 (omega arith))
             ∙ ap textOf (sym (coming-head s [] e few ∙ short))
 
-        ended : headLength ≤ s .came → finishingOf s room .bytes ≡ textOf (coming s [])
+        ended : wantsOf s ≤ s .came → finishingOf s room .bytes ≡ textOf (coming s [])
         ended all′ =
             let h′ : Head = headOf s in
             let fits = end-room h′ (s .tally) (going-short s used (good e) near all′) in
-            last (endLines h′ (s .tally)) (rw (le-ltb (s .came) headLength all′)) fits
+            last (endLines h′ (s .tally)) (rw (le-ltb (s .came) (wantsOf s) all′)) fits
             ∙ ap textOf (sym (coming-packets s [] e all′ ∙ coming-end h′ (s .tally)))
 
 pub prints-coming : (pieces : List (List ℕ)) (s : Span) (used : ℕ) → (s .stopped ≡ false → Going s used)

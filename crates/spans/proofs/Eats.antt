@@ -1,5 +1,5 @@
 -- What the functions over a span need of its definitions.
-use Prim.Native.Nat.{ℕ, _+_, _-_, _≤_, _<_, min}
+use Prim.Native.Nat.{ℕ, _+_, _-_}
 use mathlib.Core.Path.{_≡_, refl, sym, ap, subst, _∙_}
 use mathlib.Core.Bool.{Bool, true, false, _&&_, _||_}
 use mathlib.Core.List.{List, []}
@@ -7,13 +7,13 @@ use native.Mathlib.Omega.{arith}
 use lib.Dec.{eqb, ltb}
 use lib.ListN.{length, take}
 use lib.Seq.{sets, length-take-le}
-use borrow.Author.Tests.{lt-ltb, le-ltb, eqb-true, eq-eqb, ne-eqb}
+use borrow.Author.Tests.{eqb-true, eq-eqb, ne-eqb}
 use Rattle.wire.proofs.Laws.{and-left, and-right, or-rest}
 use Rattle.packets.proofs.Forms.{is-listed-form}
-use Rattle.heads.specs.declared.Opened.{Opened}
 use Rattle.heads.specs.declared.Head.{Head}
-use Rattle.heads.specs.Head.{headLength, formIn, allowedHead, HeadReading, openedSays, headReadingOf}
-use Rattle.heads.proofs.Rounds.{form-listed, divisor-small, passed}
+use Rattle.heads.specs.Head.{formIn, allowedHead}
+use Rattle.heads.proofs.Rounds.{passed}
+use Rattle.heads.proofs.Values.{form-listed, divisor-small, clock-ok}
 use Rattle.heads.specs.Head.{headReadCode}
 use Rattle.hearing.specs.declared.Tally.{Tally}
 use Rattle.spans.specs.declared.Span.{Span}
@@ -27,15 +27,11 @@ use Rattle.lines.specs.Due.{dueLines, sized, Telling, silentWith, telling, tell
 use Rattle.lines.proofs.Dues.{is-sized, telling-sized}
 use Rattle.hearing.specs.Hearing.{tallyInRange, reaching}
 use Rattle.hearing.specs.Inside.{Counted}
-use Rattle.spans.specs.Eating.{headOk, validSpan, headOf, withTally, lacking, headTaken, headLines}
+use Rattle.spans.specs.Eating.{headWants, headLacks, headOk, validSpan, headOf, withTally, lacking, headFilled}
+use Rattle.spans.specs.Eating.{headWantsBy, headTaken, headLines}
 use Rattle.spans.specs.Eating.{headRead, heardLines, heardSpan, Eating, refused, silently, saying, opening}
 use Rattle.spans.specs.Eating.{openingBy, listening, listeningBy, eatingOf, lastLines, finishingOf}
 use Rattle.spans.specs.Inside.{dueNow}
-
--- the number of what was read is the code
-pub code-said : (o : Opened) (s : List ℕ) → openedSays o ≡ headReadingOf s → openedSays o .code ≡ headReadCode s
-unfolding headReadingOf
-code-said o s e = ap (λ (r : HeadReading). r .code) e
 
 pub valid-by : (s : Span) {a b c : Bool} → s .stopped ≡ a → tallyInRange (s .tally) ≡ b → headOk s ≡ c → validSpan s ≡ a || (b && c)
 unfolding validSpan
@@ -43,13 +39,13 @@ valid-by s p q r = cc
 
 -- ---- the head
 
-pub lacked : (s : Span) (piece : List ℕ) (k : ℕ) → k ≡ min (headLength - s .came) (length piece) → k ≡ length (take k piece)
-lacked s piece k is = sym (length-take-le k piece (omega arith))
+pub lacked : (all : ℕ) (s : Span) (piece : List ℕ) (k : ℕ) → k ≡ lacking all s piece → k ≡ length (take k piece)
+lacked all s piece k is = sym (length-take-le k piece (omega arith))
 
-pub head-taken : (s : Span) (piece head : List ℕ) (k : ℕ) → k ≡ min (headLength - s .came) (length piece)
+pub head-filled : (all : ℕ) (s : Span) (piece head : List ℕ) (k : ℕ) → k ≡ lacking all s piece
     → head ≡ sets (s .head) (s .came) (take k piece)
-    → record { stopped = false; came = s .came + k; head = head; tally = s .tally } ≡ headTaken s piece
-head-taken s piece head k is stored = rw (stored, is)
+    → record { stopped = false; came = s .came + k; head = head; tally = s .tally } ≡ headFilled all s piece
+head-filled all s piece head k is stored = rw (stored, is)
 
 -- ---- the lines that are due
 
@@ -60,6 +56,7 @@ due-sized h t ending ok c =
       position = c .position;
       pairs = is-listed-form (formIn h) (form-listed h ok) .few;
       divisor = divisor-small h ok;
+      clock = clock-ok h ok;
       heard = c .least;
     })
 
@@ -114,18 +111,19 @@ pub opening-by : (s : Span) (piece : List ℕ) (room : ℕ) (after : Span) → a
     → opening s piece room ≡ openingBy s room (after .came - s .came) after
 unfolding opening
 opening-by s piece room after is =
-    let came : after .came ≡ s .came + lacking s piece = ap (λ (x : Span). x .came) is in
-    let count : after .came - s .came ≡ lacking s piece = omega arith in
-    ap (λ (x : Span). openingBy s room (lacking s piece) x) (sym is) ∙ ap (λ (n : ℕ). openingBy s room n after) (sym count)
+    let n : ℕ = lacking (headWantsBy s piece) s piece in
+    let came : after .came ≡ s .came + n = ap (λ (x : Span). x .came) is in
+    let count : after .came - s .came ≡ n = omega arith in
+    ap (λ (x : Span). openingBy s room n x) (sym is) ∙ ap (λ (k : ℕ). openingBy s room k after) (sym count)
 
 -- a head that is not whole
-pub opening-waits : (s after : Span) (room n : ℕ) → after .came < headLength → openingBy s room n after ≡ silently 0 n after
-opening-waits s after room n h = rw (lt-ltb (after .came) headLength h)
+pub opening-waits : (s after : Span) (room n : ℕ) → headLacks after ≡ true → openingBy s room n after ≡ silently 0 n after
+opening-waits s after room n h = rw h
 
 -- a whole head
-pub opening-says : (s after : Span) (room n code : ℕ) → headLength ≤ after .came → code ≡ headReadCode (after .head)
+pub opening-says : (s after : Span) (room n code : ℕ) → headLacks after ≡ false → code ≡ headReadCode (after .head)
     → openingBy s room n after ≡ saying s room n (headLines code) (headRead code after)
-opening-says s after room n code h is = rw (le-ltb (after .came) headLength h, is)
+opening-says s after room n code h is = rw (h, is)
 
 pub listening-by : (s : Span) (piece : List ℕ) (room : ℕ) (r : Reach) → r ≡ reaching 0 (formIn (headOf s)) (s .tally) piece
     → listening s piece room ≡ listeningBy s room r
@@ -182,12 +180,12 @@ module _ (s : Span) (ok : validSpan s ≡ true) (goes : s .stopped ≡ false) wh
   valid-range = and-left (tallyInRange (s .tally)) (headOk s) unbroken
 
   -- the head of a valid span that has all of it is one that may be written
-  pub valid-head : headLength ≤ s .came → allowedHead (headOf s) ≡ true
+  pub valid-head : headLacks s ≡ false → allowedHead (headOf s) ≡ true
   valid-head whole =
       let here : headOk s ≡ true = and-right (tallyInRange (s .tally)) (headOk s) unbroken in
-      let read : eqb (s .came) headLength && eqb (headReadCode (s .head)) 1 ≡ true
-      = or-rest (ltb (s .came) headLength) _ here (le-ltb (s .came) headLength whole) in
-      passed (s .head) (eqb-true _ _ (and-right (eqb (s .came) headLength) (eqb (headReadCode (s .head)) 1) read)) .ok
+      let all : Bool = eqb (s .came) (headWants (s .came) (s .head)) in
+      let read : all && eqb (headReadCode (s .head)) 1 ≡ true = or-rest (headLacks s) _ here whole in
+      passed (s .head) (eqb-true _ _ (and-right all (eqb (headReadCode (s .head)) 1) read)) .ok
 
 -- ---- which part of a call
 
@@ -200,13 +198,13 @@ module _ (s : Span) (piece : List ℕ) (room′ : ℕ) where
   unfolding eatingOf
   eating-stopped v p = rw (v, p)
 
-  pub eating-head : validSpan s ≡ true → s .stopped ≡ false → s .came < headLength → eatingOf s piece room′ ≡ opening s piece room′
+  pub eating-head : validSpan s ≡ true → s .stopped ≡ false → headLacks s ≡ true → eatingOf s piece room′ ≡ opening s piece room′
   unfolding eatingOf
-  eating-head v p h = rw (v, p, lt-ltb (s .came) headLength h)
+  eating-head v p h = rw (v, p, h)
 
-  pub eating-packets : validSpan s ≡ true → s .stopped ≡ false → headLength ≤ s .came → eatingOf s piece room′ ≡ listening s piece room′
+  pub eating-packets : validSpan s ≡ true → s .stopped ≡ false → headLacks s ≡ false → eatingOf s piece room′ ≡ listening s piece room′
   unfolding eatingOf
-  eating-packets v p h = rw (v, p, le-ltb (s .came) headLength h)
+  eating-packets v p h = rw (v, p, h)
 
 module _ (s : Span) (room′ : ℕ) where
   pub finishing-broken : validSpan s ≡ false → finishingOf s room′ ≡ silentWith 21

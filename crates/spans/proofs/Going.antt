@@ -5,12 +5,11 @@ use mathlib.Core.Bool.{true, false, _&&_, not}
 use mathlib.Core.List.{List, [], _∷_}
 use native.Mathlib.Decide.{decLt}
 use native.Mathlib.Omega.{arith}
-use lib.Dec.{eqb, ltb}
+use lib.Dec.{eqb}
 use lib.ListN.{length}
 use borrow.Author.Tests.{lt-ltb, eq-eqb}
 use Rattle.wire.proofs.Laws.{pick-keeps, or-right, or-left, and-both}
 use Rattle.packets.specs.declared.Form.{Form}
-use Rattle.heads.specs.Head.{headLength}
 use Rattle.heads.specs.Head.{headReadCode}
 use Rattle.heads.proofs.Rounds.{passed}
 use Rattle.hearing.specs.declared.Tally.{Tally}
@@ -18,23 +17,24 @@ use Rattle.hearing.specs.declared.Reach.{Reach}
 use Rattle.spans.specs.declared.Span.{Span}
 use Rattle.hearing.specs.Hearing.{farthest, tallyInRange, takingByte, accepting, heardCode, closes, settled, reaching}
 use Rattle.hearing.specs.Inside.{Counted}
-use Rattle.spans.specs.Eating.{freshTally, freshSpan, headOk, validSpan, headOf}
+use Rattle.spans.specs.Eating.{tallyFrom, freshSpan, headLacks, headOk, validSpan, headOf}
 use Rattle.hearing.proofs.Reaches.{settled-at}
 use Rattle.hearing.proofs.Ranges.{counted-range}
 use Rattle.spans.proofs.Eats.{valid-by}
+use Rattle.spans.proofs.Filling.{wantsOf, wants-least}
 use Rattle.spans.proofs.Rooms.{Short}
 
 -- ---- spans that bytes have left
 
 -- A span that has not stopped, after so many bytes of input.
 pub record Going (s : Span) (used : ℕ) : Type 0 where
-  pub long : length (s .head) ≡ 14
-  pub head : s .came < headLength → (s .came ≡ used) × (s .tally ≡ freshTally)
-  pub packets : headLength ≤ s .came → (s .came ≡ headLength) × (headReadCode (s .head) ≡ 1) × (s .tally .begins + s .tally .came ≡ used)
+  pub long : length (s .head) ≡ 26
+  pub head : s .came < wantsOf s → (s .came ≡ used) × (s .tally ≡ tallyFrom 0)
+  pub packets : wantsOf s ≤ s .came → (s .came ≡ wantsOf s) × (headReadCode (s .head) ≡ 1) × (s .tally .begins + s .tally .came ≡ used)
   pub counted : Counted (s .tally)
 
-pub fresh-counted : Counted freshTally
-fresh-counted =
+pub fresh-counted : (begins : ℕ) → Counted (tallyFrom begins)
+fresh-counted begins =
     record {
       heard = omega arith;
       captures = omega arith;
@@ -45,29 +45,35 @@ fresh-counted =
     }
 
 pub fresh-going : Going freshSpan 0
-fresh-going = record { long = refl; head = λ h. (refl, refl); packets = λ h. absurd (omega arith); counted = fresh-counted }
+fresh-going =
+    record {
+      long = refl;
+      head = λ h. (refl, refl);
+      packets = λ h. absurd (omega (arith, wants-least 0 (freshSpan .head)));
+      counted = fresh-counted 0;
+    }
 
 module _ (s : Span) (used : ℕ) (g : Going s used) (near : used ≤ farthest) where
   near-end : s .tally .begins + s .tally .came ≤ farthest
-  near-end = elim (decLt (s .came) headLength) [ yes h ↦ opened (g .head h .1) | no h ↦ omega (arith, g .packets (omega arith) .2) ]
+  near-end = elim (decLt (s .came) (wantsOf s)) [ yes h ↦ opened (g .head h .1) | no h ↦ omega (arith, g .packets (omega arith) .2) ]
     where
-      opened : s .tally ≡ freshTally → s .tally .begins + s .tally .came ≤ farthest
+      opened : s .tally ≡ tallyFrom 0 → s .tally .begins + s .tally .came ≤ farthest
       opened e = omega (arith, ap (λ (t : Tally). t .begins) e, ap (λ (t : Tally). t .came) e)
 
   going-range : tallyInRange (s .tally) ≡ true
   going-range = counted-range (s .tally) (g .counted) near-end
 
   going-head : headOk s ≡ true
-  going-head = elim (decLt (s .came) headLength) [ yes h ↦ or-left _ _ (lt-ltb _ _ h) | no h ↦ whole (g .packets (omega arith)) ]
+  going-head = elim (decLt (s .came) (wantsOf s)) [ yes h ↦ or-left _ _ (lt-ltb _ _ h) | no h ↦ whole (g .packets (omega arith)) ]
     where
-      whole : (s .came ≡ headLength) × (headReadCode (s .head) ≡ 1) × (s .tally .begins + s .tally .came ≡ used) → headOk s ≡ true
-      whole p = or-right (ltb (s .came) headLength) _ (and-both _ _ (eq-eqb _ _ (p .0)) (eq-eqb _ _ (p .1)))
+      whole : (s .came ≡ wantsOf s) × (headReadCode (s .head) ≡ 1) × (s .tally .begins + s .tally .came ≡ used) → headOk s ≡ true
+      whole p = or-right (headLacks s) _ (and-both _ _ (eq-eqb _ _ (p .0)) (eq-eqb _ _ (p .1)))
 
   pub going-valid : s .stopped ≡ false → validSpan s ≡ true
   going-valid e = valid-by s e going-range going-head
 
   -- its lines are short
-  pub going-short : headLength ≤ s .came → Short (headOf s) (s .tally)
+  pub going-short : wantsOf s ≤ s .came → Short (headOf s) (s .tally)
   going-short whole =
       record {
         ok = passed (s .head) (g .packets whole .1) .ok;

@@ -7,108 +7,140 @@ use native.Mathlib.Decide.{decLt}
 use native.Mathlib.Omega.{arith}
 use lib.Dec.{eqb}
 use lib.ListN.{length, take, drop, replicate, length-drop}
-use lib.Seq.{sets, length-take-le}
+use lib.Seq.{sets, length-sets, length-take-le}
 use borrow.Author.Tests.{lt-ltb, le-ltb, eqb-true}
 use Rattle.wire.specs.Choice.{pick}
 use Rattle.wire.specs.Lists.{allBytes, joined}
 use Rattle.wire.specs.Number.{number, field}
 use Rattle.wire.proofs.Lists.{bytes-drop}
 use Rattle.wire.proofs.Numbers.{field-front}
-use Rattle.wire.proofs.Stores.{sets-whole}
+use Rattle.wire.proofs.Stores.{sets-taken}
 use Rattle.heads.specs.declared.Head.{Head}
-use Rattle.heads.specs.Head.{mark, version, headLength, allowedHead, headIn}
+use Rattle.heads.specs.Head.{mark, isVersion, headLength, headLengthIn, versionIn, headIn}
 use Rattle.heads.specs.Head.{headReadCode}
-use Rattle.heads.proofs.Codes.{code-by}
-use Rattle.heads.proofs.Rounds.{passed, form-listed}
+use Rattle.heads.proofs.Codes.{code-by, longer, most-long}
+use Rattle.heads.proofs.Fronts.{same-code, same-head}
+use Rattle.heads.proofs.Rounds.{passed}
+use Rattle.heads.proofs.Values.{form-listed}
 use Rattle.spans.specs.declared.Span.{Span}
 use Rattle.lines.specs.Lines.{Line, textOf, openingLine, refusalLine}
-use Rattle.spans.specs.Report.{nothing, packetsIn, linesFrom, linesOf, report}
-use Rattle.spans.specs.Eating.{freshTally, freshSpan, lacking, headTaken, headLines}
+use Rattle.spans.specs.Report.{nothing, packetLines, linesOf, report}
+use Rattle.spans.specs.Eating.{tallyFrom, freshSpan, headLacks, headOf, lacking, headWantsBy, headTaken, headLines}
 use Rattle.spans.specs.Pieces.{PrintsTheReport}
 use Rattle.spans.proofs.Telling.{ifOne, comingBy}
-use Rattle.spans.proofs.Cuts.{filled, comingHead, coming, coming-head, headComing, printed-is}
+use Rattle.spans.proofs.Filling.{wantsOf, wants-many, wants-least, by-least, by-is, early-lacks, late-whole}
+use Rattle.spans.proofs.Cuts.{comingHead, coming, coming-head, headComing, printed-is}
 use Rattle.spans.proofs.Reported.{Knows, coming-lines}
 
--- ---- a head in the first 14 bytes
+-- ---- a head that begins an input
 
--- a field within the first 14 bytes
-field-head : (at n : ℕ) (s : List ℕ) → at + n ≤ headLength → field at n (take headLength s) ≡ field at n s
-field-head at n s inside = field-front at n headLength s inside
+abbrev zeros : List ℕ
+zeros = replicate 26 0
 
-head-taken-in : (s : List ℕ) → headIn (take headLength s) ≡ headIn s
-head-taken-in s =
-    rw (field-head 5 2 s (omega arith), field-head 7 5 s (omega arith), field-head 12 1 s (omega arith), field-head 13 1 s (omega arith))
+-- the first bytes of an input, stored where there were zeros
+stored-front : (k : ℕ) (input : List ℕ) → k ≤ 26 → k ≤ length input → take k (sets zeros 0 (take k input)) ≡ take k input
+stored-front k input few there =
+    let long : length (take k input) ≡ k = length-take-le k input there in
+    ap (λ (n : ℕ). take n (sets zeros 0 (take k input))) (sym long) ∙ sets-taken zeros 0 (take k input) (omega (arith, long))
 
-head-code-taken : (s : List ℕ) → headLength ≤ length s → headReadCode (take headLength s) ≡ headReadCode s
-head-code-taken s long =
-    code-by (take headLength s) (le-ltb (length (take headLength s)) headLength (omega (arith, length-take-le headLength s long)))
-    (ap (λ (n : ℕ). eqb n (number mark)) (field-head 0 3 s (omega arith)))
-    (ap (λ (n : ℕ). eqb n version) (field-head 3 2 s (omega arith)))
-    (ap allowedHead (head-taken-in s))
-    ∙ sym (code-by s (le-ltb (length s) headLength long) refl refl refl)
-
--- ---- the whole input
-
-nothing-known : Knows freshTally nothing
-nothing-known = record { came = refl; offset = refl; captures = refl; heard = refl; position = refl; allowed = omega arith; stepped = tt }
+nothing-known : (begins : ℕ) → Knows (tallyFrom begins) (nothing begins)
+nothing-known begins =
+    record { came = refl; offset = refl; captures = refl; heard = refl; position = refl; allowed = omega arith; stepped = tt }
 
 module _ (input : List ℕ) where
-  -- the head is cut off
-  cut-head : length input < headLength → comingHead freshSpan input ≡ linesOf input
+  abbrev all : ℕ
+  all = headLengthIn input
+
+  -- 14 bytes tell how many the head has
+  wants-all : 14 ≤ length input → headWantsBy freshSpan input ≡ all
+  wants-all some =
+      let k : ℕ = lacking 26 freshSpan input in
+      let head : List ℕ = sets zeros 0 (take k input) in
+      let version : versionIn head ≡ versionIn input
+      = sym (field-front 3 2 k head (omega arith))
+      ∙ ap (field 3 2) (stored-front k input (omega arith) (omega arith))
+      ∙ field-front 3 2 k input (omega arith) in
+      by-is freshSpan input ∙ wants-many (0 + k) head (omega arith) ∙ ap headLength version
+
+  -- the head is cut off: under 14 bytes, or under 26 of version 2
+  cut-code : length input < headWantsBy freshSpan input → headReadCode input ≡ 40
+  cut-code short =
+      elim (decLt (length input) 14) [
+        | yes few ↦ code-by input (lt-ltb (length input) 14 few) refl refl refl refl
+        | no few ↦ second (omega arith) (eqb (field 0 3 input) (number mark)) refl
+      ]
+    where
+      second : 14 ≤ length input → (marked : Bool) → eqb (field 0 3 input) (number mark) ≡ marked → headReadCode input ≡ 40
+      second some false other = code-by input (le-ltb (length input) 14 some) other refl refl refl
+      second some true marked =
+          let less : length input < all = omega (arith, short, wants-all some) in
+          let two : eqb (versionIn input) 2 ≡ true = longer (versionIn input) (omega arith) in
+          code-by input (le-ltb (length input) 14 some) marked (ap isVersion (eqb-true (versionIn input) 2 two))
+          (lt-ltb (length input) all less) refl
+
+  cut-head : length input < headWantsBy freshSpan input → comingHead freshSpan input ≡ linesOf input
   unfolding linesOf
   cut-head short =
-      let code : headReadCode input ≡ 40 = code-by input (lt-ltb (length input) headLength short) refl refl refl in
-      rw (lt-ltb (headTaken freshSpan input .came) headLength (omega arith), code)
-
-  -- the head is whole
-  abbrev first : List ℕ
-  first = take headLength input
+      let after : Span = headTaken freshSpan input in
+      rw (lt-ltb (after .came) (wantsOf after) (early-lacks freshSpan input [] (omega (arith, short))), cut-code short)
 
   abbrev rest : List ℕ
-  rest = drop headLength input
+  rest = drop all input
 
   -- a head that reads with a code, and the packets behind it
-  abbrev byHead : ℕ → Head → List ℕ → List Line
-  byHead code h left = headLines code ++ ifOne code (comingBy h freshTally left)
+  abbrev byHead : ℕ → Head → ℕ → List ℕ → List Line
+  byHead code h begins left = headLines code ++ ifOne code (comingBy h (tallyFrom begins) left)
 
-  module _ (long : headLength ≤ length input) where
-    lacks : lacking freshSpan input ≡ headLength
-    lacks = omega arith
+  -- the head is whole
+  module _ (late : headWantsBy freshSpan input ≤ length input) where
+    wants : headWantsBy freshSpan input ≡ all
+    wants = wants-all (omega (arith, late, by-least freshSpan input))
 
-    head : headTaken freshSpan input ≡ filled freshSpan headLength first
-    head =
-        let whole = sets-whole (replicate 14 0) first (length-take-le headLength input long) in
-        ap (λ (k : ℕ). filled freshSpan (0 + k) (sets (replicate 14 0) 0 (take k input))) lacks ∙ ap (filled freshSpan headLength) whole
+    count : lacking (headWantsBy freshSpan input) freshSpan input ≡ all
+    count = omega (arith, late, wants)
 
-    after-head : comingHead freshSpan input ≡ byHead (headReadCode input) (headIn input) rest
+    abbrev first : List ℕ
+    first = sets zeros 0 (take all input)
+
+    alike : take all input ≡ take all first
+    alike = sym (stored-front all input (most-long (versionIn input)) (omega (arith, late, wants)))
+
+    few : 0 < wantsOf freshSpan
+    few = omega (arith, wants-least 0 zeros)
+
+    after-head : comingHead freshSpan input ≡ byHead (headReadCode input) (headIn input) all rest
     after-head =
-        ap (λ (x : Span). headComing x (drop (lacking freshSpan input) input)) head
-        ∙ ap (λ (k : ℕ). byHead (headReadCode first) (headIn first) (drop k input)) lacks
-        ∙ ap (λ (c : ℕ). byHead c (headIn first) rest) (head-code-taken input long)
-        ∙ ap (λ (h : Head). byHead (headReadCode input) h rest) (head-taken-in input)
+        let after : Span = headTaken freshSpan input in
+        let n : ℕ = lacking (headWantsBy freshSpan input) freshSpan input in
+        let reached : after .came ≡ n = omega arith in
+        let none : headLacks after ≡ false = le-ltb (after .came) (wantsOf after) (omega (arith, late-whole freshSpan input few (omega (arith, late)))) in
+        let reach : all ≤ length first
+        = rw (length-sets zeros 0 (take all input)) (most-long (versionIn input)) in
+        (rw none)
+        ∙ ap (λ (k : ℕ). byHead (headReadCode (after .head)) (headOf after) k (drop n input)) reached
+        ∙ ap (λ (k : ℕ). byHead (headReadCode (sets zeros 0 (take k input))) (headIn (sets zeros 0 (take k input))) k (drop k input)) count
+        ∙ ap (λ (c : ℕ). byHead c (headIn first) all rest) (sym (same-code input first alike (omega (arith, late, wants)) reach))
+        ∙ ap (λ (h : Head). byHead (headReadCode input) h all rest) (sym (same-head input first alike))
 
     whole-head : allBytes input → comingHead freshSpan input ≡ linesOf input
     unfolding linesOf
     whole-head small = after-head ∙ by (eqb (headReadCode input) 1) refl
       where
-        packets : List Line
-        packets = linesFrom (headIn input) nothing (packetsIn (length input) rest)
-
         by : (one : Bool) → eqb (headReadCode input) 1 ≡ one
-            → byHead (headReadCode input) (headIn input) rest
-            ≡ openingLine ∷ pick (eqb (headReadCode input) 1) packets (refusalLine (headReadCode input) 0 ∷ [])
+            → byHead (headReadCode input) (headIn input) all rest
+            ≡ openingLine ∷ pick (eqb (headReadCode input) 1) (packetLines input) (refusalLine (headReadCode input) 0 ∷ [])
         by true e =
             let form = form-listed (headIn input) (passed input (eqb-true (headReadCode input) 1 e) .ok) in
-            let few : length rest ≤ length input = simp length-drop (omega arith) in
-            let small-rest = bytes-drop headLength input small in
-            let same = coming-lines (length input) (headIn input) form freshTally nothing rest few nothing-known small-rest in
+            let less : length rest ≤ length input = simp length-drop (omega arith) in
+            let small-rest = bytes-drop all input small in
+            let same = coming-lines (length input) (headIn input) form (tallyFrom all) (nothing all) rest less (nothing-known all) small-rest in
             rw e (ap (λ (ls : List Line). openingLine ∷ ls) same)
         by false e = rw e
 
   pub coming-input : allBytes input → coming freshSpan input ≡ linesOf input
   coming-input small =
-      coming-head freshSpan input refl (omega arith)
-      ∙ elim (decLt (length input) headLength) [ yes short ↦ cut-head short | no short ↦ whole-head (omega arith) small ]
+      coming-head freshSpan input refl (omega (arith, wants-least 0 zeros))
+      ∙ elim (decLt (length input) (headWantsBy freshSpan input)) [ yes short ↦ cut-head short | no short ↦ whole-head (omega arith) small ]
 
 pub report-is : PrintsTheReport
 unfolding report

@@ -1,4 +1,5 @@
 pub mod Examples
+pub mod Filling
 pub mod Eats
 pub mod Within
 pub mod Telling

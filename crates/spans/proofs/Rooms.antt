@@ -13,11 +13,12 @@ use Rattle.packets.specs.Missed.{missedOf}
 use Rattle.packets.proofs.Forms.{is-listed-form}
 use Rattle.heads.specs.declared.Head.{Head}
 use Rattle.heads.specs.Head.{formIn, allowedHead}
-use Rattle.heads.proofs.Rounds.{form-listed, divisor-small}
+use Rattle.heads.proofs.Values.{form-listed, divisor-small, clock-ok}
 use Rattle.hearing.specs.declared.Tally.{Tally}
 use Rattle.lines.specs.Lines.{Line, textOf, openingLine, samplesOver, endTime, captureLine, refusalLine, endLine}
 use Rattle.spans.specs.Eating.{headLines, endedNow, heardLines}
-use Rattle.lines.proofs.Dues.{text-append, samples-fit, time-fits}
+use Rattle.lines.proofs.Dues.{text-append, samples-fit}
+use Rattle.lines.proofs.Times.{time-below}
 use Rattle.lines.proofs.Lengths.{allFit, line-length, text-length, refusal-length, end-length}
 use Rattle.spans.proofs.Telling.{endLines}
 
@@ -54,9 +55,9 @@ module _ (h : Head) (t : Tally) (s : Short h t) where
       let n : ℕ = samplesOver (formIn h) (t .position + 1) in
       let samples : n ≤ 1_024_000_000_000
       = samples-fit (t .position + 1) (formIn h .pairs) (omega (arith, s .position)) (form .few) in
-      let time : n * h .divisor ≤ 640_000_000_000_000 = time-fits n (h .divisor) samples (divisor-small h (s .ok)) in
-      let line : Line = captureLine (formIn h) (h .divisor) (t .captures) (t .heard) (t .position) (missedOf (t .heard) (t .position)) in
-      let over : allFit ((t .position + 1) ∷ n ∷ endTime (h .divisor) n ∷ missedOf (t .heard) (t .position) ∷ [])
+      let time = time-below n (h .divisor) samples (divisor-small h (s .ok)) (h .clock) (clock-ok h (s .ok)) in
+      let line : Line = captureLine (formIn h) (h .divisor) (h .clock) (t .captures) (t .heard) (t .position) (missedOf (t .heard) (t .position)) in
+      let over : allFit ((t .position + 1) ∷ n ∷ endTime (h .divisor) (h .clock) n ∷ missedOf (t .heard) (t .position) ∷ [])
       = (omega (arith, s .position), (omega (arith, samples), (omega (arith, time), (omega (arith, s .position), tt)))) in
       let fit : allFit (line .numbers)
       = (s .captures, (omega (arith, form .narrow), (omega (arith, form .few), (s .heard, over)))) in

@@ -9,7 +9,7 @@ use lib.ListN.{length}
 use borrow.Author.Tests.{ltb-false}
 use Rattle.wire.proofs.Laws.{pick-keeps}
 use Rattle.packets.specs.declared.Form.{Form}
-use Rattle.heads.specs.Head.{headLength, formIn}
+use Rattle.heads.specs.Head.{formIn}
 use Rattle.heads.specs.Head.{headReadCode}
 use Rattle.hearing.specs.declared.Tally.{Tally}
 use Rattle.hearing.specs.declared.Reach.{Reach}
@@ -17,7 +17,7 @@ use Rattle.spans.specs.declared.Span.{Span}
 use Rattle.lines.specs.Lines.{Line, textOf}
 use Rattle.lines.specs.Due.{Telling, silentWith, telling}
 use Rattle.hearing.specs.Hearing.{takingByte, settled, reaching}
-use Rattle.spans.specs.Eating.{validSpan, headOf, lacking, headTaken, headLines, headRead, heardLines, heardSpan}
+use Rattle.spans.specs.Eating.{validSpan, headOf, headLacks, lacking, headWantsBy, headTaken, headLines, headRead, heardLines, heardSpan}
 use Rattle.spans.specs.Eating.{Eating, refused, silently, saying, opening, listening, eatingOf, lastLines, finishingOf}
 use Rattle.hearing.proofs.Reaches.{settled-at}
 
@@ -53,8 +53,9 @@ module _ (s : Span) (piece : List ℕ) (room : ℕ) where
   opening-within =
       let after : Span = headTaken s piece in
       let code : ℕ = headReadCode (after .head) in
-      pick-keeps (Within piece room) (ltb (after .came) headLength) _ _ (λ e. silently-within 0 (lacking s piece) after (omega arith))
-      (λ e. saying-within (lacking s piece) (headLines code) (headRead code after) (omega arith))
+      let n : ℕ = lacking (headWantsBy s piece) s piece in
+      pick-keeps (Within piece room) (headLacks after) _ _ (λ e. silently-within 0 n after (omega arith))
+      (λ e. saying-within n (headLines code) (headRead code after) (omega arith))
 
   listening-within : Within piece room (listening s piece room)
   unfolding listening
@@ -70,7 +71,7 @@ module _ (s : Span) (piece : List ℕ) (room : ℕ) where
       pick-keeps (Within piece room) (not (validSpan s)) _ _ (λ e. refused-within 21)
       (λ e.
       pick-keeps (Within piece room) (s .stopped) _ _ (λ q. silently-within 2 (length piece) s (omega arith))
-      (λ q. pick-keeps (Within piece room) (ltb (s .came) headLength) _ _ (λ h. opening-within) (λ h. listening-within)))
+      (λ q. pick-keeps (Within piece room) (headLacks s) _ _ (λ h. opening-within) (λ h. listening-within)))
 
 pub record TellsWithin (room : ℕ) (t : Telling) : Type 0 where
   pub wrote : t .answer .wrote ≤ room

@@ -11,7 +11,7 @@ use Rattle.wire.specs.Choice.{pick}
 use Rattle.wire.specs.Codes as Code
 use Rattle.packets.specs.Missed.{missedOf}
 use Rattle.heads.specs.declared.Head.{Head}
-use Rattle.heads.specs.Head.{headLength, formIn, headIn}
+use Rattle.heads.specs.Head.{headLength, headLengthIn, formIn, headIn}
 use Rattle.heads.specs.Head.{headReadCode}
 use Rattle.hearing.specs.declared.Tally.{Tally}
 use Rattle.hearing.specs.declared.Reach.{Reach}
@@ -23,16 +23,25 @@ use Rattle.hearing.specs.Hearing.{tallyInRange, nextTally, reaching}
 
 -- ---- spans
 
--- nothing heard, after the head
-abbrev pub freshTally : Tally
-freshTally = record { begins = headLength; came = 0; header = 0; number = 0; captures = 0; heard = 0; position = 0 }
+-- nothing heard, where packets begin at an input byte
+abbrev pub tallyFrom : ℕ → Tally
+tallyFrom begins = record { begins = begins; came = 0; header = 0; number = 0; captures = 0; heard = 0; position = 0 }
 
+-- where they begin is known once the head is whole
 abbrev pub freshSpan : Span
-freshSpan = record { stopped = false; came = 0; head = replicate 14 0; tally = freshTally }
+freshSpan = record { stopped = false; came = 0; head = replicate 26 0; tally = tallyFrom 0 }
+
+-- How many bytes a head has, of which so many have come: its version stands in the first 14, which every head has.
+unfoldable pub headWants : ℕ → List ℕ → ℕ
+headWants came head = pick (ltb came (headLength 1)) (headLength 1) (headLengthIn head)
+
+-- bytes of the head are still to come
+abbrev pub headLacks : Span → Bool
+headLacks s = ltb (s .came) (headWants (s .came) (s .head))
 
 -- the head is still coming, or is whole and one that is read
 abbrev pub headOk : Span → Bool
-headOk s = ltb (s .came) headLength || (eqb (s .came) headLength && eqb (headReadCode (s .head)) Code.done)
+headOk s = headLacks s || (eqb (s .came) (headWants (s .came) (s .head)) && eqb (headReadCode (s .head)) Code.done)
 
 -- A span that has not stopped is broken (21) where a count of its tally is out of its range, or its head is whole and one
 -- that is refused. All else is taken as it is, whether or not some bytes leave it.
@@ -73,41 +82,48 @@ sayingAll n lines after =
 abbrev pub saying : Span → ℕ → ℕ → List Line → Span → Eating
 saying s room n lines after = pick (ltb room (length (textOf lines))) (refused Code.noRoom s) (sayingAll n lines after)
 
--- The head: as many bytes as it lacks are taken of a piece.
-abbrev pub lacking : Span → List ℕ → ℕ
-lacking s piece = min (headLength - s .came) (length piece)
+-- The head, if it has so many bytes: as many as it lacks are taken of a piece.
+abbrev pub lacking : ℕ → Span → List ℕ → ℕ
+lacking all s piece = min (all - s .came) (length piece)
 
-abbrev pub headTaken : Span → List ℕ → Span
-headTaken s piece =
+abbrev pub headFilled : ℕ → Span → List ℕ → Span
+headFilled all s piece =
     record {
       stopped = false;
-      came = s .came + lacking s piece;
-      head = sets (s .head) (s .came) (take (lacking s piece) piece);
+      came = s .came + lacking all s piece;
+      head = sets (s .head) (s .came) (take (lacking all s piece) piece);
       tally = s .tally;
     }
+
+-- how many it has: the version is looked up in as many as the longest has
+unfoldable pub headWantsBy : Span → List ℕ → ℕ
+headWantsBy s piece = headWants (headFilled (headLength 2) s piece .came) (headFilled (headLength 2) s piece .head)
+
+abbrev pub headTaken : Span → List ℕ → Span
+headTaken s piece = headFilled (headWantsBy s piece) s piece
 
 -- the lines of a whole head that reads with a code: it begins at byte 0
 abbrev pub headLines : ℕ → List Line
 headLines code = openingLine ∷ pick (eqb code Code.done) [] (refusalLine code 0 ∷ [])
 
--- the span after a whole head that reads with a code: it stops where the head is refused
+-- the span after a whole head that reads with a code: it stops where the head is refused, and else the packets begin behind it
 abbrev pub headRead : ℕ → Span → Span
-headRead code s = record { stopped = not (eqb code Code.done); came = s .came; head = s .head; tally = s .tally }
+headRead code s = withTally (not (eqb code Code.done)) s (tallyFrom (s .came))
 
 -- a span s, after the n bytes that its head lacked of a piece
 abbrev pub openingBy : Span → ℕ → ℕ → Span → Eating
 openingBy s room n after =
-    pick (ltb (after .came) headLength) (silently Code.waiting n after)
+    pick (headLacks after) (silently Code.waiting n after)
     (saying s room n (headLines (headReadCode (after .head))) (headRead (headReadCode (after .head)) after))
 
 unfoldable pub opening : Span → List ℕ → ℕ → Eating
-opening s piece room = openingBy s room (lacking s piece) (headTaken s piece)
+opening s piece room = openingBy s room (lacking (headWantsBy s piece) s piece) (headTaken s piece)
 
 -- the line of the open capture
 abbrev pub endedNow : Head → Tally → List Line
 endedNow h t =
     pick (eqb (t .heard) 0) []
-    (captureLine (formIn h) (h .divisor) (t .captures) (t .heard) (t .position) (missedOf (t .heard) (t .position)) ∷ [])
+    (captureLine (formIn h) (h .divisor) (h .clock) (t .captures) (t .heard) (t .position) (missedOf (t .heard) (t .position)) ∷ [])
 
 -- Packets: where a line is due, the open capture ends; then a new one begins, or a packet is refused and the span stops.
 abbrev pub heardLines : Head → Reach → List Line
@@ -128,14 +144,14 @@ unfoldable pub eatingOf : Span → List ℕ → ℕ → Eating
 eatingOf s piece room =
     pick (not (validSpan s)) (refused Code.broken s)
     (pick (s .stopped) (silently Code.noReplyDue (length piece) s)
-    (pick (ltb (s .came) headLength) (opening s piece room) (listening s piece room)))
+    (pick (headLacks s) (opening s piece room) (listening s piece room)))
 
 -- ---- the end of the input
 
 -- A head or a packet that is cut off is refused with 40 or 30, and else the count of captures ends it all.
 abbrev pub lastLines : Span → List Line
 lastLines s =
-    pick (ltb (s .came) headLength) (openingLine ∷ refusalLine Code.notAHead 0 ∷ [])
+    pick (headLacks s) (openingLine ∷ refusalLine Code.notAHead 0 ∷ [])
     (endedNow (headOf s) (s .tally)
     ++ pick (eqb (s .tally .came) 0) (endLine (s .tally .captures) ∷ []) (refusalLine Code.notAPacket (s .tally .begins) ∷ []))
 

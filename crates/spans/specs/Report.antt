@@ -16,7 +16,7 @@ use Rattle.packets.specs.Missed.{stepsBy, missedOver}
 use Rattle.reader.specs.declared.Reader.{Reader}
 use Rattle.reader.specs.Reading.{silent, positionAfter, readingCode, readingOf}
 use Rattle.heads.specs.declared.Head.{Head}
-use Rattle.heads.specs.Head.{headLength, formIn, headIn}
+use Rattle.heads.specs.Head.{headLengthIn, formIn, headIn}
 use Rattle.heads.specs.Head.{headReadCode}
 use Rattle.lines.specs.Lines.{Line, textOf, openingLine, captureLine, refusalLine, endLine}
 
@@ -42,9 +42,9 @@ pub record Known : Type 0 where
   pub accepted : List ℕ
   pub offset : ℕ
 
--- nothing heard, after the head
-abbrev pub nothing : Known
-nothing = record { captures = 0; accepted = []; offset = headLength }
+-- nothing heard: the first packet begins at an input byte
+abbrev pub nothing : ℕ → Known
+nothing offset = record { captures = 0; accepted = []; offset = offset }
 
 -- "the list of steps": from each position to the next
 abbrev pub stepsOver : List ℕ → List ℕ
@@ -90,12 +90,12 @@ knownAfter h k packet =
 
 -- ---- the lines
 
--- the line of a capture that ends: packets heard are those accepted, positions are covered up to the last one's, and missed is
--- what the steps between them pass over
+-- the line of a capture that ends: packets heard are those accepted, positions are covered up to the last one's, the end time goes by
+-- the head's D and clock, and missed is what the steps between them pass over
 abbrev pub lineOf : Head → ℕ → List ℕ → List Line
 lineOf h capture [] = []
 lineOf h capture (last ∷ before) =
-    captureLine (formIn h) (h .divisor) capture (length (last ∷ before)) last (missedAmong (last ∷ before)) ∷ []
+    captureLine (formIn h) (h .divisor) (h .clock) capture (length (last ∷ before)) last (missedAmong (last ∷ before)) ∷ []
 
 -- the open capture's line
 abbrev pub ended : Head → Known → List Line
@@ -121,12 +121,15 @@ linesFrom h k (packet ∷ more) =
     pick (accepts h k packet) (atPacket h k packet ++ linesFrom h (knownAfter h k packet) more)
     (atRefusal h k (packetCode h k packet))
 
+-- the packets' lines, behind the head: "The span program reads both" versions (02, No. 9)
+abbrev pub packetLines : List ℕ → List Line
+packetLines input =
+    linesFrom (headIn input) (nothing (headLengthIn input)) (packetsIn (length input) (drop (headLengthIn input) input))
+
 -- the lines of a whole input: a head that is refused begins at byte 0
 unfoldable pub linesOf : List ℕ → List Line
 linesOf input =
-    openingLine
-    ∷ pick (eqb (headReadCode input) Code.done) (linesFrom (headIn input) nothing (packetsIn (length input) (drop headLength input)))
-    (refusalLine (headReadCode input) 0 ∷ [])
+    openingLine ∷ pick (eqb (headReadCode input) Code.done) (packetLines input) (refusalLine (headReadCode input) 0 ∷ [])
 
 -- what is printed
 unfoldable pub report : List ℕ → List ℕ

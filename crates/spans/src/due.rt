@@ -1,13 +1,13 @@
 // The lines that are due: after the head, where hearing was cut short, at the end of the input.
 ghost use mathlib.Core.Path.{_≡_};
-ghost use Prim.Native.Nat.{_≤_};
-ghost use mathlib.Core.Bool.{true};
-ghost use Rattle.heads.specs.Head.{allowedHead, headLength};
+ghost use mathlib.Core.Bool.{true, false};
+ghost use Rattle.heads.specs.Head.{allowedHead};
 ghost use Rattle.hearing.specs.Inside.{Counted};
 ghost use Rattle.lines.specs.Due.{dueLines, sized};
-ghost use Rattle.spans.specs.Eating.{headOf, headLines, heardLines, lastLines};
-ghost use Rattle.spans.specs.Inside.{dueNow};
+ghost use Rattle.spans.specs.Eating.{headOf, headLacks, headLines, heardLines, lastLines};
+ghost use Rattle.spans.specs.Inside.{dueFirst, dueNow};
 use crate::Span;
+use crate::head::lacks;
 use heads::Head;
 use hearing::Reach;
 use hearing::Tally;
@@ -17,9 +17,7 @@ use wire::codes;
 
 // The opening line, and what comes behind it; no capture has ended.
 fn opening_due(ending: Ending) -> Due
-    ensures { λ r.
-        ⌜ r
-        ≡ record { opening = true; capture = 0; bits = 0; pairs = 0; divisor = 0; heard = 0; position = 0; ending = ending } ⌝ }
+    ensures { λ r. ⌜ r ≡ dueFirst ending ⌝ }
 {
     Due {
         opening: true,
@@ -27,6 +25,7 @@ fn opening_due(ending: Ending) -> Due
         bits: 0,
         pairs: 0,
         divisor: 0,
+        clock: heads::NOMINAL as u64,
         heard: 0,
         position: 0,
         ending,
@@ -54,6 +53,7 @@ fn ended_due(h: Head, t: Tally, ending: Ending) -> Due
         bits: f.bits,
         pairs: f.pairs,
         divisor: h.divisor as u64,
+        clock: h.clock as u64,
         heard: t.heard,
         position: t.position,
         ending,
@@ -78,10 +78,10 @@ pub(crate) fn heard_due(h: Head, r: Reach) -> Due
 
 // The lines that the end of the input brings.
 pub(crate) fn last_due(s: Span) -> Due
-    requires { ⌜ Counted (s .tally) × (headLength ≤ s .came → allowedHead (headOf s) ≡ true) ⌝ }
+    requires { ⌜ Counted (s .tally) × (headLacks s ≡ false → allowedHead (headOf s) ≡ true) ⌝ }
     ensures { λ d. ⌜ (dueLines d ≡ lastLines s) × (sized d ≡ true) ⌝ }
 {
-    if s.came < heads::LENGTH {
+    if lacks(s) {
         return head_due(codes::NOT_A_HEAD);
     }
     let head = s.head;

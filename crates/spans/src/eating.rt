@@ -1,12 +1,11 @@
 // A span takes its input in pieces.
 ghost use mathlib.Core.Path.{_≡_};
-ghost use Prim.Native.Nat.{_<_};
 ghost use mathlib.Core.Bool.{true};
 ghost use lib.ListN.{length};
 ghost use lib.Seq.{sets};
-ghost use Rattle.heads.specs.Head.{allowedHead, headLength};
+ghost use Rattle.heads.specs.Head.{allowedHead};
 ghost use Rattle.hearing.specs.Hearing.{tallyInRange};
-ghost use Rattle.spans.specs.Eating.{freshSpan, validSpan, headOf, refused, headRead};
+ghost use Rattle.spans.specs.Eating.{tallyFrom, freshSpan, validSpan, headLacks, headOf, refused, headRead};
 ghost use Rattle.spans.specs.Eating.{withTally, opening, listening, eatingOf, finishingOf};
 use crate::Eaten;
 use crate::Span;
@@ -15,6 +14,7 @@ use crate::due::heard_due;
 use crate::due::last_due;
 use crate::head::head_code;
 use crate::head::head_ok;
+use crate::head::lacks;
 use crate::head::take_head;
 use hearing::Tally;
 use lines::LinesAnswer;
@@ -27,16 +27,23 @@ pub fn fresh() -> Span
     Span {
         stopped: false,
         came: 0,
-        head: [0; 14],
-        tally: Tally {
-            begins: 14,
-            came: 0,
-            header: 0,
-            number: 0,
-            captures: 0,
-            heard: 0,
-            position: 0,
-        },
+        head: [0; 26],
+        tally: tally_from(0),
+    }
+}
+
+// Nothing heard, where packets begin at an input byte.
+fn tally_from(begins: u64) -> Tally
+    ensures { λ r. ⌜ r ≡ tallyFrom begins ⌝ }
+{
+    Tally {
+        begins,
+        came: 0,
+        header: 0,
+        number: 0,
+        captures: 0,
+        heard: 0,
+        position: 0,
     }
 }
 
@@ -78,23 +85,23 @@ fn with_tally(stopped: bool, s: Span, t: Tally) -> Span
     }
 }
 
-// The span after a whole head that reads with a code.
+// The span after a whole head that reads with a code: the packets begin behind it.
 fn after_head(code: u8, s: Span) -> Span
     ensures { λ r. ⌜ r ≡ headRead code s ⌝ }
 {
-    with_tally(code != codes::DONE, s, s.tally)
+    with_tally(code != codes::DONE, s, tally_from(s.came as u64))
 }
 
 // The head's part of a piece.
 fn open(s: Span, piece: &[u8], out: &mut [u8]) -> Eaten
-    requires { ⌜ s .came < headLength ⌝ }
+    requires { ⌜ headLacks s ≡ true ⌝ }
     ensures { λ r.
         ⌜ (r ≡ opening s (now (piece .entry)) (length (now (out .entry))) .eaten)
         × (now (out .exit) ≡ sets (now (out .entry)) 0 (opening s (now (piece .entry)) (length (now (out .entry))) .bytes)) ⌝ }
 {
     let after = take_head(s, piece);
     let k = after.came - s.came;
-    if after.came < heads::LENGTH {
+    if lacks(after) {
         return Eaten {
             code: codes::WAITING,
             consumed: k,
@@ -169,7 +176,7 @@ pub fn eat(s: Span, piece: &[u8], out: &mut [u8]) -> Eaten
             span: s,
         };
     }
-    if s.came < heads::LENGTH {
+    if lacks(s) {
         return open(s, piece, out);
     }
     listen(s, piece, out)

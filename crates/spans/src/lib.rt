@@ -14,7 +14,7 @@ pub struct Span {
     pub stopped: bool,
     // how many bytes of the head have come, and those bytes
     pub came: usize,
-    pub head: [u8; 14],
+    pub head: [u8; 26],
     pub tally: Tally,
 }
 

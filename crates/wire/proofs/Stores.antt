@@ -7,7 +7,7 @@ use native.Mathlib.Decide.{decLt}
 use native.Mathlib.Numerals.{add-one}
 use native.Mathlib.Omega.{arith}
 use lib.ListN.{length, getD, set, take, drop, length-take, length-drop, take-append-drop, drop-of-length-le}
-use lib.Seq.{sets, drop-cons, sets-eq, set-out, take-set-le, drop-set-lt, drop-set-add, take-all, take-append-seam, drop-at, length-take-le}
+use lib.Seq.{sets, drop-cons, drop-drop, sets-eq, set-out, take-set-le, drop-set-lt, drop-set-add, take-all, take-append-seam, drop-at, length-take-le}
 use borrow.Rule.Slice.PartMut.{midOf, putMid}
 
 module _ {A : Type 0} where
@@ -65,6 +65,13 @@ module _ {A : Type 0} where
       let before : take a s ≡ take a (sets s a vs) = sym (take-sets a s a vs (omega arith)) in
       rw (take-all k (drop a s) short, drop-of-length-le (drop a s) short, append-nil (sets (drop a s) 0 vs), part, before)
       (take-append-drop a (sets s a vs))
+
+  -- Writing all of a part is writing into the slice.
+  pub part-whole : (a k : ℕ) (s vs : List A) → length vs ≡ k → a + k ≤ length s → putMid a k s (sets (midOf a k s) 0 vs) ≡ sets s a vs
+  part-whole a k s vs long room =
+      let part : length (take k (drop a s)) ≡ k = length-take-le k (drop a s) (simp length-drop (omega arith)) in
+      rw (sets-whole (take k (drop a s)) vs (long ∙ sym part), drop-drop k a s, sets-eq vs s a (omega arith), long)
+      (sym (append-assoc (take a s) vs (drop (a + k) s)))
 
 -- the rest of a list, as a part of it
 pub rest-part : (i : ℕ) (l : List ℕ) → take (length l - i) (drop i l) ≡ drop i l

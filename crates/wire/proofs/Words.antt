@@ -1,7 +1,8 @@
 -- Numbers by words of four bytes. Assumes nothing.
-use Prim.Native.Nat.{ℕ, suc, _+_, _*_, _/_, _%_, _≤_, _<_}
-use mathlib.Core.Path.{_≡_, refl}
+use Prim.Native.Nat.{ℕ, zero, suc, _+_, _*_, _/_, _%_, _^_, _≤_, _<_}
+use mathlib.Core.Path.{_≡_, refl, ap, _∙_}
 use mathlib.Core.List.{List, [], _∷_, _++_}
+use native.Mathlib.Nat.{zero-add, add-zero, suc-add, mul-assoc, pow-succ'}
 use native.Mathlib.Omega.{arith}
 use native.Mathlib.Numerals.{add-one}
 use lib.ListN.{length, getD, set}
@@ -14,6 +15,18 @@ pub field-on : (s : List ℕ) (at k n : ℕ) → at + k < length s → field (at
 field-on s at k n h =
     let next : suc (at + k) ≡ at + suc k = omega arith in
     rw next at (field-step s (at + k) n h)
+
+-- a field in two parts
+pub field-split : (s : List ℕ) (at n m : ℕ) → at + n ≤ length s → field at (n + m) s ≡ field at n s + 256 ^ n * field (at + n) m s
+field-split s at zero m h = rw (zero-add m, add-zero at) (omega arith)
+field-split s at (suc n) m h =
+    let here : at < length s = omega arith in
+    let later = field-split s (suc at) n m (omega arith) in
+    let place : suc at + n ≡ at + suc n = omega arith in
+    let power : 256 ^ suc n * field (at + suc n) m s ≡ 256 * (256 ^ n * field (at + suc n) m s)
+    = ap (λ (k : ℕ). k * field (at + suc n) m s) (pow-succ' 256 n) ∙ mul-assoc 256 (256 ^ n) (field (at + suc n) m s) in
+    rw (suc-add n m, field-step s at (n + m) here, field-step s at n here)
+    (omega (arith, later, ap (λ (k : ℕ). 256 ^ n * field k m s) place, power))
 
 -- the four bytes at a place
 pub field-four : (s : List ℕ) (at : ℕ) → at + 4 ≤ length s

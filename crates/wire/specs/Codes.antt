@@ -105,6 +105,10 @@ notAHead = 40
 abbrev pub otherVersion : ℕ
 otherVersion = 41
 
+-- going back to version 1 would lose the serial or the clock (02, No. 9)
+abbrev pub wouldLose : ℕ
+wouldLose = 42
+
 -- The table's third column, "Written".
 pub data Written : Type 0 where
   nothing : Written
@@ -148,6 +152,7 @@ table =
     ∷ row pastLast nothing
     ∷ row notAHead nothing
     ∷ row otherVersion nothing
+    ∷ row wouldLose nothing
     ∷ []
 
 -- what an entry of the column stands for, where a reply, packet or value is `due`

@@ -50,3 +50,5 @@ pub const PAST_LAST: u8 = 33;
 pub const NOT_A_HEAD: u8 = 40;
 // head of another version
 pub const OTHER_VERSION: u8 = 41;
+// going back to version 1 would lose the serial or the clock (02, No. 9)
+pub const WOULD_LOSE: u8 = 42;

@@ -18,7 +18,7 @@ use outside::packet::number_at;
 use outside::random::Random;
 use outside::talk::{frequencies, kinds, Talk};
 use outside::timing::{best, head, row, runners, Rooms};
-use outside::{reader, station, Form, Head};
+use outside::{head, reader, span, station, Form, Head};
 
 #[cfg(proved)]
 use outside::proved::{cut_run, read_run, serve, Proved};
@@ -183,13 +183,27 @@ fn c_unpack(_: &[u8], _: &mut [i32]) -> (u8, usize) {
 
 // ---- the span program against cat
 
-/// A capture of about so many bytes: large packets of 24 bits, none lost.
-fn make_capture(path: &Path, bytes: u64) -> std::io::Result<u64> {
-    let form = Form::LARGE_24;
+/// The head of version 1, large packets of 24 bits, and one of version 2 that names a box and its clock.
+fn either_head() -> [Head; 2] {
+    let old = Head {
+        version: head::VERSION_1,
+        divisor: 100,
+        frequency: 14_010_000,
+        mode: 0x80,
+        size: 0,
+        serial: head::UNKNOWN,
+        clock: head::USUAL_CLOCK,
+    };
+    [old, Head { version: head::VERSION_2, serial: *b"MT123456", clock: 79_999_990, ..old }]
+}
+
+/// A capture of about so many bytes, no packet lost; answers how many packets.
+fn make_capture(path: &Path, head: &Head, bytes: u64) -> std::io::Result<u64> {
+    let form = head.form();
     let mut out = BufWriter::with_capacity(1 << 20, File::create(path)?);
-    let mut head = [0; 14];
-    let _ = Head { divisor: 100, frequency: 14_010_000, mode: 0x80, size: 0 }.write(&mut head);
-    out.write_all(&head)?;
+    let mut start = vec![0; head.length()];
+    let _ = head.write(&mut start);
+    out.write_all(&start)?;
     let mut packet = Random::new(3).bytes(form.total());
     packet[..2].copy_from_slice(&form.header());
     let count = bytes / form.total() as u64;
@@ -212,9 +226,9 @@ fn timed(command: &str, program: &str, file: &Path) -> (f64, String) {
     (took, String::from_utf8_lossy(&output.stdout).into_owned())
 }
 
-fn span(program: &str, folder: &Path, bytes: u64, rounds: usize) {
+fn span(program: &str, folder: &Path, head: &Head, bytes: u64, rounds: usize) {
     let file = folder.join("capture.spn");
-    let count = make_capture(&file, bytes).expect("room for the capture");
+    let count = make_capture(&file, head, bytes).expect("room for the capture");
     let rows = [
         ("span from a file, against `cat FILE > /dev/null`", r#""$1" < "$2""#, r#"cat "$2" > /dev/null"#, 1.05),
         (
@@ -228,12 +242,13 @@ fn span(program: &str, folder: &Path, bytes: u64, rounds: usize) {
         let (mut least, mut least_cat) = (f64::INFINITY, f64::INFINITY);
         for _ in 0..rounds {
             let (took, text) = timed(ours, program, &file);
-            assert_eq!(text, lines(count), "what span printed");
+            assert_eq!(text, lines(head, count), "what span printed");
             least = least.min(took);
             least_cat = least_cat.min(timed(cat, program, &file).0);
         }
         println!(
-            "| {what} | {:.0} | {:.0} | {:.2} | {wanted} |",
+            "| {what}, head of version {} | {:.0} | {:.0} | {:.2} | {wanted} |",
+            head.version,
             least * 1000.0,
             least_cat * 1000.0,
             least / least_cat
@@ -242,9 +257,9 @@ fn span(program: &str, folder: &Path, bytes: u64, rounds: usize) {
 }
 
 /// What span prints of the capture.
-fn lines(count: u64) -> String {
+fn lines(head: &Head, count: u64) -> String {
     let samples = count * 240;
-    format!("SPAN 1\nC 1 24 240 {count} {count} {samples} {} 0\nE 1\n", samples * 100 / 20)
+    format!("SPAN 1\nC 1 24 240 {count} {count} {samples} {} 0\nE 1\n", span::end_time(head, samples))
 }
 
 fn main() {
@@ -291,5 +306,7 @@ fn main() {
     };
     let (bytes, said, rounds) = if quick { (100_000_000, "100 MB", 3) } else { (1_000_000_000, "1 GB", 11) };
     println!("\n| ms for a capture of {said} | span | cat | span / cat | at most |\n|---|---|---|---|---|");
-    span(&program, Path::new(&folder), bytes, rounds);
+    for head in either_head() {
+        span(&program, Path::new(&folder), &head, bytes, rounds);
+    }
 }

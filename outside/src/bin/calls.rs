@@ -225,33 +225,45 @@ fn reply(what: &str, wishes: &[WishFields], replies: &[Vec<u8>], rounds: usize) 
     );
 }
 
-fn some_head(random: &mut Random) -> Head {
-    Head {
+/// A head of version 1, or one of version 2 that names a box and its clock.
+fn some_head(version: u32, random: &mut Random) -> Head {
+    let old = Head {
+        version,
         divisor: random.within(10, 625) as u32,
         frequency: random.within(100_000, 34_000_000),
         mode: random.of(&[0x80, 0x00]),
         size: random.of(&[0, 1]),
+        serial: head::UNKNOWN,
+        clock: head::USUAL_CLOCK,
+    };
+    if version == head::VERSION_1 {
+        return old;
     }
+    let serial = [0; 8].map(|_: u8| random.of(b"ABCXYZ019"));
+    Head { serial, clock: random.within(79_992_000, 80_008_000) as u32, ..old }
 }
 
-fn heads(rounds: usize) {
+/// Writes and reads heads of one version; answers their bytes.
+fn heads(version: u32, rounds: usize) -> Vec<u8> {
     fn write(library: impl Library, heads: &[Head], length: usize, bytes: &mut [u8]) -> u64 {
         let written = heads.iter().zip(bytes.chunks_exact_mut(length));
-        written.map(|(h, to)| u64::from(library.write_head(h.divisor, h.frequency, h.mode, h.size, to))).sum()
+        written.map(|(head, to)| u64::from(library.write_head(*head, to))).sum()
     }
     fn read(library: impl Library, bytes: &[u8], length: usize) -> u64 {
         let found = bytes.chunks_exact(length).map(|bytes| {
             let (code, head) = library.read_head(bytes);
-            u64::from(code) + u64::from(head.divisor) + head.frequency + u64::from(head.mode) + u64::from(head.size)
+            let fields = u64::from(code) + u64::from(head.divisor) + head.frequency + u64::from(head.mode);
+            let added = u64::from(head.version) + u64::from(head.clock);
+            (fields + u64::from(head.size) + added) ^ u64::from_le_bytes(head.serial)
         });
-        found.sum()
+        found.fold(0, u64::wrapping_add)
     }
     let mut random = Random::new(7);
-    let heads: Vec<Head> = (0..CALLS).map(|_| some_head(&mut random)).collect();
-    let length = black_box(head::LENGTH);
+    let heads: Vec<Head> = (0..CALLS).map(|_| some_head(version, &mut random)).collect();
+    let length = black_box(heads[0].length());
     let mut rooms = Rooms::new(CALLS * length);
     let found = time(
-        "write a capture head",
+        &format!("write a capture head, version {version}"),
         CALLS,
         rounds,
         || write(Proved, &heads, length, black_box(&mut rooms.proved)),
@@ -259,7 +271,49 @@ fn heads(rounds: usize) {
     );
     rooms.agree(&found);
     let bytes = &rooms.rust[..];
-    time("read a capture head", CALLS, rounds, || read(Proved, bytes, length), || read(Plain, bytes, length));
+    time(
+        &format!("read a capture head, version {version}"),
+        CALLS,
+        rounds,
+        || read(Proved, bytes, length),
+        || read(Plain, bytes, length),
+    );
+    bytes.to_vec()
+}
+
+/// Moves heads of version 1 to version 2 and back.
+fn moved(old: &[u8], rounds: usize) {
+    fn run(
+        by: impl Fn(&[u8], &mut [u8]) -> u8,
+        from: &[u8],
+        to: &mut [u8],
+        (length, length_after): (usize, usize),
+    ) -> u64 {
+        let heads = from.chunks_exact(length).zip(to.chunks_exact_mut(length_after));
+        heads.map(|(from, to)| u64::from(by(from, to))).sum()
+    }
+    let (length_1, length_2) = black_box((head::LENGTH_1, head::LENGTH_2));
+    let mut newer = Rooms::new(CALLS * length_2);
+    let up = (length_1, length_2);
+    let found = time(
+        "move a capture head to version 2",
+        CALLS,
+        rounds,
+        || run(|from, to| Proved.newer(from, to), old, black_box(&mut newer.proved), up),
+        || run(|from, to| Plain.newer(from, to), old, black_box(&mut newer.rust), up),
+    );
+    newer.agree(&found);
+    let mut older = Rooms::new(CALLS * length_1);
+    let down = (length_2, length_1);
+    let found = time(
+        "move a capture head to version 1",
+        CALLS,
+        rounds,
+        || run(|from, to| Proved.older(from, to), &newer.rust, black_box(&mut older.proved), down),
+        || run(|from, to| Plain.older(from, to), &newer.rust, black_box(&mut older.rust), down),
+    );
+    older.agree(&found);
+    assert!(older.rust[..] == old[..], "there and back is the same");
 }
 
 fn main() {
@@ -300,5 +354,7 @@ fn main() {
     let wishes = some_wishes(None);
     reply("NAK to any wish", &wishes, &vec![message::NAK.to_vec(); CALLS], rounds);
     reply("no reply to any wish", &wishes, &vec![vec![0; LONGEST_REPLY]; CALLS], rounds);
-    heads(rounds);
+    let old = heads(head::VERSION_1, rounds);
+    heads(head::VERSION_2, rounds);
+    moved(&old, rounds);
 }

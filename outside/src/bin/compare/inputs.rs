@@ -5,7 +5,7 @@ use outside::boundary::{ASK_VERSION, SET_CLOCK, SET_FREQUENCY, SET_GAIN, SET_RAT
 use outside::packet::number_at;
 use outside::random::Random;
 use outside::station::Settings;
-use outside::{rate, Form, Head, Reader, Station};
+use outside::{head, rate, Form, Head, Reader, Station};
 
 pub const FREQUENCIES: [u64; 14] = [
     99_999,
@@ -53,6 +53,12 @@ pub const RATES: [u64; 13] = [
     2_000_001,
     0xFFFF_FFFF,
 ];
+/// Clocks that a head of version 2 can name: the edges, the usual one and those beside them.
+pub const HEAD_CLOCKS: [u32; 7] = [79_992_000, 79_992_001, 79_999_999, 80_000_000, 80_000_001, 80_007_999, 80_008_000];
+/// Versions of a head: both, those beside them, their bytes changed over, and what 16 bits do not hold.
+pub const VERSIONS: [u32; 14] = [0, 1, 2, 3, 255, 256, 257, 258, 512, 513, 65_535, 65_536 + 1, 65_536 + 2, u32::MAX];
+/// Bytes at the edges of what a serial has.
+pub const SERIAL_BYTES: [u8; 12] = *b"\0\x01/09:@AZ[a\xFF";
 pub const GAINS: [u8; 8] = [0x00, 0xF6, 0xEC, 0xE2, 0x01, 0xF0, 0x80, 0xFF];
 pub const ITEMS: [u16; 11] = [0x01, 0x02, 0x03, 0x04, 0x05, 0x18, 0x20, 0x38, 0xB0, 0xB8, 0xC4];
 
@@ -550,28 +556,84 @@ pub fn answer(r: &mut Random, which: u64, value: u64) -> Vec<u8> {
     bytes
 }
 
+/// A head of either version that is allowed; of those of version 2 about every fifth can go back to version 1.
 pub fn head(r: &mut Random) -> Head {
-    let station = sound(r);
-    let s = &station.settings;
-    Head { divisor: s.divisor, frequency: s.first.frequency, mode: s.mode, size: s.size }
+    let s = sound(r).settings;
+    let old = Head {
+        version: head::VERSION_1,
+        divisor: s.divisor,
+        frequency: s.first.frequency,
+        mode: s.mode,
+        size: s.size,
+        serial: head::UNKNOWN,
+        clock: head::USUAL_CLOCK,
+    };
+    if r.once_in(2) {
+        return old;
+    }
+    let serial = if r.once_in(2) { head::UNKNOWN } else { s.serial };
+    let clock = if r.once_in(4) { r.of(&HEAD_CLOCKS) } else { s.clock };
+    Head { version: head::VERSION_2, serial, clock, ..old }
 }
 
-/// A capture as the span program gets it: losses, restarts, and at times what breaks it off.
+/// Puts one field of a head out of its range, or beside what its version can have.
+pub fn harm_head(r: &mut Random, head: &mut Head) {
+    match r.below(7) {
+        0 => head.divisor = r.of(&[0, 9, 626, 65_535, 65_536 + 100, u32::MAX]),
+        1 => head.frequency = frequency(r),
+        2 => head.mode = mode(r),
+        3 => head.size = r.byte(),
+        4 => head.version = r.of(&VERSIONS),
+        5 => head.serial[r.size(8)] = if r.once_in(4) { r.byte() } else { r.of(&SERIAL_BYTES) },
+        _ => head.clock = clock(r) as u32,
+    }
+}
+
+/// The bytes of an allowed head.
+pub fn head_bytes(head: &Head) -> Vec<u8> {
+    let mut bytes = vec![0; head.length()];
+    let _ = head.write(&mut bytes);
+    bytes
+}
+
+/// Damages a head's bytes: too few of them, another version, a bit turned over, a serial or a clock at an edge, or noise.
+pub fn harm_bytes(r: &mut Random, bytes: &mut Vec<u8>) {
+    match r.below(7) {
+        0 => bytes.truncate(r.size(bytes.len())),
+        1 => bytes[r.size(5)] ^= 1 << r.below(8),
+        2 => {
+            let at = 5 + r.size(bytes.len() - 5);
+            bytes[at] ^= 1 << r.below(8);
+        }
+        3 => bytes[3..5].copy_from_slice(&(r.of(&VERSIONS) as u16).to_le_bytes()),
+        4 if bytes.len() == head::LENGTH_2 => bytes[14 + r.size(8)] = r.of(&SERIAL_BYTES),
+        5 if bytes.len() == head::LENGTH_2 => bytes[22..].copy_from_slice(&clock(r).to_le_bytes()[..4]),
+        _ => r.fill(bytes),
+    }
+}
+
+/// A capture as the span program gets it: a head of either version, losses, restarts, and at times what breaks it off.
 pub fn capture(r: &mut Random) -> Vec<u8> {
     let head = head(r);
-    let mut bytes = vec![0; 14];
-    let _ = head.write(&mut bytes);
+    let mut bytes = head_bytes(&head);
     if r.once_in(12) {
-        match r.below(4) {
-            0 => bytes.truncate(r.size(14)),
-            1 => bytes[r.size(5)] ^= 1 << r.below(8),
-            2 => bytes[5 + r.size(9)] ^= 1 << r.below(8),
-            _ => r.fill(&mut bytes),
-        }
+        harm_bytes(r, &mut bytes);
     }
+    bytes.extend(packets(r, head.form()));
+    match r.below(12) {
+        0 => bytes.truncate(r.size(bytes.len() + 1)),
+        1 => bytes.extend(r.bytes(3)),
+        _ => {}
+    }
+    bytes
+}
+
+/// The packets of a capture, most of them of the form given.
+pub fn packets(r: &mut Random, usual: Form) -> Vec<u8> {
+    let mut bytes = Vec::new();
     let mut number: u16 = if r.once_in(10) { r.any() as u16 } else { 0 };
     for _ in 0..r.size(12) {
-        let form = if r.once_in(40) { form(r) } else { head.form() };
+        let form = if r.once_in(40) { form(r) } else { usual };
         let packet = if r.once_in(3) { packet(r, form, number) } else { plain_packet(r, form, number) };
         bytes.extend(packet);
         number = match r.below(8) {
@@ -581,11 +643,6 @@ pub fn capture(r: &mut Random) -> Vec<u8> {
             3 => r.of(&[1, 65_535]),
             _ => number_at(u64::from(number) + r.within(1, 3)),
         };
-    }
-    match r.below(12) {
-        0 => bytes.truncate(r.size(bytes.len() + 1)),
-        1 => bytes.extend(r.bytes(3)),
-        _ => {}
     }
     bytes
 }

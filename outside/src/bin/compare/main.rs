@@ -17,7 +17,7 @@ use outside::boundary::{READER_BYTES, STATION_BYTES};
 use outside::packet::number_at;
 use outside::random::Random;
 use outside::station::Channel;
-use outside::{head, rate, Form, Reader, Station};
+use outside::{head, rate, Form, Head, Reader, Station};
 
 /// After so many differences the rest would say nothing new.
 const MOST_SHOWN: u64 = 10;
@@ -127,11 +127,10 @@ impl Comparison<'_> {
         self.note("reply", done.0, done, other, || format!("wish {which} value {value} bytes {bytes:02X?}"));
     }
 
-    fn write_head(&mut self, head: (u32, u64, u8, u8), room: usize) {
-        let (divisor, frequency, mode, size) = head;
+    fn write_head(&mut self, head: Head, room: usize) {
         let (mut ours, mut theirs) = (vec![0xEE; room], vec![0xEE; room]);
-        let code = self.plain.write_head(divisor, frequency, mode, size, &mut ours);
-        let other = self.other.write_head(divisor, frequency, mode, size, &mut theirs);
+        let code = self.plain.write_head(head, &mut ours);
+        let other = self.other.write_head(head, &mut theirs);
         self.note("head written", code, (code, ours), (other, theirs), || format!("head {head:?} room {room}"));
     }
 
@@ -139,6 +138,27 @@ impl Comparison<'_> {
         let done = self.plain.read_head(bytes);
         let other = self.other.read_head(bytes);
         self.note("head read", done.0, done, other, || format!("bytes {bytes:02X?}"));
+    }
+
+    fn newer(&mut self, bytes: &[u8], room: usize) {
+        let (mut ours, mut theirs) = (vec![0xEE; room], vec![0xEE; room]);
+        let code = self.plain.newer(bytes, &mut ours);
+        let other = self.other.newer(bytes, &mut theirs);
+        self.note("head newer", code, (code, ours), (other, theirs), || format!("bytes {bytes:02X?} room {room}"));
+    }
+
+    fn older(&mut self, bytes: &[u8], room: usize) {
+        let (mut ours, mut theirs) = (vec![0xEE; room], vec![0xEE; room]);
+        let code = self.plain.older(bytes, &mut ours);
+        let other = self.other.older(bytes, &mut theirs);
+        self.note("head older", code, (code, ours), (other, theirs), || format!("bytes {bytes:02X?} room {room}"));
+    }
+
+    /// A head's bytes read and moved both ways, with room to spare.
+    fn head_bytes(&mut self, bytes: &[u8]) {
+        self.read_head(bytes);
+        self.newer(bytes, 30);
+        self.older(bytes, 30);
     }
 
     fn serve(&mut self, host: &[u8], room: usize) {
@@ -277,11 +297,10 @@ fn random_reading(c: &mut Comparison, r: &mut Random, times: u64) {
 /// The packets of a capture, now and then cut by another length than theirs.
 fn random_runs(c: &mut Comparison, r: &mut Random, times: u64) {
     for _ in 0..times {
-        let capture = inputs::capture(r);
-        let packets = capture.get(head::LENGTH..).unwrap_or_default();
-        let form = packets.first_chunk().and_then(|&header| Form::of_header(header)).unwrap_or(Form::LARGE_24);
+        let form = inputs::form(r);
+        let packets = inputs::packets(r, form);
         let each = if r.once_in(12) { r.of(&[0, 1, 4, form.total() - 1, form.total() + 1]) } else { form.total() };
-        c.read_run(packets, each);
+        c.read_run(&packets, each);
     }
 }
 
@@ -314,19 +333,28 @@ fn random_heads(c: &mut Comparison, r: &mut Random, times: u64) {
     for _ in 0..times {
         let mut head = inputs::head(r);
         if r.once_in(4) {
-            match r.below(4) {
-                0 => head.divisor = r.of(&[0, 9, 626, 65_535, 65_536 + 100, u32::MAX]),
-                1 => head.frequency = inputs::frequency(r),
-                2 => head.mode = inputs::mode(r),
-                _ => head.size = r.byte(),
-            }
+            inputs::harm_head(r, &mut head);
         }
-        let room = inputs::room(r, 14);
-        c.write_head((head.divisor, head.frequency, head.mode, head.size), room);
+        let room = inputs::room(r, head.length());
+        c.write_head(head, room);
 
-        let mut bytes = inputs::capture(r);
-        bytes.truncate(r.size(20));
+        let mut bytes = inputs::head_bytes(&inputs::head(r));
+        if r.once_in(3) {
+            inputs::harm_bytes(r, &mut bytes);
+        }
+        if r.once_in(2) {
+            // what stands behind a head is not looked at
+            let count = r.size(20);
+            bytes.extend(r.bytes(count));
+        }
+        if r.once_in(4) {
+            bytes.truncate(r.size(31));
+        }
         c.read_head(&bytes);
+        let room = inputs::room(r, head::LENGTH_2);
+        c.newer(&bytes, room);
+        let room = inputs::room(r, head::LENGTH_1);
+        c.older(&bytes, room);
     }
 }
 
@@ -710,83 +738,230 @@ fn every_reply(c: &mut Comparison, r: &mut Random) {
     }
 }
 
+/// Heads of both versions: the old one, the same in version 2, and one that names a box and its clock.
+fn some_heads() -> [Head; 3] {
+    let old = Head {
+        version: head::VERSION_1,
+        divisor: 100,
+        frequency: 10_000_000,
+        mode: 0x80,
+        size: 1,
+        serial: head::UNKNOWN,
+        clock: head::USUAL_CLOCK,
+    };
+    [old, old.newer(), Head { version: head::VERSION_2, serial: *b"MT123456", clock: 79_992_000, ..old }]
+}
+
+/// The values that both versions have.
 fn every_head(c: &mut Comparison) {
-    let mut head = [0; 14];
-    Plain.write_head(100, 10_000_000, 0x80, 1, &mut head);
-    for place in 0..14 {
-        for byte in 0..=255 {
-            let mut bytes = head;
-            bytes[place] = byte;
+    for head in some_heads() {
+        for divisor in 0..=u16::MAX {
+            let mut bytes = inputs::head_bytes(&head);
+            bytes[5..7].copy_from_slice(&divisor.to_le_bytes());
             c.read_head(&bytes);
+            c.write_head(Head { divisor: divisor.into(), mode: 0, size: 0, ..head }, 26);
         }
-    }
-    for divisor in 0..=u16::MAX {
-        let mut bytes = head;
-        bytes[5..7].copy_from_slice(&divisor.to_le_bytes());
-        c.read_head(&bytes);
-        c.write_head((divisor.into(), 10_000_000, 0, 0), 14);
-    }
-    for length in 0..14 {
-        c.read_head(&head[..length]);
-        c.write_head((100, 10_000_000, 0x80, 1), length);
-        c.write_head((9, 10_000_000, 0x80, 1), length);
-    }
-    for frequency in inputs::FREQUENCIES {
-        for value in frequency.saturating_sub(20)..frequency + 20 {
-            c.write_head((625, value, 0x80, 0), 14);
+        for frequency in inputs::FREQUENCIES {
+            for value in frequency.saturating_sub(20)..frequency + 20 {
+                c.write_head(Head { divisor: 625, frequency: value, size: 0, ..head }, 26);
+            }
         }
-    }
-    for mode in 0..=255 {
-        for size in 0..=255 {
-            c.write_head((10, 150_000_000, mode, size), 15);
+        for mode in 0..=255 {
+            for size in 0..=255 {
+                c.write_head(Head { divisor: 10, frequency: 150_000_000, mode, size, ..head }, 27);
+            }
         }
     }
 }
 
-/// Captures that end well or are broken off at each byte, and more than a turn of the number.
-fn every_span(c: &mut Comparison, r: &mut Random) {
-    let mut bytes = vec![0; 14];
-    Plain.write_head(100, 10_000_000, 0x80, 1, &mut bytes);
-    for number in [0, 1, 4] {
-        bytes.extend(inputs::plain_packet(r, Form::SMALL_24, number));
-    }
-    for length in 0..=bytes.len() {
-        c.span(&bytes[..length]);
-    }
-    for numbers in [
-        &[0, 65_535, 65_535, 1, 1, 65_534][..],
-        &[0, 0, 0],
-        &[7],
-        &[65_535],
-        &[0, 7, 7, 7],
-        &[0, 1, 0, 9],
-        &[0, 2, 0, 3, 3],
-    ] {
-        let mut bytes = bytes[..14].to_vec();
-        for &number in numbers {
-            bytes.extend(inputs::plain_packet(r, Form::SMALL_24, number));
-        }
-        c.span(&bytes);
-        for foreign in Form::LISTED {
-            for number in [0, 1] {
-                let mut mixed = bytes.clone();
-                mixed.extend(inputs::plain_packet(r, foreign, number));
-                c.span(&mixed);
-                mixed.pop();
-                c.span(&mixed);
+/// Each byte of a head changed, each length and each room, beside what else is refused.
+fn every_head_byte(c: &mut Comparison) {
+    for head in some_heads() {
+        let bytes = inputs::head_bytes(&head);
+        for place in 0..bytes.len() {
+            for byte in 0..=255 {
+                let mut changed = bytes.clone();
+                changed[place] = byte;
+                c.head_bytes(&changed);
             }
         }
+        let bad_divisor = Head { divisor: 9, ..head };
+        let mut longer = bytes.clone();
+        longer.resize(30, b'7');
+        // as it is, with a bad mark, with another version, with a bad D
+        for (place, byte) in [(0, b'S'), (2, b'M'), (3, 3), (5, 9)] {
+            let mut changed = longer.clone();
+            changed[place] = byte;
+            for length in 0..=longer.len() {
+                c.head_bytes(&changed[..length]);
+                c.newer(&changed, length);
+                c.older(&changed, length);
+            }
+        }
+        for room in 0..=30 {
+            c.write_head(head, room);
+            c.write_head(bad_divisor, room);
+        }
+    }
+}
+
+/// Every version of 16 bits, and some that are longer: with values that are allowed and with one that is not, of each length.
+fn every_version(c: &mut Comparison) {
+    for head in some_heads() {
+        let mut bytes = inputs::head_bytes(&head);
+        for version in 0..=u16::MAX {
+            bytes[3..5].copy_from_slice(&version.to_le_bytes());
+            c.read_head(&bytes);
+            c.write_head(Head { version: version.into(), ..head }, 26);
+        }
+        for version in inputs::VERSIONS {
+            bytes[3..5].copy_from_slice(&(version as u16).to_le_bytes());
+            for length in 0..=bytes.len() {
+                c.head_bytes(&bytes[..length]);
+            }
+            for room in 0..=30 {
+                c.write_head(Head { version, ..head }, room);
+            }
+            for place in 5..bytes.len() {
+                let mut bad = bytes.clone();
+                bad[place] = 0xFF;
+                c.head_bytes(&bad);
+            }
+        }
+    }
+}
+
+/// Serials with each byte at each place, with zero at each choice of places, and every clock that is allowed and those
+/// beside them; written in both versions, read, and moved.
+fn every_name(c: &mut Comparison) {
+    let [old, unknown, known] = some_heads();
+    let mut serials = Vec::new();
+    for byte in 0..=255 {
+        for place in 0..8 {
+            for from in [unknown, known] {
+                let mut serial = from.serial;
+                serial[place] = byte;
+                serials.push(serial);
+            }
+        }
+        let mut some = known.serial;
+        some.iter_mut().enumerate().filter(|(place, _)| byte >> place & 1 == 1).for_each(|(_, b)| *b = 0);
+        serials.push(some);
+    }
+    for bit in 0..64 {
+        serials.push((1u64 << bit).to_le_bytes());
+    }
+    for serial in serials {
+        for clock in [head::USUAL_CLOCK, known.clock, 0] {
+            name(c, Head { serial, clock, ..unknown });
+        }
+        c.write_head(Head { serial, ..old }, 26);
+    }
+    let near = 79_991_990..=80_008_010;
+    let bits = (0..32).map(|bit| head::USUAL_CLOCK ^ 1 << bit);
+    for clock in near.chain(bits).chain(inputs::CLOCKS.map(|clock| clock as u32)) {
+        name(c, Head { clock, ..unknown });
+        name(c, Head { clock, ..known });
+        c.write_head(Head { clock, ..old }, 26);
+    }
+}
+
+/// A head of version 2 with its serial and clock, allowed or not.
+fn name(c: &mut Comparison, head: Head) {
+    c.write_head(head, 26);
+    let mut bytes = inputs::head_bytes(&Head { serial: head::UNKNOWN, clock: head::USUAL_CLOCK, ..head });
+    bytes[14..22].copy_from_slice(&head.serial);
+    bytes[22..].copy_from_slice(&head.clock.to_le_bytes());
+    c.head_bytes(&bytes);
+}
+
+/// A head and packets of its form with these numbers.
+fn capture(r: &mut Random, head: &Head, numbers: &[u16]) -> Vec<u8> {
+    let mut bytes = inputs::head_bytes(head);
+    for &number in numbers {
+        bytes.extend(inputs::plain_packet(r, head.form(), number));
+    }
+    bytes
+}
+
+/// Captures that end well or are broken off at each byte, and more than a turn of the number.
+fn every_span(c: &mut Comparison, r: &mut Random) {
+    let [old, unknown, known] = some_heads();
+    for head in [old, known] {
+        let bytes = capture(r, &head, &[0, 1, 4]);
+        for length in 0..=bytes.len() {
+            c.span(&bytes[..length]);
+        }
+        for numbers in [
+            &[0, 65_535, 65_535, 1, 1, 65_534][..],
+            &[0, 0, 0],
+            &[7],
+            &[65_535],
+            &[0, 7, 7, 7],
+            &[0, 1, 0, 9],
+            &[0, 2, 0, 3, 3],
+        ] {
+            let bytes = capture(r, &head, numbers);
+            c.span(&bytes);
+            for foreign in Form::LISTED {
+                for number in [0, 1] {
+                    let mut mixed = bytes.clone();
+                    mixed.extend(inputs::plain_packet(r, foreign, number));
+                    c.span(&mixed);
+                    mixed.pop();
+                    c.span(&mixed);
+                }
+            }
+        }
+        // to the last position and past it: its end time is worked out with more than 64 bits
+        let mut numbers = vec![5; 61_101];
+        numbers[0] = 0;
+        let long = capture(r, &head, &numbers);
+        c.span(&long);
+    }
+    for head in [old, unknown, known] {
+        every_span_head(c, r, &head);
     }
     let noise = r.bytes(1 << 20);
     c.span(&noise);
     c.span(b"This is a text file and no capture.\n");
-    // to the last position and past it
-    let mut long = bytes[..14].to_vec();
-    long.extend(inputs::plain_packet(r, Form::SMALL_24, 0));
-    for _ in 0..61_100 {
-        long.extend(inputs::plain_packet(r, Form::SMALL_24, 5));
+}
+
+/// A capture's head of another version, with a field changed, and with no packet behind it.
+fn every_span_head(c: &mut Comparison, r: &mut Random, head: &Head) {
+    let bytes = capture(r, head, &[0, 1, 4]);
+    for version in inputs::VERSIONS {
+        let mut changed = bytes.clone();
+        changed[3..5].copy_from_slice(&(version as u16).to_le_bytes());
+        for length in [13, 14, 15, 25, 26, 27, changed.len()] {
+            c.span(&changed[..length]);
+        }
     }
-    c.span(&long);
+    for place in 0..head.length() {
+        for byte in [0x00, b'0', b'[', 0xFF] {
+            let mut changed = bytes.clone();
+            changed[place] = byte;
+            c.span(&changed);
+        }
+    }
+    for behind in [&[0x00, 0x00][..], &[0x84], &[0x84, 0x81], &[0x04, 0x82, 0x00, 0x00], &[0xFF; 400]] {
+        c.span(&[&bytes[..head.length()], behind].concat());
+    }
+}
+
+/// End times at the edges of clock and D and beside them, in each form, of captures so long that the clocks differ in them.
+fn every_end_time(c: &mut Comparison, r: &mut Random) {
+    let [.., known] = some_heads();
+    for form in Form::LISTED {
+        let (mode, size) = (if form.bits == 24 { 0x80 } else { 0x00 }, (form.pairs < 200).into());
+        for divisor in [10, 11, 100, 624, 625] {
+            for clock in inputs::HEAD_CLOCKS {
+                let head = Head { divisor, mode, size, clock, ..known };
+                let bytes = capture(r, &head, &[0, 0, 9, 0, 1, 65_535, 65_535, 1]);
+                c.span(&bytes);
+            }
+        }
+    }
 }
 
 fn set_frequency(channel: u8, frequency: u64) -> Vec<u8> {
@@ -804,7 +979,7 @@ fn fresh_state() -> Vec<u8> {
 }
 
 /// The codes that a call can give at all; each has to have been seen.
-const POSSIBLE: [(&str, &[u8]); 14] = [
+const POSSIBLE: [(&str, &[u8]); 16] = [
     ("fresh", &[1, 21, 26]),
     ("feed", &[0, 1, 2, 10, 11, 12, 13, 14, 15, 16, 17, 20, 21]),
     ("word", &[1, 21]),
@@ -816,6 +991,8 @@ const POSSIBLE: [(&str, &[u8]); 14] = [
     ("reply", &[1, 16, 28]),
     ("head written", &[1, 16, 20]),
     ("head read", &[1, 40, 41]),
+    ("head newer", &[1, 20, 40, 41]),
+    ("head older", &[1, 20, 40, 41, 42]),
     ("serve", &[1]),
     ("read run", &[1]),
     ("span", &[1, 30, 31, 32, 33, 40, 41]),
@@ -849,7 +1026,11 @@ fn main() -> ExitCode {
     every_rate_reply(&mut c);
     every_reply(&mut c, r);
     every_head(&mut c);
+    every_head_byte(&mut c);
+    every_version(&mut c);
+    every_name(&mut c);
     every_span(&mut c, r);
+    every_end_time(&mut c, r);
     for seed in 0..times {
         let r = &mut Random::new(0x5EED_1000 + seed);
         random_feeding(&mut c, r, 400_000);

@@ -9,8 +9,11 @@ form-in-requires c κs = search needs
 cast-t5 : tie.Need-cast-t5
 cast-t5 c = search needs
 
+cast-t6 : tie.Need-cast-t6
+cast-t6 c = search needs
+
 returns : tie.Need-returns
-returns c = rw (c .before .form-in .ensures)
+returns c = rw (c .before .before .form-in .ensures)
 
 pub ended-due-spec : {M : Type 1} → statement M
-ended-due-spec = tie.close (tie.spec form-in-requires cast-t5 returns)
+ended-due-spec = tie.close (tie.spec form-in-requires cast-t5 cast-t6 returns)

@@ -2,19 +2,20 @@
 use native.Mathlib.Omega.{arith}
 use borrow.Author.Needs.{needs}
 use borrow.Author.Tests.{eq-eqb, ne-eqb}
-use mathlib.Core.Bool.{true}
+use mathlib.Core.Path.{refl}
 use Rattle.lines.specs.declared.Ending.{Ending}
 use Rattle.lines.proofs.Dues.{Sized, is-sized}
+use Rattle.spans.specs.Inside.{dueFirst}
 use Rattle.spans.proofs.due.head_due.Statement.{statement}
 use Rattle.spans.proofs.due.head_due.Tie as tie
 
 opening-due-requires : tie.Need-opening-due-requires
 opening-due-requires c κs = search needs
 
--- no capture has ended: all its numbers are 0
+-- no capture has ended: all its numbers are 0 but the clock
 none : {ending : Ending}
-    → Sized (record { opening = true; capture = 0; bits = 0; pairs = 0; divisor = 0; heard = 0; position = 0; ending = ending })
-none = record { position = omega arith; pairs = omega arith; divisor = omega arith; heard = omega arith }
+    → Sized (dueFirst ending)
+none = record { position = omega arith; pairs = omega arith; divisor = omega arith; clock = refl; heard = omega arith }
 
 returns : tie.Need-returns
 returns c = rw (c .opening-due .ensures) (rw (eq-eqb _ 1 (c .before .if1 .taken)), is-sized _ none)

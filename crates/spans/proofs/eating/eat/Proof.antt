@@ -36,8 +36,13 @@ returns-2 c =
     let a = start (c .before .before) .args in
     answers (now (a .out)) _ (eating-stopped (a .s) (now (a .piece)) (length (now (a .out))) (valid (c .before)) (c .if2 .taken)) refl refl
 
+lacks-requires : tie.Need-lacks-requires
+lacks-requires c κs = search needs
+
 open-requires : tie.Need-open-requires
-open-requires c κs = search needs
+open-requires c κs =
+    let tested = c .before in
+    sym (tested .before .lacks .ensures) ∙ tested .if3 .taken
 
 same-length : tie.Need-same-length
 same-length c = search needs
@@ -46,18 +51,20 @@ returns-3 : tie.Need-returns-3
 returns-3 c =
     let o = c .before .before in
     let tested = o .before .before in
+    let lacks = sym (tested .before .lacks .ensures) ∙ tested .if3 .taken in
     let e = tested .before .before in
     let a = start (e .before .before) .args in
-    let is = eating-head (a .s) (now (a .piece)) (length (now (a .out))) (valid (e .before)) (e .if2 .left) (tested .if3 .taken) in
+    let is = eating-head (a .s) (now (a .piece)) (length (now (a .out))) (valid (e .before)) (e .if2 .left) lacks in
     answers (now (a .out)) _ is (o .«open» .ensures .0) (o .«open» .ensures .1)
 
 listen-requires : tie.Need-listen-requires
 listen-requires c κs =
     let tested = c .before in
+    let whole = sym (tested .before .lacks .ensures) ∙ tested .if3 .left in
     let e = tested .before .before in
     let s = start (e .before .before) in
     let ok = valid (e .before) in
-    (valid-head (s .args .s) ok (e .if2 .left) (tested .if3 .left), valid-range (s .args .s) ok (e .if2 .left))
+    (valid-head (s .args .s) ok (e .if2 .left) whole, valid-range (s .args .s) ok (e .if2 .left))
 
 same-length-2 : tie.Need-same-length-2
 same-length-2 c = search needs
@@ -66,9 +73,10 @@ returns-4 : tie.Need-returns-4
 returns-4 c =
     let l = c .before .before in
     let tested = l .before .before in
+    let whole = sym (tested .before .lacks .ensures) ∙ tested .if3 .left in
     let e = tested .before .before in
     let a = start (e .before .before) .args in
-    let is = eating-packets (a .s) (now (a .piece)) (length (now (a .out))) (valid (e .before)) (e .if2 .left) (tested .if3 .left) in
+    let is = eating-packets (a .s) (now (a .piece)) (length (now (a .out))) (valid (e .before)) (e .if2 .left) whole in
     answers (now (a .out)) _ is (l .listen .ensures .0) (l .listen .ensures .1)
 
 pub eat-spec : {M : Type 1} → statement M
@@ -79,6 +87,7 @@ eat-spec =
     refuse-requires
     returns
     returns-2
+    lacks-requires
     open-requires
     same-length
     returns-3

@@ -11,7 +11,7 @@ use lib.ListN.{length}
 use Rattle.packets.specs.declared.Form.{Form}
 use Rattle.heads.specs.declared.Head.{Head}
 use Rattle.heads.specs.Head.{formIn, allowedHead}
-use Rattle.heads.proofs.Rounds.{form-listed}
+use Rattle.heads.proofs.Values.{form-listed}
 use Rattle.lines.specs.Due.{dueLines}
 use Rattle.hearing.specs.declared.Reach.{Reach}
 use Rattle.hearing.specs.declared.Outcome.{Outcome}

@@ -1,13 +1,14 @@
 -- The head waits, or its lines are told or do not fit.
 use borrow.Author.Needs.{needs}
 use Prim.Native.Nat.{ℕ, _≤_, _-_}
-use mathlib.Core.Path.{_≡_, refl, ap, _∙_}
+use mathlib.Core.Path.{_≡_, refl, sym, ap, _∙_}
+use mathlib.Core.Bool.{false}
 use mathlib.Core.List.{List}
 use native.Mathlib.Omega.{arith}
 use denote.Ref.{now}
 use lib.ListN.{length}
 use Rattle.spans.specs.declared.Span.{Span}
-use Rattle.spans.specs.Eating.{headLines, headRead, opening, openingBy}
+use Rattle.spans.specs.Eating.{headLacks, headLines, headRead, opening, openingBy}
 use Rattle.spans.proofs.Eats.{answers, opening-by, opening-waits, opening-says, Tells, no-room, room}
 use Rattle.spans.proofs.eating.open.Statement.{statement}
 use Rattle.spans.proofs.eating.open.Tie as tie
@@ -47,6 +48,10 @@ code c = coded c .head-code .result
 abbrev came : tie.After-tell → tie.After-take-head
 came c = coded c .before .before .before .before .before .before .before
 
+-- no byte of the head is still to come
+whole : (c : tie.Else1) → headLacks (c .before .before .before .before .take-head .result) ≡ false
+whole c = sym (c .before .lacks .ensures) ∙ c .if1 .left
+
 tells : (c : tie.After-tell)
     → (let t = came c in
     Tells (given t) (headRead (code c) (after t)) (count t) (headLines (code c)) (out t) (c .tell .last .1 .0) (c .tell .result)
@@ -58,7 +63,7 @@ tells c =
       are = d .head-due .ensures .0;
       fit = d .head-due .ensures .1;
       did = c .tell .ensures;
-      is = opens (came c) ∙ opening-says _ _ _ _ _ (coded c .before .before .before .if1 .left) (coded c .head-code .ensures);
+      is = opens (came c) ∙ opening-says _ _ _ _ _ (whole (coded c .before .before .before)) (coded c .head-code .ensures);
     }
 
 take-head-requires : tie.Need-take-head-requires
@@ -67,10 +72,13 @@ take-head-requires c κs = search needs
 sub-k : tie.Need-sub-k
 sub-k c = omega (arith, grows (c .before .before))
 
+lacks-requires : tie.Need-lacks-requires
+lacks-requires c κs = search needs
+
 returns : tie.Need-returns
 returns c =
     let t = c .before .before .before .before in
-    answers (out t) _ (opens t ∙ opening-waits _ _ _ _ (c .if1 .taken)) refl refl
+    answers (out t) _ (opens t ∙ opening-waits _ _ _ _ (sym (c .before .lacks .ensures) ∙ c .if1 .taken)) refl refl
 
 slice-aggregate-head-code : tie.Need-slice-aggregate-head-code
 slice-aggregate-head-code c = search needs
@@ -116,6 +124,7 @@ open-spec =
     (tie.spec
     take-head-requires
     sub-k
+    lacks-requires
     returns
     slice-aggregate-head-code
     head-code-requires

@@ -1,7 +1,7 @@
 -- The number of each case.
 use borrow.Author.Needs.{needs}
 use denote.Ref.{now}
-use Rattle.spans.proofs.Eats.{code-said}
+use Rattle.heads.proofs.Codes.{code-said}
 use Rattle.spans.proofs.head.head_code.Statement.{statement}
 use Rattle.spans.proofs.head.head_code.Tie as tie
 

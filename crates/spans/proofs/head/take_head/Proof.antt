@@ -1,52 +1,52 @@
--- The bytes that the head lacks are stored behind those that it has.
+-- The longest head tells how many bytes this one has.
 use borrow.Author.Needs.{needs}
-use mathlib.Core.Path.{_≡_}
+use Prim.Native.Nat.{ℕ, _<_}
+use mathlib.Core.Path.{_≡_, sym, ap, _∙_}
 use native.Mathlib.Omega.{arith}
+use borrow.Author.Tests.{ltb-true}
 use denote.Ref.{now}
-use lib.ListN.{length}
-use Rattle.spans.proofs.Eats.{lacked, head-taken}
+use Rattle.spans.specs.declared.Span.{Span}
+use Rattle.spans.specs.Eating.{headWantsBy, headFilled}
+use Rattle.spans.proofs.Filling.{wantsOf, wants-most, by-is, by-above, by-most}
 use Rattle.spans.proofs.head.take_head.Statement.{statement}
 use Rattle.spans.proofs.head.take_head.Tie as tie
 
-long : (c : tie.Start) → length (c .args .s .head) ≡ 14
-long c = search needs
+-- bytes are to come
+few : (c : tie.Start) → c .args .s .came < wantsOf (c .args .s)
+few c = ltb-true _ _ (c .pre)
 
-sub-lesser : tie.Need-sub-lesser
-sub-lesser c = search needs
+-- the call, from where the version was looked up
+abbrev start : tie.After-wanted → tie.Start
+start c = c .before .before .before .before .before
 
-lesser-requires : tie.Need-lesser-requires
-lesser-requires c κs = search needs
+-- what was found there
+all-is : (c : tie.After-wanted) → c .wanted .result ≡ headWantsBy (start c .args .s) (now (start c .args .piece))
+all-is c =
+    c .wanted .ensures ∙ ap wantsOf (c .before .before .before .filled .ensures) ∙ sym (by-is (start c .args .s) (now (start c .args .piece)))
 
-slice-aggregate-copy : tie.Need-slice-aggregate-copy
-slice-aggregate-copy c =
-    let k = c .before .before in
-    lacked (k .before .before .args .s) _ _ (k .lesser .ensures)
+filled-requires : tie.Need-filled-requires
+filled-requires c κs =
+    let s = c .before in
+    (omega (arith, few s, wants-most (s .args .s .came) (s .args .s .head)), omega arith)
 
-slice-aggregate-copy-2 : tie.Need-slice-aggregate-copy-2
-slice-aggregate-copy-2 c = search needs
+slice-aggregate-wanted : tie.Need-slice-aggregate-wanted
+slice-aggregate-wanted c = search needs
 
-copy-requires : tie.Need-copy-requires
-copy-requires c κs =
-    let k = c .before .before .before in
-    let a = k .before .before .args in
-    omega (arith, k .lesser .ensures, lacked (a .s) (now (a .piece)) (k .lesser .result) (k .lesser .ensures), long (k .before .before))
+wanted-requires : tie.Need-wanted-requires
+wanted-requires c κs = search needs
 
-add-t7 : tie.Need-add-t7
-add-t7 c = search needs
+filled-requires-2 : tie.Need-filled-requires-2
+filled-requires-2 c κs =
+    let s = start c .args .s in
+    let p = now (start c .args .piece) in
+    (omega (arith, all-is c, by-above s p (few (start c))), omega (arith, all-is c, by-most s p))
 
 returns : tie.Need-returns
 returns c =
-    let k = c .before .before .before .before .before .before in
-    head-taken (k .before .before .args .s) _ _ _ (k .lesser .ensures) (c .before .before .copy .ensures)
+    let a = start (c .before) .args in
+    c .filled2 .ensures ∙ ap (λ (n : ℕ). headFilled n (a .s) (now (a .piece))) (all-is (c .before))
 
 pub take-head-spec : {M : Type 1} → statement M
 take-head-spec =
     tie.close
-    (tie.spec
-    sub-lesser
-    lesser-requires
-    slice-aggregate-copy
-    slice-aggregate-copy-2
-    copy-requires
-    add-t7
-    returns)
+    (tie.spec filled-requires slice-aggregate-wanted wanted-requires filled-requires-2 returns)
