@@ -26,7 +26,7 @@ use Rattle.station.proofs.Valid.{comes-below, feeding-by, feeding-waiting, feed
 use Rattle.station.specs.Feeding.{Feeding, refused, comesTo, feedChecks, feedCode, feedingOf}
 use Rattle.cutting.specs.Cutting.{cutCode}
 use Rattle.reader.specs.Reading.{readingCode, unpackCode}
-use Rattle.heads.specs.Head.{mark, isVersion, versionIn, headLengthIn, allowedHead, headIn}
+use Rattle.heads.specs.Head.{mark, isHeadVersion, versionIn, headLengthIn, allowedHead, headIn}
 use Rattle.heads.specs.Head.{headWriteCode, headReadChecks, headReadCode}
 use Rattle.heads.specs.Moving.{movedChecks, movingCode}
 use Rattle.heads.proofs.Codes.{code-by}
@@ -218,11 +218,11 @@ module _ (s : List ℕ) where
 
   head-each : HeadExactly s (headReadCode s)
   head-each =
-      by (ltb (length s) 14) (eqb (field 0 3 s) (number mark)) (isVersion (versionIn s)) (ltb (length s) (headLengthIn s))
+      by (ltb (length s) 14) (eqb (field 0 3 s) (number mark)) (isHeadVersion (versionIn s)) (ltb (length s) (headLengthIn s))
       (allowedHead (headIn s)) refl refl refl refl refl
     where
       by : (short marked known cut ok : Bool) → ltb (length s) 14 ≡ short → eqb (field 0 3 s) (number mark) ≡ marked
-          → isVersion (versionIn s) ≡ known → ltb (length s) (headLengthIn s) ≡ cut → allowedHead (headIn s) ≡ ok
+          → isHeadVersion (versionIn s) ≡ known → ltb (length s) (headLengthIn s) ≡ cut → allowedHead (headIn s) ≡ ok
           → HeadExactly s (headReadCode s)
       by true marked known cut ok p q r t u = no-head (inl (ltb-true _ _ p)) (code-by s p q r t u)
       by false false known cut ok p q r t u = no-head (inr (inl (eqb-false _ _ q))) (code-by s p q r t u)

@@ -20,7 +20,7 @@ use Rattle.cutting.specs.Cutting.{cutChecks, cutCode}
 use Rattle.reader.specs.declared.Reader.{Reader}
 use Rattle.reader.specs.Reading.{readingChecks, readingCode, unpackChecks, unpackCode}
 use Rattle.heads.specs.declared.Head.{Head}
-use Rattle.heads.specs.Head.{mark, isVersion, versionIn, headLength, headLengthIn, allowedHead, headIn}
+use Rattle.heads.specs.Head.{mark, isHeadVersion, versionIn, headLength, headLengthIn, allowedHead, headIn}
 use Rattle.heads.specs.Head.{headWriteChecks, headWriteCode, headReadCode}
 use Rattle.heads.specs.Moving.{movedChecks, movingCode}
 use Rattle.wishes.specs.declared.Wish.{Wish}
@@ -45,11 +45,11 @@ EachWhere Made cs given =
 abbrev pub IsNoHead : List ℕ → Type 0
 IsNoHead s =
     (length s < headLength 1) ⊎ (field 0 3 s ≡ number mark → ⊥)
-    ⊎ ((isVersion (versionIn s) ≡ true) × ((length s < headLengthIn s) ⊎ (allowedHead (headIn s) ≡ false)))
+    ⊎ ((isHeadVersion (versionIn s) ≡ true) × ((length s < headLengthIn s) ⊎ (allowedHead (headIn s) ≡ false)))
 
 -- "41 now means a version other than 1 and 2", and 40 is "checked before 41"
 abbrev pub IsOtherVersion : List ℕ → Type 0
-IsOtherVersion s = (headLength 1 ≤ length s) × (field 0 3 s ≡ number mark) × (isVersion (versionIn s) ≡ false)
+IsOtherVersion s = (headLength 1 ≤ length s) × (field 0 3 s ≡ number mark) × (isHeadVersion (versionIn s) ≡ false)
 
 -- The codes of bytes that are read as a head: their list has 40 four times.
 pub record HeadExactly (s : List ℕ) (given : ℕ) : Type 0 where

@@ -20,7 +20,7 @@ use Rattle.tuning.specs.Bands.{inBands}
 use Rattle.tuning.specs.Word.{isClock}
 use Rattle.packets.specs.Forms.{listedForm}
 use Rattle.heads.specs.declared.Head.{Head}
-use Rattle.heads.specs.Head.{mark, isVersion, fieldsOf, fieldBytes, headBytes, headLength, headLengthIn, versionIn, headIn}
+use Rattle.heads.specs.Head.{mark, isHeadVersion, fieldsOf, fieldBytes, headBytes, headLength, headLengthIn, versionIn, headIn}
 use Rattle.heads.specs.Head.{formIn, headSerial, bare, namingOk, allowedHead}
 use Rattle.heads.specs.declared.Opened.{Opened}
 use Rattle.heads.specs.declared.Opened.the-variants.{Head as Found}
@@ -34,7 +34,7 @@ pub head-by : {v w d e f g m n z y a b c k : ℕ} → v ≡ w → d ≡ e → f 
     (record { version = w; divisor = e; frequency = g; mode = n; size = y; serial = b; clock = k })
 head-by p q r s t u x = cc
 
-pub allowed-by : (h : Head) {v d b f n : Bool} → isVersion (h .version) ≡ v → isD (h .divisor) ≡ d → inBands (h .frequency) ≡ b
+pub allowed-by : (h : Head) {v d b f n : Bool} → isHeadVersion (h .version) ≡ v → isD (h .divisor) ≡ d → inBands (h .frequency) ≡ b
     → listedForm (formIn h) ≡ f → namingOk h ≡ n → allowedHead h ≡ v && d && b && f && n
 unfolding allowedHead
 allowed-by h p q r s t = cc
@@ -70,7 +70,7 @@ codeBy short marked known cut ok =
     firstOf (check 40 short ∷ check 40 (not marked) ∷ check 41 (not known) ∷ check 40 cut ∷ check 40 (not ok) ∷ []) 1
 
 pub code-by : (s : List ℕ) {short marked known cut ok : Bool} → ltb (length s) 14 ≡ short → eqb (field 0 3 s) (number mark) ≡ marked
-    → isVersion (versionIn s) ≡ known → ltb (length s) (headLengthIn s) ≡ cut → allowedHead (headIn s) ≡ ok
+    → isHeadVersion (versionIn s) ≡ known → ltb (length s) (headLengthIn s) ≡ cut → allowedHead (headIn s) ≡ ok
     → headReadCode s ≡ codeBy short marked known cut ok
 unfolding headReadCode
 code-by s p q r t u = cc
@@ -112,11 +112,11 @@ moving-goes v s room h = first-goes-on (headReadChecks s) (movedChecks v (headIn
 -- reading has three codes: 1, 41 and 40
 pub third-code : (s : List ℕ) → (headReadCode s ≡ 1 → ⊥) → (headReadCode s ≡ 41 → ⊥) → headReadCode s ≡ 40
 third-code s one other =
-    by (ltb (length s) 14) (eqb (field 0 3 s) (number mark)) (isVersion (versionIn s)) (ltb (length s) (headLengthIn s))
+    by (ltb (length s) 14) (eqb (field 0 3 s) (number mark)) (isHeadVersion (versionIn s)) (ltb (length s) (headLengthIn s))
     (allowedHead (headIn s)) refl refl refl refl refl
   where
     by : (short marked known cut ok : Bool) → ltb (length s) 14 ≡ short → eqb (field 0 3 s) (number mark) ≡ marked
-        → isVersion (versionIn s) ≡ known → ltb (length s) (headLengthIn s) ≡ cut → allowedHead (headIn s) ≡ ok → headReadCode s ≡ 40
+        → isHeadVersion (versionIn s) ≡ known → ltb (length s) (headLengthIn s) ≡ cut → allowedHead (headIn s) ≡ ok → headReadCode s ≡ 40
     by true marked known cut ok p q r t u = code-by s p q r t u
     by false false known cut ok p q r t u = code-by s p q r t u
     by false true false cut ok p q r t u = absurd (other (code-by s p q r t u))
@@ -150,7 +150,7 @@ more h = bytes 8 (h .serial) ++ bytes 4 (h .clock)
 -- ---- the versions
 
 -- a version is 1 or 2
-pub by-version : {A : Type 0} (v : ℕ) → isVersion v ≡ true → (v ≡ 1 → A) → (v ≡ 2 → A) → A
+pub by-version : {A : Type 0} (v : ℕ) → isHeadVersion v ≡ true → (v ≡ 1 → A) → (v ≡ 2 → A) → A
 by-version {A} v ok one two = go (eqb v 1) (eqb v 2) refl refl
   where
     go : (p q : Bool) → eqb v 1 ≡ p → eqb v 2 ≡ q → A

@@ -11,7 +11,7 @@ use Rattle.wire.specs.Choice.{pick}
 use Rattle.wire.specs.Number.{number, field}
 use Rattle.wire.proofs.Numbers.{field-front}
 use Rattle.heads.specs.declared.Head.{Head}
-use Rattle.heads.specs.Head.{mark, isVersion, headLength, unknown, nominal, headLengthIn, versionIn, headIn}
+use Rattle.heads.specs.Head.{mark, isHeadVersion, headLength, unknown, nominal, headLengthIn, versionIn, headIn}
 use Rattle.heads.specs.Head.{allowedHead, headReadCode}
 use Rattle.heads.proofs.Codes.{head-by, code-by, least-long}
 
@@ -56,7 +56,7 @@ module _ (s t : List ℕ) (same : take (headLengthIn s) s ≡ take (headLengthIn
         let reach : headLengthIn t ≡ n = ap headLength (sym same-version) in
         code-by s (le-ltb (length s) 14 (omega (arith, long, least-long (versionIn s))))
         (ap (λ (m : ℕ). eqb m (number mark)) (first 0 3 (omega arith)))
-        (ap isVersion same-version)
+        (ap isHeadVersion same-version)
         (le-ltb (length s) (headLengthIn s) long)
         (ap allowedHead same-head)
         ∙ sym (code-by t (le-ltb (length t) 14 (omega (arith, reaches, least-long (versionIn s)))) refl refl

@@ -14,13 +14,13 @@ use Rattle.wire.proofs.Laws.{and-rest, and-not-right, never, true-not-false, by
 use Rattle.wire.proofs.Checks.{differ, not-given, given-exactly}
 use Rattle.heads.specs.declared.Head.{Head}
 use Rattle.heads.specs.declared.Opened.the-variants.{Head as Found}
-use Rattle.heads.specs.Head.{isVersion, unknown, nominal, headLength, versionIn, headIn, bare, namingOk, allowedHead, headBytes}
+use Rattle.heads.specs.Head.{isHeadVersion, unknown, nominal, headLength, versionIn, headIn, bare, namingOk, allowedHead, headBytes}
 use Rattle.heads.specs.Head.{openedSays, headReadChecks, headReadCode, headReadingOf}
 use Rattle.heads.specs.Moving.{movedTo, loses, movingCode, movedBytes, IsHead, MovesInto, ThereAndBack, OldNewOld, NewOldNew}
 use Rattle.heads.specs.Moving.{AlreadyThere, WouldLoseExactly}
 use Rattle.heads.specs.Inside.{putCode}
 use Rattle.heads.proofs.Codes.{allowed-by, put-by, code-said, head-said, moving-stops, moving-goes, by-version}
-use Rattle.heads.proofs.Values.{is-version, divisor-ok, bands-ok, form-listed, old-bare, named-new}
+use Rattle.heads.proofs.Values.{is-version, divisor-ok, bands-ok, form-listed, old-bare, named-new, bare-serial, bare-clock}
 use Rattle.heads.proofs.Rounds.{passed, read-written, written-read}
 
 -- ---- a head that moves
@@ -30,7 +30,7 @@ keeps-own : (h : Head) → allowedHead h ≡ true → loses (h .version) h ≡ f
 keeps-own h a = by-version (h .version) (is-version h a) (λ (e : h .version ≡ 1). rw (e, old-bare h a e)) (λ (e : h .version ≡ 2). rw e)
 
 -- where nothing is lost, a head that moves is allowed
-pub moved-allowed : (v : ℕ) (h : Head) → isVersion v ≡ true → allowedHead h ≡ true → loses v h ≡ false → allowedHead (movedTo v h) ≡ true
+pub moved-allowed : (v : ℕ) (h : Head) → isHeadVersion v ≡ true → allowedHead h ≡ true → loses v h ≡ false → allowedHead (movedTo v h) ≡ true
 moved-allowed v h known a kept =
     let old : v ≡ 1 → namingOk (movedTo v h) ≡ true = λ (e : v ≡ 1). rw e (not-false (bare h) (rw e at kept)) in
     let new : v ≡ 2 → namingOk (movedTo v h) ≡ true = λ (e : v ≡ 2). rw e (named-new h a) in
@@ -54,8 +54,8 @@ own-kept v s is = rw (← is .version) (keeps-own (headIn s) (passed s (is .read
 pub already-there : AlreadyThere
 already-there v s is = rw (← own-bytes v s is) (moves v s (is .read) (own-kept v s is))
 
-pub there-and-back : (v w : ℕ) (s : List ℕ) → isVersion w ≡ true → IsHead v s → loses w (headIn s) ≡ false → ThereAndBack v w s
-there-and-back v w s known is kept = (moves w s (is .read) kept, back)
+pub there-and-back : (v w : ℕ) (s : List ℕ) → isHeadVersion w ≡ true → IsHead v s → loses w (headIn s) ≡ false → ThereAndBack v w s
+there-and-back v w s known is kept = record { there = moves w s (is .read) kept; reads = reads; back = back }
   where
     h : Head
     h = headIn s
@@ -63,18 +63,22 @@ there-and-back v w s known is kept = (moves w s (is .read) kept, back)
     a : allowedHead h ≡ true
     a = passed s (is .read) .ok
 
+    reads : (rest : List ℕ) → headReadingOf (movedBytes w s ++ rest) ≡ openedSays (Found (movedTo w h))
+    reads rest = read-written (movedTo w h) rest (moved-allowed w h known a kept)
+
     back : (rest : List ℕ) → MovesInto v (movedBytes w s ++ rest) (take (headLength v) s)
     back rest =
         let t : List ℕ = movedBytes w s ++ rest in
-        let said : openedSays (Found (movedTo w h)) ≡ headReadingOf t
-        = sym (read-written (movedTo w h) rest (moved-allowed w h known a kept)) in
+        let said : openedSays (Found (movedTo w h)) ≡ headReadingOf t = sym (reads rest) in
         let there : headIn t ≡ movedTo w h = head-said (movedTo w h) t said in
         let nothing : loses v (headIn t) ≡ false = ap (loses v) there ∙ own-kept v s is in
         let same : movedBytes v t ≡ take (headLength v) s = ap (λ (x : Head). headBytes (movedTo v x)) there ∙ own-bytes v s is in
         rw (← same) (moves v t (sym (code-said (Found (movedTo w h)) t said)) nothing)
 
 pub old-new-old : OldNewOld
-old-new-old s is = there-and-back 1 2 s refl is refl
+old-new-old s is =
+    let bared = old-bare (headIn s) (passed s (is .read) .ok) (is .version) in
+    (there-and-back 1 2 s refl is refl, bare-serial (headIn s) bared, bare-clock (headIn s) bared)
 
 pub new-old-new : NewOldNew
 new-old-new s is kept = there-and-back 2 1 s refl is kept

@@ -16,8 +16,9 @@ use Rattle.wire.proofs.Checks.{absent}
 use Rattle.wire.proofs.Lists.{bytes-take, bytes-drop, byte-at}
 use Rattle.wire.proofs.Numbers.{number-bytes, bytes-number}
 use Rattle.heads.specs.declared.Head.{Head}
-use Rattle.heads.specs.Head.{mark, isVersion, fieldsOf, fieldBytes, headBytes, headLength, headLengthIn, versionIn, headIn}
+use Rattle.heads.specs.Head.{mark, isHeadVersion, fieldsOf, fieldBytes, headBytes, headLength, headLengthIn, versionIn, headIn}
 use Rattle.heads.specs.Head.{unknown, nominal, allowedHead, headReadChecks, headReadCode, headReadingOf}
+use Rattle.heads.specs.Head.{AsLongAsItsVersion, ReadAsWritten, WrittenAsRead}
 use Rattle.heads.proofs.Codes.{code-by, reading-by, by-version, least-long, more, bytes-old, bytes-new}
 use Rattle.heads.proofs.Values.{is-version, divisor-small, frequency-small, form-listed, mode-small, size-small}
 use Rattle.heads.proofs.Values.{serial-small, clock-most, old-bare, bare-serial, bare-clock}
@@ -32,7 +33,7 @@ reads s h long marked is a =
     let whole : headLengthIn s ≤ length s = omega (arith, long, ap headLength version) in
     reading-by s
     (code-by s (le-ltb (length s) 14 (omega (arith, long, least-long (h .version)))) (eq-eqb _ _ marked)
-    (ap isVersion version ∙ is-version h a) (le-ltb (length s) (headLengthIn s) whole) (ap allowedHead is ∙ a))
+    (ap isHeadVersion version ∙ is-version h a) (le-ltb (length s) (headLengthIn s) whole) (ap allowedHead is ∙ a))
     ∙ ap (λ (x : Head). record { code = 1; heads = x ∷ [] }) is
 
 -- bytes are read as a head
@@ -69,8 +70,7 @@ module _ (h : Head) (a : allowedHead h ≡ true) (after : List ℕ) where
       holds : headIn (begun h after) ≡ h
       holds = rw (version-back, divisor, frequency, mode, size, serial, clock)
 
-pub read-written : (h : Head) (rest : List ℕ) → allowedHead h ≡ true
-    → headReadingOf (headBytes h ++ rest) ≡ record { code = 1; heads = h ∷ [] }
+pub read-written : ReadAsWritten
 read-written h rest a = by-version (h .version) (is-version h a) old new
   where
     old : h .version ≡ 1 → ReadAs (headBytes h ++ rest) h
@@ -86,7 +86,7 @@ read-written h rest a = by-version (h .version) (is-version h a) old new
         rw (bytes-new h e) (begun-reads h a after (rw e (omega arith)) (rw e serial) (rw e clock))
 
 -- a head has as many bytes as its version says
-pub bytes-long : (h : Head) → isVersion (h .version) ≡ true → length (headBytes h) ≡ headLength (h .version)
+pub bytes-long : AsLongAsItsVersion
 bytes-long h known =
     by-version (h .version) known (λ (e : h .version ≡ 1). rw (bytes-old h e, e)) (λ (e : h .version ≡ 2). rw (bytes-new h e, e))
 
@@ -96,7 +96,7 @@ bytes-long h known =
 pub record Passed (s : List ℕ) : Type 0 where
   pub long : headLengthIn s ≤ length s
   pub marked : field 0 3 s ≡ number mark
-  pub known : isVersion (versionIn s) ≡ true
+  pub known : isHeadVersion (versionIn s) ≡ true
   pub ok : allowedHead (headIn s) ≡ true
 
 pub passed : (s : List ℕ) → headReadCode s ≡ 1 → Passed s
@@ -144,7 +144,7 @@ module _ (s : List ℕ) (small : allBytes s) where
   more-there : 26 ≤ length s → versionIn s ≡ 2 → more (headIn s) ≡ take 12 (drop 14 s)
   more-there long two = rw two (joins 14 8 4 (omega arith) (joins 22 4 0 (omega arith) refl))
 
-pub written-read : (s : List ℕ) → allBytes s → headReadCode s ≡ 1 → headBytes (headIn s) ≡ take (headLengthIn s) s
+pub written-read : WrittenAsRead
 written-read s small e = by-version (versionIn s) (p .known) old new
   where
     p : Passed s

@@ -15,7 +15,7 @@ use Rattle.tuning.specs.Word.{isClock}
 use Rattle.packets.specs.Forms.{formFor, listedForm}
 use Rattle.items.specs.Settings.{isSerial}
 use Rattle.heads.specs.declared.Head.{Head}
-use Rattle.heads.specs.Head.{isVersion, unknown, nominal, formIn, headSerial, bare, namingOk, allowedHead}
+use Rattle.heads.specs.Head.{isHeadVersion, unknown, nominal, formIn, headSerial, bare, namingOk, allowedHead}
 use Rattle.heads.proofs.Codes.{allowed-by}
 
 -- a serial has eight bytes at most
@@ -41,7 +41,7 @@ bare-well h e = rw (bare-serial h e, bare-clock h e)
 
 module _ (h : Head) (a : allowedHead h ≡ true) where
   abbrev versionOk : Bool
-  versionOk = isVersion (h .version)
+  versionOk = isHeadVersion (h .version)
 
   abbrev divisorOk : Bool
   divisorOk = isD (h .divisor)

@@ -1,15 +1,17 @@
 -- Capture heads. 01: "Head, 14 bytes: SPN, 16-bit version 1, 16-bit D, five-byte frequency, mode byte, size byte." 02, No. 9: "Version
 -- 2 of the head adds the serial (eight bytes, all zero for unknown) and the clock (four bytes, the 01 range) after the size byte, 26
 -- bytes in all."
-use Prim.Native.Nat.{ℕ, _^_}
-use mathlib.Core.Bool.{Bool, _&&_, _||_, not}
+use Prim.Native.Nat.{ℕ}
+use mathlib.Core.Path.{_≡_}
+use mathlib.Core.Bool.{Bool, true, _&&_, _||_, not}
 use mathlib.Core.List.{List, [], _∷_, _++_}
 use lib.Dec.{eqb, leb, ltb}
-use lib.ListN.{length}
+use lib.ListN.{length, take}
 use Rattle.wire.specs.Choice.{pick, oneOf, Check, check, firstOf}
 use Rattle.wire.specs.Codes.{othersWrite}
 use Rattle.wire.specs.Codes as Code
 use Rattle.wire.specs.Number.{number, bytes, field}
+use Rattle.wire.specs.Lists.{allBytes}
 use Rattle.rates.specs.Rate.{isD}
 use Rattle.tuning.specs.Bands.{inBands}
 use Rattle.tuning.specs.Word.{isClock}
@@ -26,11 +28,11 @@ use Rattle.heads.specs.declared.Opened.the-variants.{Head as Found, NotA
 abbrev pub mark : List ℕ
 mark = 0x53 ∷ 0x50 ∷ 0x4E ∷ []
 
-abbrev pub versions : List ℕ
-versions = 1 ∷ 2 ∷ []
+abbrev pub headVersions : List ℕ
+headVersions = 1 ∷ 2 ∷ []
 
-abbrev pub isVersion : ℕ → Bool
-isVersion v = oneOf v versions
+abbrev pub isHeadVersion : ℕ → Bool
+isHeadVersion v = oneOf v headVersions
 
 -- ---- the fields of both versions
 
@@ -121,7 +123,7 @@ namingOk h = pick (eqb (h .version) 2) (headSerial (h .serial) && isClock (h .cl
 -- serial and a clock
 unfoldable pub allowedHead : Head → Bool
 allowedHead h =
-    isVersion (h .version) && isD (h .divisor) && inBands (h .frequency) && listedForm (formIn h) && namingOk h
+    isHeadVersion (h .version) && isD (h .divisor) && inBands (h .frequency) && listedForm (formIn h) && namingOk h
 
 -- ---- writing
 
@@ -152,7 +154,7 @@ abbrev pub headReadChecks : List ℕ → List Check
 headReadChecks s =
     check Code.notAHead (ltb (length s) (headLength 1))
     ∷ check Code.notAHead (not (eqb (field 0 3 s) (number mark)))
-    ∷ check Code.otherVersion (not (isVersion (versionIn s)))
+    ∷ check Code.otherVersion (not (isHeadVersion (versionIn s)))
     ∷ check Code.notAHead (ltb (length s) (headLengthIn s))
     ∷ check Code.notAHead (not (allowedHead (headIn s)))
     ∷ []
@@ -172,3 +174,19 @@ openedSays OtherVersion = record { code = Code.otherVersion; heads = [] }
 
 unfoldable pub headReadingOf : List ℕ → HeadReading
 headReadingOf s = record { code = headReadCode s; heads = pick (eqb (headReadCode s) Code.done) (headIn s ∷ []) [] }
+
+-- ---- what is proved of it, of both versions at once: proofs/Rounds
+
+-- "14 bytes", "26 bytes in all"
+abbrev pub AsLongAsItsVersion : Type 0
+AsLongAsItsVersion = (h : Head) → isHeadVersion (h .version) ≡ true → length (headBytes h) ≡ headLength (h .version)
+
+-- What is written is read, whatever follows it: the places of `headIn` are those of the table.
+abbrev pub ReadAsWritten : Type 0
+ReadAsWritten =
+    (h : Head) (rest : List ℕ) → allowedHead h ≡ true
+    → headReadingOf (headBytes h ++ rest) ≡ record { code = Code.done; heads = h ∷ [] }
+
+-- and what is read is what was written
+abbrev pub WrittenAsRead : Type 0
+WrittenAsRead = (s : List ℕ) → allBytes s → headReadCode s ≡ Code.done → headBytes (headIn s) ≡ take (headLengthIn s) s

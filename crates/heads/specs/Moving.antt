@@ -13,7 +13,7 @@ use Rattle.wire.specs.Lists.{allBytes}
 use Rattle.heads.specs.declared.Head.{Head}
 use Rattle.heads.specs.declared.Moved.{Moved}
 use Rattle.heads.specs.declared.Moved.the-variants.{Whole, NotAHead, OtherVersion, WouldLose, NoRoom}
-use Rattle.heads.specs.Head.{unknown, nominal, headLength, versionIn, headIn, bare, headBytes, headReadChecks, headReadCode}
+use Rattle.heads.specs.Head.{unknown, nominal, headLength, versionIn, headIn, bare, headBytes, headReadChecks, headReadCode, headReadingOf}
 
 -- "Old heads move to version 2 with unknown serial and 80,000,000", which is what `headIn` has for them. "A head already there is
 -- returned as it is." So a head that moves says the same as before, in another version.
@@ -74,14 +74,16 @@ abbrev pub MovesInto : ℕ → List ℕ → List ℕ → Type 0
 MovesInto v s t =
     (room : ℕ) → headLength v ≤ room → (movingCode v s room ≡ Code.done) × (moveWrites v s room ≡ t)
 
--- the head of version v that s begins with, moved to version w and back, whatever follows it there, is the same bytes
-abbrev pub ThereAndBack : ℕ → ℕ → List ℕ → Type 0
-ThereAndBack v w s =
-    MovesInto w s (movedBytes w s) × ((rest : List ℕ) → MovesInto v (movedBytes w s ++ rest) (take (headLength v) s))
+-- The head of version v that s begins with, moved to version w: whatever follows it there, it is read as the same head in that version,
+-- and moved back it is the same bytes.
+pub record ThereAndBack (v w : ℕ) (s : List ℕ) : Type 0 where
+  pub there : MovesInto w s (movedBytes w s)
+  pub reads : (rest : List ℕ) → headReadingOf (movedBytes w s ++ rest) ≡ record { code = Code.done; heads = movedTo w (headIn s) ∷ [] }
+  pub back : (rest : List ℕ) → MovesInto v (movedBytes w s ++ rest) (take (headLength v) s)
 
--- "old to new to old is the same 14 bytes"
+-- "Old heads move to version 2 with unknown serial and 80,000,000", and "old to new to old is the same 14 bytes"
 abbrev pub OldNewOld : Type 0
-OldNewOld = (s : List ℕ) → IsHead 1 s → ThereAndBack 1 2 s
+OldNewOld = (s : List ℕ) → IsHead 1 s → ThereAndBack 1 2 s × (headIn s .serial ≡ unknown) × (headIn s .clock ≡ nominal)
 
 -- and where going back is not refused, new to old to new is the same 26
 abbrev pub NewOldNew : Type 0

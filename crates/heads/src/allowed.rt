@@ -2,7 +2,7 @@
 ghost use mathlib.Core.Path.{_≡_};
 ghost use mathlib.Core.Bool.{_&&_};
 ghost use Rattle.tuning.specs.Word.{isClock};
-ghost use Rattle.heads.specs.Head.{isVersion, headLength, formIn, headSerial, bare, allowedHead};
+ghost use Rattle.heads.specs.Head.{isHeadVersion, headLength, formIn, headSerial, bare, allowedHead};
 ghost use Rattle.heads.specs.Inside.{firstAllowed};
 use crate::Head;
 use packets::Form;
@@ -10,8 +10,8 @@ use packets::Form;
 // The clock of a head that names none.
 pub const NOMINAL: u32 = 80_000_000;
 
-pub(crate) fn is_version(version: u32) -> bool
-    ensures { λ r. ⌜ r ≡ isVersion version ⌝ }
+pub(crate) fn is_head_version(version: u32) -> bool
+    ensures { λ r. ⌜ r ≡ isHeadVersion version ⌝ }
 {
     (version == 1) | (version == 2)
 }
@@ -55,7 +55,7 @@ pub(crate) fn is_bare(h: Head) -> bool
 pub(crate) fn first_allowed(version: u32, divisor: u32, frequency: u64, mode: u8, size: u8) -> bool
     ensures { λ r. ⌜ r ≡ firstAllowed version divisor frequency mode size ⌝ }
 {
-    is_version(version)
+    is_head_version(version)
         & rates::is_d(divisor)
         & tuning::in_bands(frequency)
         & items::ranges::is_mode(mode)

@@ -3,7 +3,7 @@ ghost use mathlib.Core.Path.{_≡_};
 ghost use mathlib.Core.Bool.{true};
 ghost use lib.ListN.{length};
 ghost use lib.Seq.{sets};
-ghost use Rattle.heads.specs.Head.{isVersion};
+ghost use Rattle.heads.specs.Head.{isHeadVersion};
 ghost use Rattle.heads.specs.Moving.{movedTo, loses, movedCode, movingCode, moveWrites};
 ghost use Rattle.heads.specs.Inside.{putCode, putBytes};
 use crate::Head;
@@ -39,7 +39,7 @@ fn would_lose(version: u32, h: Head) -> bool
 
 // A head that was read, in another version.
 fn put_moved(version: u32, h: Head, out: &mut [u8]) -> Moved
-    requires { ⌜ isVersion version ≡ true ⌝ }
+    requires { ⌜ isHeadVersion version ≡ true ⌝ }
     ensures { λ r.
         ⌜ (movedCode r ≡ putCode version h (length (now (out .entry))))
         × (now (out .exit) ≡ sets (now (out .entry)) 0 (putBytes version h (length (now (out .entry))))) ⌝ }
@@ -55,7 +55,7 @@ fn put_moved(version: u32, h: Head, out: &mut [u8]) -> Moved
 }
 
 fn move_to(version: u32, s: &[u8], out: &mut [u8]) -> Moved
-    requires { ⌜ isVersion version ≡ true ⌝ }
+    requires { ⌜ isHeadVersion version ≡ true ⌝ }
     ensures { λ r.
         ⌜ (movedCode r ≡ movingCode version (now (s .entry)) (length (now (out .entry))))
         × (now (out .exit) ≡ sets (now (out .entry)) 0 (moveWrites version (now (s .entry)) (length (now (out .entry))))) ⌝ }

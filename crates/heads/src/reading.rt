@@ -14,7 +14,7 @@ use crate::SHORTEST;
 use crate::allowed::NOMINAL;
 use crate::allowed::first_allowed;
 use crate::allowed::head_length;
-use crate::allowed::is_version;
+use crate::allowed::is_head_version;
 use crate::allowed::names_well;
 use crate::writing::MARK;
 use wire::codes;
@@ -161,7 +161,7 @@ pub(crate) fn read_code(s: &[u8]) -> u8
         return codes::NOT_A_HEAD;
     }
     let version = (low / 16_777_216 % 65_536) as u32;
-    if !is_version(version) {
+    if !is_head_version(version) {
         return codes::OTHER_VERSION;
     }
     if s.len() < head_length(version) {

@@ -6,7 +6,7 @@ ghost use Prim.Native.Nat.{_≤_};
 ghost use lib.ListN.{length};
 ghost use lib.Seq.{sets};
 ghost use Rattle.wire.specs.Number.{bytes};
-ghost use Rattle.heads.specs.Head.{fieldsOf, fieldBytes, headLength, isVersion, headBytes, headWriteCode, writtenCode, writtenBytes};
+ghost use Rattle.heads.specs.Head.{fieldsOf, fieldBytes, headLength, isHeadVersion, headBytes, headWriteCode, writtenCode, writtenBytes};
 use crate::Head;
 use crate::Written;
 use crate::allowed::head_length;
@@ -20,9 +20,9 @@ pub(crate) const MARK: u64 = 0x4E_50_53;
 fn put_first(h: Head, out: &mut [u8])
     ensures { λ _. ⌜ now (out .exit) ≡ sets (now (out .entry)) 0 (fieldBytes 1 (fieldsOf h)) ⌝ }
 {
-    let named = MARK + 16_777_216 * (h.version as u64 % 65_536);
+    let marked = MARK + 16_777_216 * (h.version as u64 % 65_536);
     let tuned = h.divisor as u64 % 65_536 + 65_536 * (h.frequency % 256);
-    wire::put(out, 0, 8, named + 1_099_511_627_776 * tuned);
+    wire::put(out, 0, 8, marked + 1_099_511_627_776 * tuned);
     wire::put(out, 8, 4, h.frequency / 256);
     wire::put(out, 12, 1, h.mode as u64);
     wire::put(out, 13, 1, h.size as u64);
@@ -38,7 +38,7 @@ fn put_rest(serial: u64, clock: u32, out: &mut [u8])
 
 // A head at the start of a slice that has room for it.
 pub(crate) fn put_head(h: Head, out: &mut [u8])
-    requires { ⌜ (isVersion (h .version) ≡ true) × (headLength (h .version) ≤ length (now out)) ⌝ }
+    requires { ⌜ (isHeadVersion (h .version) ≡ true) × (headLength (h .version) ≤ length (now out)) ⌝ }
     ensures { λ _. ⌜ now (out .exit) ≡ sets (now (out .entry)) 0 (headBytes h) ⌝ }
 {
     put_first(h, &mut out[..14]);

@@ -17,7 +17,7 @@ use Rattle.tuning.specs.Word.{isClock}
 use Rattle.packets.specs.Forms.{formFor, listedForm}
 use Rattle.items.specs.Settings.{isSerial, allSerial, holdsSerial}
 use Rattle.heads.specs.declared.Head.{Head}
-use Rattle.heads.specs.Head.{unknown, nominal, isVersion, headSerial, namingOk, formIn, allowedHead}
+use Rattle.heads.specs.Head.{unknown, nominal, isHeadVersion, headSerial, namingOk, formIn, allowedHead}
 use Rattle.heads.proofs.Codes.{allowed-by}
 use Rattle.headwords.specs.declared.Worded.{Worded}
 use Rattle.headwords.specs.declared.Worded.the-variants.{Head as Found, BadDivisor, BadFrequency, BadBits, BadSize}
@@ -123,8 +123,8 @@ module _ (h : Head) (serial clock : List ℕ) where
       go true false e f = tt
       go true true e f =
           let all = sym (allowed-by h refl refl refl refl refl) ∙ ok in
-          let others-ok : Bool = isVersion (h .version) && isD (h .divisor) && inBands (h .frequency) && listedForm (formIn h) in
+          let others-ok : Bool = isHeadVersion (h .version) && isD (h .divisor) && inBands (h .frequency) && listedForm (formIn h) in
           let four = and-left others-ok (namingOk h) all in
           let names : namingOk (namedHead h serial clock) ≡ true = rw (serial-ok bytes-all e, f) refl in
           allowed-by (namedHead h serial clock) refl refl refl refl names
-          ∙ others (isVersion (h .version)) (isD (h .divisor)) (inBands (h .frequency)) (listedForm (formIn h)) four
+          ∙ others (isHeadVersion (h .version)) (isD (h .divisor)) (inBands (h .frequency)) (listedForm (formIn h)) four

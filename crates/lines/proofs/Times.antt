@@ -8,6 +8,7 @@ use native.Mathlib.Omega.{arith}
 use lib.Dec.{T}
 use Rattle.wire.proofs.Laws.{within-low}
 use Rattle.tuning.specs.Word.{isClock}
+use Rattle.lines.specs.Inside.{splitTime}
 use Rattle.lines.specs.Lines.{endTime, TimeExact, TimeAsBefore, times, allTimed}
 use Rattle.lines.proofs.Dues.{time-fits}
 
@@ -20,13 +21,16 @@ split-quotient n k c some =
     = ap (λ (m : ℕ). m * k) (sym (div-add-mod n c)) ∙ add-mul (c * q) r k ∙ ap (λ (m : ℕ). m + r * k) (mul-assoc c q k) in
     sym (ap (λ (m : ℕ). m / c) parts ∙ mul-add-div some (q * k) (r * k))
 
+-- so what the code counts is the end time
+pub counted : (d clock samples : ℕ) → 0 < clock → splitTime clock (samples * (4 * d)) ≡ endTime d clock samples
+counted d clock samples some = split-quotient (samples * (4 * d)) 1_000_000 clock some
+
 pub time-exact : TimeExact
 time-exact d clock samples some =
     let n : ℕ = samples * (4 * d) * 1_000_000 in
     let same : samples * 4 * d * 1_000_000 ≡ n = ap (λ (m : ℕ). m * 1_000_000) (mul-assoc samples 4 d) in
     let next : (n / clock + 1) * clock ≡ n / clock * clock + clock = omega (arith, add-mul (n / clock) 1 clock) in
     record {
-      counted = split-quotient (samples * (4 * d)) 1_000_000 clock some;
       low = omega (arith, same, div-mul-le-self n clock);
       high = omega (arith, same, next, lt-div-mul-add {a = n} some);
     }

@@ -84,15 +84,8 @@ endLine captures = record { word = 0x45 ∷ []; numbers = captures ∷ [] }
 
 -- ---- what is proved of the end time: proofs/Times
 
--- How the code counts, since the product of `endTime` can have more than 64 bits: the whole seconds first, and then the
--- microseconds of the cycles that are left. A sample takes 4D cycles of the clock.
-abbrev pub splitTime : ℕ → ℕ → ℕ
-splitTime clock cycles = cycles / clock * 1_000_000 + cycles % clock * 1_000_000 / clock
-
--- So many samples at D and a clock: the code counts their end time, and that is the greatest whole number of microseconds that is
--- not above samples x 4D / clock seconds.
+-- So many samples at D and a clock: the greatest whole number of microseconds that is not above samples x 4D / clock seconds.
 pub record ExactTime (d clock samples : ℕ) : Type 0 where
-  pub counted : splitTime clock (samples * (4 * d)) ≡ endTime d clock samples
   pub low : endTime d clock samples * clock ≤ samples * 4 * d * 1_000_000
   pub high : samples * 4 * d * 1_000_000 < (endTime d clock samples + 1) * clock
 

@@ -23,7 +23,7 @@ use Rattle.reads.specs.Got.{NoMore}
 use Rattle.reads.proofs.Got.{whole}
 use Rattle.lines.specs.Lines.{lineText, refusalLine}
 use Rattle.heads.specs.declared.Head.{Head}
-use Rattle.heads.specs.Head.{isVersion, headLength, headLengthIn, headBytes, headIn, headReadChecks, headReadCode}
+use Rattle.heads.specs.Head.{isHeadVersion, headLength, headLengthIn, headBytes, headIn, headReadChecks, headReadCode}
 use Rattle.heads.specs.Moving.{loses, movedTo, movingChecks, movingCode, movedBytes, moveWrites}
 use Rattle.heads.proofs.Codes.{by-version, bytes-old, bytes-new, most-long, moving-stops, moving-goes, put-by}
 use Rattle.moves.specs.Moves.{refusedLine, Enough, FilledUp}
@@ -36,7 +36,7 @@ head-inside v s room moves =
     ltb-false (length s) (headLengthIn s) (none .1 .1 .1 .0)
 
 -- a head of a version has as many bytes as that version has
-length-moved : (v : ℕ) (h : Head) → isVersion v ≡ true → length (headBytes (movedTo v h)) ≡ headLength v
+length-moved : (v : ℕ) (h : Head) → isHeadVersion v ≡ true → length (headBytes (movedTo v h)) ≡ headLength v
 length-moved v h ok =
     by-version v ok
     (λ (e : v ≡ 1). ap length (bytes-old (movedTo v h) e) ∙ rw e refl)
@@ -47,7 +47,7 @@ pub record Stands (v : ℕ) (first array : List ℕ) : Type 0 where
   pub inside : headLength v ≤ length array
   pub bytes : take (headLength v) array ≡ movedBytes v first
 
-pub stands : (v : ℕ) (first l array : List ℕ) → isVersion v ≡ true → length l ≡ 26 → movingCode v first 26 ≡ 1
+pub stands : (v : ℕ) (first l array : List ℕ) → isHeadVersion v ≡ true → length l ≡ 26 → movingCode v first 26 ≡ 1
     → array ≡ sets l 0 (moveWrites v first 26) → Stands v first array
 stands v first l array ok long moves stored =
     let writes : moveWrites v first 26 ≡ movedBytes v first = ap (λ (n : ℕ). othersWrite n (movedBytes v first)) moves in

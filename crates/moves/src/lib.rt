@@ -10,7 +10,7 @@ ghost use Prim.Native.Nat.{_≤_};
 ghost use lib.ListN.{length, take, drop};
 ghost use Rattle.reads.specs.Got.{AllOf, NoMore, Whole};
 ghost use Rattle.lines.specs.Lines.{lineText};
-ghost use Rattle.heads.specs.Head.{isVersion, headLength, headLengthIn};
+ghost use Rattle.heads.specs.Head.{isHeadVersion, headLength, headLengthIn};
 ghost use Rattle.heads.specs.Moving.{movedBytes};
 ghost use Rattle.moves.specs.Moves.{ReadBehind, FilledUp, MovedAs, Enough, Moving, refusedLine, movedLine};
 
@@ -46,7 +46,7 @@ fn fill(buf: &mut [u8]) -> Filled
 }
 
 fn to_version(version: u32, first: &[u8], head: &mut [u8]) -> Moved
-    requires { ⌜ isVersion version ≡ true ⌝ }
+    requires { ⌜ isHeadVersion version ≡ true ⌝ }
     ensures { λ r. ⌜ MovedAs version (now (first .entry)) (now (head .entry)) (now (head .exit)) r ⌝ }
 {
     if version == 2 {
@@ -106,7 +106,7 @@ fn never() -> Begun
 
 // Moves the head that the first bytes begin with.
 fn begin(version: u32, got: isize, first: &[u8]) -> Begun
-    requires { ⌜ (isVersion version ≡ true) × Enough got (now first) ⌝ }
+    requires { ⌜ (isHeadVersion version ≡ true) × Enough got (now first) ⌝ }
 {
     let mut head = [0u8; 26];
     let moved = to_version(version, first, &mut head);
@@ -169,7 +169,7 @@ fn say_moved(version: u32, got: isize, line: &[u8])
 }
 
 fn moved_whole(version: u32, got: isize)
-    requires { ⌜ (isVersion version ≡ true) × Whole got ⌝ }
+    requires { ⌜ (isHeadVersion version ≡ true) × Whole got ⌝ }
 {
     if version == 2 {
         say_moved(version, got, b"H 2\n");
@@ -196,7 +196,7 @@ fn unwritten(version: u32) {
 
 // What is left once the first bytes are written: the rest of the input, where it has not ended with them.
 fn finish(version: u32, last: isize, buf: &mut [u8])
-    requires { ⌜ isVersion version ≡ true ⌝ }
+    requires { ⌜ isHeadVersion version ≡ true ⌝ }
 {
     if last == 0 {
         moved_whole(version, last);
@@ -215,7 +215,7 @@ fn finish(version: u32, last: isize, buf: &mut [u8])
 }
 
 fn move_file(version: u32, buf: &mut [u8])
-    requires { ⌜ (isVersion version ≡ true) × (26 ≤ length (now buf)) ⌝ }
+    requires { ⌜ (isHeadVersion version ≡ true) × (26 ≤ length (now buf)) ⌝ }
 {
     let filled = fill(buf);
     if filled.got < 0 {

@@ -16,15 +16,16 @@ use Rattle.wire.proofs.Lists.{bytes-drop}
 use Rattle.wire.proofs.Numbers.{field-front}
 use Rattle.wire.proofs.Stores.{sets-taken}
 use Rattle.heads.specs.declared.Head.{Head}
-use Rattle.heads.specs.Head.{mark, isVersion, headLength, headLengthIn, versionIn, headIn}
+use Rattle.heads.specs.Head.{mark, isHeadVersion, nominal, headLength, headLengthIn, versionIn, headIn}
 use Rattle.heads.specs.Head.{headReadCode}
 use Rattle.heads.proofs.Codes.{code-by, longer, most-long}
 use Rattle.heads.proofs.Fronts.{same-code, same-head}
 use Rattle.heads.proofs.Rounds.{passed}
 use Rattle.heads.proofs.Values.{form-listed}
 use Rattle.spans.specs.declared.Span.{Span}
-use Rattle.lines.specs.Lines.{Line, textOf, openingLine, refusalLine}
-use Rattle.spans.specs.Report.{nothing, packetLines, linesOf, report}
+use Rattle.lines.specs.Lines.{Line, textOf, openingLine, endTime, refusalLine}
+use Rattle.lines.proofs.Times.{time-as-before}
+use Rattle.spans.specs.Report.{nothing, packetLines, linesOf, report, OldTimesStay}
 use Rattle.spans.specs.Eating.{tallyFrom, freshSpan, headLacks, headOf, lacking, headWantsBy, headTaken, headLines}
 use Rattle.spans.specs.Pieces.{PrintsTheReport}
 use Rattle.spans.proofs.Telling.{ifOne, comingBy}
@@ -75,7 +76,7 @@ module _ (input : List ℕ) where
       second some true marked =
           let less : length input < all = omega (arith, short, wants-all some) in
           let two : eqb (versionIn input) 2 ≡ true = longer (versionIn input) (omega arith) in
-          code-by input (le-ltb (length input) 14 some) marked (ap isVersion (eqb-true (versionIn input) 2 two))
+          code-by input (le-ltb (length input) 14 some) marked (ap isHeadVersion (eqb-true (versionIn input) 2 two))
           (lt-ltb (length input) all less) refl
 
   cut-head : length input < headWantsBy freshSpan input → comingHead freshSpan input ≡ linesOf input
@@ -145,3 +146,8 @@ module _ (input : List ℕ) where
 pub report-is : PrintsTheReport
 unfolding report
 report-is pieces small near = printed-is pieces near ∙ ap textOf (coming-input (joined pieces) small)
+
+pub old-times-stay : OldTimesStay
+old-times-stay input samples one =
+    ap (λ (v : ℕ). endTime (headIn input .divisor) (pick (eqb v 2) (field 22 4 input) nominal) samples) one
+    ∙ time-as-before (headIn input .divisor) samples

@@ -1,7 +1,7 @@
 -- What the span program prints for a whole input: a head, and then packets. Of the crates lines, hearing, spans and span this
 -- is all that a reader of 01 needs, with the text of the lines (lines/specs/Lines); that it is what is printed, however the
 -- input comes, is said in Pieces (`PrintsTheReport`) and proved in proofs/Inputs (`report-is`).
-use Prim.Native.Nat.{ℕ, zero, suc, _+_, _-_}
+use Prim.Native.Nat.{ℕ, zero, suc, _+_, _-_, _*_, _/_}
 use mathlib.Core.Path.{_≡_}
 use mathlib.Core.Bool.{Bool, true, not}
 use mathlib.Core.List.{List, [], _∷_, _++_}
@@ -16,9 +16,9 @@ use Rattle.packets.specs.Missed.{stepsBy, missedOver}
 use Rattle.reader.specs.declared.Reader.{Reader}
 use Rattle.reader.specs.Reading.{silent, positionAfter, readingCode, readingOf}
 use Rattle.heads.specs.declared.Head.{Head}
-use Rattle.heads.specs.Head.{headLengthIn, formIn, headIn}
+use Rattle.heads.specs.Head.{versionIn, headLengthIn, formIn, headIn}
 use Rattle.heads.specs.Head.{headReadCode}
-use Rattle.lines.specs.Lines.{Line, textOf, openingLine, captureLine, refusalLine, endLine}
+use Rattle.lines.specs.Lines.{Line, textOf, openingLine, endTime, captureLine, refusalLine, endLine}
 
 -- ---- the packets of the input
 
@@ -135,7 +135,13 @@ linesOf input =
 unfoldable pub report : List ℕ → List ℕ
 report input = textOf (linesOf input)
 
--- ---- what is proved of it: proofs/Adds, proofs/Follows
+-- ---- what is proved of it: proofs/Adds, proofs/Follows, proofs/Inputs
+
+-- With a head of version 1 end times are as they were before No. 9: "samples x D / 20 rounded down" (01).
+abbrev pub OldTimesStay : Type 0
+OldTimesStay =
+    (input : List ℕ) (samples : ℕ) → versionIn input ≡ 1
+    → endTime (headIn input .divisor) (headIn input .clock) samples ≡ samples * headIn input .divisor / 20
 
 -- An accepted packet leaves the reader that the packet reader has after it: so a line's missed packets are the reader's total.
 abbrev pub FollowsTheReader : Type 0

@@ -101,7 +101,7 @@ pastLast = 33
 abbrev pub notAHead : ℕ
 notAHead = 40
 
--- head of another version
+-- head of a version other than 1 and 2 (02, No. 9)
 abbrev pub otherVersion : ℕ
 otherVersion = 41
 

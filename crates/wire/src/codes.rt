@@ -48,7 +48,7 @@ pub const FORM_CHANGED: u8 = 32;
 pub const PAST_LAST: u8 = 33;
 // not a capture head
 pub const NOT_A_HEAD: u8 = 40;
-// head of another version
+// head of a version other than 1 and 2 (02, No. 9)
 pub const OTHER_VERSION: u8 = 41;
 // going back to version 1 would lose the serial or the clock (02, No. 9)
 pub const WOULD_LOSE: u8 = 42;

@@ -4,7 +4,7 @@ use mathlib.Core.Bool.{Bool, true, false, _&&_}
 use Rattle.rates.specs.Rate.{isD}
 use Rattle.tuning.specs.Bands.{inBands}
 use Rattle.items.specs.Settings.{isMode, isSize}
-use Rattle.heads.specs.Head.{isVersion}
+use Rattle.heads.specs.Head.{isHeadVersion}
 use Rattle.heads.proofs.Listed.{mode-and-size}
 use borrow.Author.Needs.{needs}
 use Rattle.heads.proofs.allowed.first_allowed.Statement.{statement}
@@ -14,8 +14,8 @@ last-two : (a b c : Bool) → a && b && c ≡ a && (b && c)
 last-two true b c = refl
 last-two false b c = refl
 
-is-version-requires : tie.Need-is-version-requires
-is-version-requires c κs = search needs
+is-head-version-requires : tie.Need-is-head-version-requires
+is-head-version-requires c κs = search needs
 
 is-d-requires : tie.Need-is-d-requires
 is-d-requires c κs = search needs
@@ -36,20 +36,20 @@ returns c =
     let d = bands .before in
     let a = d .before .before .args in
     rw (
-      d .before .is-version .ensures,
+      d .before .is-head-version .ensures,
       d .is-d .ensures,
       bands .in-bands .ensures,
       mode .is-mode .ensures,
       c .is-size .ensures,
       mode-and-size (a .mode) (a .size),
     )
-    (last-two (isVersion (a .version) && isD (a .divisor) && inBands (a .frequency)) (isMode (a .mode)) (isSize (a .size)))
+    (last-two (isHeadVersion (a .version) && isD (a .divisor) && inBands (a .frequency)) (isMode (a .mode)) (isSize (a .size)))
 
 pub first-allowed-spec : {M : Type 1} → statement M
 first-allowed-spec =
     tie.close
     (tie.spec
-    is-version-requires
+    is-head-version-requires
     is-d-requires
     in-bands-requires
     is-mode-requires

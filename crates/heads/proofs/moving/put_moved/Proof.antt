@@ -9,7 +9,7 @@ use lib.Seq.{sets}
 use borrow.Author.Tests.{lt-ltb, le-ltb}
 use denote.Ref.{now}
 use Rattle.heads.specs.declared.Head.{Head}
-use Rattle.heads.specs.Head.{isVersion, headLength, headBytes}
+use Rattle.heads.specs.Head.{isHeadVersion, headLength, headBytes}
 use Rattle.heads.specs.Moving.{loses}
 use Rattle.heads.proofs.Codes.{put-by}
 use borrow.Author.Needs.{needs}
@@ -57,7 +57,7 @@ put-head-requires c κs =
     let version = ap (λ (h : Head). h .version) (moved .moved-to .ensures) in
     let room : headLength (s .args .version) ≤ length (now (s .args .out))
     = omega (arith, tested .if2 .left, tested .before .head-length .ensures) in
-    (ap isVersion version ∙ s .pre, rw version room)
+    (ap isHeadVersion version ∙ s .pre, rw version room)
 
 same-length : tie.Need-same-length
 same-length c = search needs

@@ -11,7 +11,7 @@ use borrow.Author.Tests.{lt-ltb, le-ltb, eq-eqb, ne-eqb, not-true, not-false}
 use denote.Ref.{now}
 use Rattle.wire.specs.Number.{number, field}
 use Rattle.wire.proofs.Numbers.{field-front}
-use Rattle.heads.specs.Head.{mark, isVersion, versionIn, headLength, headLengthIn, headIn, allowedHead, headReadCode}
+use Rattle.heads.specs.Head.{mark, isHeadVersion, versionIn, headLength, headLengthIn, headIn, allowedHead, headReadCode}
 use Rattle.heads.proofs.Codes.{codeBy, code-by}
 use Rattle.heads.proofs.Words.{low-mark, low-version}
 use borrow.Author.Needs.{needs}
@@ -55,8 +55,8 @@ named c = c .before .before
 abbrev all : tie.Else3 → List ℕ
 all c = came (enough (ours (named c)))
 
-known : (c : tie.Else3) → isVersion (versionIn (all c)) ≡ true
-known c = sym (c .before .is-version .ensures ∙ ap isVersion (version-is (ours (named c)))) ∙ not-false _ (c .if3 .left)
+known : (c : tie.Else3) → isHeadVersion (versionIn (all c)) ≡ true
+known c = sym (c .before .is-head-version .ensures ∙ ap isHeadVersion (version-is (ours (named c)))) ∙ not-false _ (c .if3 .left)
 
 abbrev told : tie.Else4 → tie.Else3
 told c = c .before .before
@@ -89,13 +89,13 @@ returns-2 c =
 cast-version : tie.Need-cast-version
 cast-version c = search needs
 
-is-version-requires : tie.Need-is-version-requires
-is-version-requires c κs = search needs
+is-head-version-requires : tie.Need-is-head-version-requires
+is-head-version-requires c κs = search needs
 
 returns-3 : tie.Need-returns-3
 returns-3 c =
     let e = c .before .before in
-    let none = sym (c .before .is-version .ensures ∙ ap isVersion (version-is (ours e))) ∙ not-true _ (c .if3 .taken) in
+    let none = sym (c .before .is-head-version .ensures ∙ ap isHeadVersion (version-is (ours e))) ∙ not-true _ (c .if3 .taken) in
     sym (code-by (came (enough (ours e))) (long (enough (ours e))) (marked e) none refl refl)
 
 head-length-requires : tie.Need-head-length-requires
@@ -126,7 +126,7 @@ read-code-spec =
     number-at-requires
     returns-2
     cast-version
-    is-version-requires
+    is-head-version-requires
     returns-3
     head-length-requires
     returns-4

@@ -10,14 +10,14 @@ use borrow.Author.Needs.{needs}
 use Rattle.heads.proofs.writing.put_first.Statement.{statement}
 use Rattle.heads.proofs.writing.put_first.Tie as tie
 
-cast-named : tie.Need-cast-named
-cast-named c = search needs
+cast-marked : tie.Need-cast-marked
+cast-marked c = search needs
 
-mul-named : tie.Need-mul-named
-mul-named c = search needs
+mul-marked : tie.Need-mul-marked
+mul-marked c = search needs
 
-add-named : tie.Need-add-named
-add-named c = search needs
+add-marked : tie.Need-add-marked
+add-marked c = search needs
 
 cast-tuned : tie.Need-cast-tuned
 cast-tuned c = search needs
@@ -83,9 +83,9 @@ pub put-first-spec : {M : Type 1} → statement M
 put-first-spec =
     tie.close
     (tie.spec
-    cast-named
-    mul-named
-    add-named
+    cast-marked
+    mul-marked
+    add-marked
     cast-tuned
     mul-tuned
     add-tuned

@@ -4,8 +4,8 @@ use Prim.Native.Nat.{_*_, _≤_, _<_}
 use native.Mathlib.Nat.{mod-lt}
 use native.Mathlib.Omega.{arith}
 use Rattle.wire.proofs.Laws.{within-low, within-high}
-use Rattle.lines.specs.Lines.{splitTime}
-use Rattle.lines.proofs.Times.{time-exact, cycles-fit, time-below}
+use Rattle.lines.specs.Inside.{splitTime}
+use Rattle.lines.proofs.Times.{counted, cycles-fit, time-below}
 use Rattle.lines.proofs.telling.end_time.Statement.{statement}
 use Rattle.lines.proofs.telling.end_time.Tie as tie
 
@@ -18,7 +18,7 @@ few-cycles c = cycles-fit (c .args .samples) (c .args .divisor) (c .pre .0) (c .
 counted-below : (c : tie.Start) → splitTime (c .args .clock) (c .args .samples * (4 * c .args .divisor)) ≤ 32_003_200_320_032
 counted-below c =
     let a = c .args in
-    rw (time-exact (a .divisor) (a .clock) (a .samples) (some c) .counted)
+    rw (counted (a .divisor) (a .clock) (a .samples) (some c))
     (time-below (a .samples) (a .divisor) (c .pre .0) (c .pre .1) (a .clock) (c .pre .2))
 
 mul-cycles : tie.Need-mul-cycles
@@ -49,7 +49,7 @@ add-result : tie.Need-add-result
 add-result c = omega (arith, counted-below c)
 
 returns : tie.Need-returns
-returns c = time-exact (c .args .divisor) (c .args .clock) (c .args .samples) (some c) .counted
+returns c = counted (c .args .divisor) (c .args .clock) (c .args .samples) (some c)
 
 pub end-time-spec : {M : Type 1} → statement M
 end-time-spec =
