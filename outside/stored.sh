@@ -1,9 +1,11 @@
 #!/bin/sh
-# stored.sh: the long inputs that the gate runs session and span on, each over two full reads of the program and a short
+# stored.sh: the long inputs that the gate runs session, span and newer on, each over two full reads of the program and a short
 # third. What is made in one read is asked for in another, and a message or packet lies across each seam.
 #
 #     outside/stored.sh session > crates/session/stdin
 #     outside/stored.sh span > crates/span/stdin
+#     outside/stored.sh newer > crates/newer/stdin
+#     outside/stored.sh newer_moved > crates/newer/stdout
 set -eu
 
 zeros() { head -c "$1" /dev/zero; }
@@ -51,7 +53,20 @@ span() {
     for n in $(seq 0 6) $(seq 9 301) $(seq 0 99) $(seq 101 210); do packet "$n"; done
 }
 
+# The same for newer, whose buffer is as long: 510 packets, each full of its own number, so that no two pieces look alike.
+numbered() {
+    for n in $(seq 0 509); do
+        pair=$(printf '\\%03o\\%03o' $((n % 256)) $((n / 256)))
+        printf '\004\204'
+        printf "$pair%.0s" $(seq 513)
+    done
+}
+head_of() { printf "SPN\\$1\000\144\000\220\306\325\000\000\000\000"; } # 14 bytes of version $1
+newer() { head_of 001 && numbered; }
+# and what it is in version 2: serial unknown, and 80,000,000 in four bytes
+newer_moved() { head_of 002 && zeros 8 && printf '\000\264\304\004' && numbered; }
+
 case ${1-} in
-session | span) "$1" ;;
-*) sed -n '2,6s/^# \{0,1\}//p' "$0" >&2; exit 2 ;;
+session | span | newer | newer_moved) "$1" ;;
+*) sed -n '2,8s/^# \{0,1\}//p' "$0" >&2; exit 2 ;;
 esac

@@ -9,6 +9,7 @@ ghost use mathlib.Core.Path.{_≡_};
 ghost use mathlib.Core.Bool.{true};
 ghost use Rattle.heads.specs.Head.{headBytes, allowedHead};
 ghost use Rattle.headwords.specs.Words.{Fit};
+ghost use Rattle.head.specs.Command.{wordedOf};
 
 // Writes a head's bytes. The head is there for the contract alone, which says whose they are.
 fn write_bytes(h: Head, bytes: &[u8])
@@ -46,9 +47,20 @@ fn say(line: &[u8]) {
     io::write_all(STDERR_FILENO, line);
 }
 
-// Writes the head that words came to, or says which word is none of those allowed, and what is.
-fn answer(worded: Worded)
-    requires { ⌜ Fit worded ⌝ }
+// Writes the head that words came to, or says which word is none of those allowed, and what is. The words and their number are there
+// for the contract alone, which says whose head it is.
+fn answer(
+    count: usize,
+    d: &[u8],
+    hz: &[u8],
+    bits: &[u8],
+    size: &[u8],
+    serial: &[u8],
+    clock: &[u8],
+    worded: Worded,
+)
+    requires { ⌜ Fit worded
+        × (worded ≡ wordedOf count (now d) (now hz) (now bits) (now size) (now serial) (now clock)) ⌝ }
 {
     match worded {
         Worded::Head(h) => write_whole(h),
@@ -65,8 +77,32 @@ fn answer(worded: Worded)
     }
 }
 
+fn answer_four(count: usize, d: &[u8], hz: &[u8], bits: &[u8], size: &[u8])
+    requires { ⌜ count ≡ 5 ⌝ }
+{
+    let worded = headwords::plain(d, hz, bits, size);
+    answer(count, d, hz, bits, size, b"", b"", worded);
+}
+
+fn answer_six(
+    count: usize,
+    d: &[u8],
+    hz: &[u8],
+    bits: &[u8],
+    size: &[u8],
+    serial: &[u8],
+    clock: &[u8],
+)
+    requires { ⌜ count ≡ 7 ⌝ }
+{
+    let worded = headwords::named(d, hz, bits, size, serial, clock);
+    answer(count, d, hz, bits, size, serial, clock, worded);
+}
+
 // The first four words. One of more than 32 bytes is none of those allowed, and counts as empty, which is none either.
-fn from_four() {
+fn from_four(count: usize)
+    requires { ⌜ count ≡ 5 ⌝ }
+{
     let mut d = [0u8; 32];
     let d_long = os::arg(1, &mut d);
     let mut hz = [0u8; 32];
@@ -75,16 +111,19 @@ fn from_four() {
     let bits_long = os::arg(3, &mut bits);
     let mut size = [0u8; 32];
     let size_long = os::arg(4, &mut size);
-    answer(headwords::plain(
+    answer_four(
+        count,
         &d[..d_long],
         &hz[..hz_long],
         &bits[..bits_long],
         &size[..size_long],
-    ));
+    );
 }
 
 // All six, likewise.
-fn from_six() {
+fn from_six(count: usize)
+    requires { ⌜ count ≡ 7 ⌝ }
+{
     let mut d = [0u8; 32];
     let d_long = os::arg(1, &mut d);
     let mut hz = [0u8; 32];
@@ -97,23 +136,24 @@ fn from_six() {
     let serial_long = os::arg(5, &mut serial);
     let mut clock = [0u8; 32];
     let clock_long = os::arg(6, &mut clock);
-    answer(headwords::named(
+    answer_six(
+        count,
         &d[..d_long],
         &hz[..hz_long],
         &bits[..bits_long],
         &size[..size_long],
         &serial[..serial_long],
         &clock[..clock_long],
-    ));
+    );
 }
 
 // The program's own name counts among its words.
 fn main() {
     let count = os::arg_count();
     if count == 5 {
-        from_four();
+        from_four(count);
     } else if count == 7 {
-        from_six();
+        from_six(count);
     } else {
         say(b"usage: head D HZ BITS SIZE [SERIAL CLOCK]\n");
     }

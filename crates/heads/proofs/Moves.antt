@@ -30,7 +30,8 @@ keeps-own : (h : Head) → allowedHead h ≡ true → loses (h .version) h ≡ f
 keeps-own h a = by-version (h .version) (is-version h a) (λ (e : h .version ≡ 1). rw (e, old-bare h a e)) (λ (e : h .version ≡ 2). rw e)
 
 -- where nothing is lost, a head that moves is allowed
-pub moved-allowed : (v : ℕ) (h : Head) → isHeadVersion v ≡ true → allowedHead h ≡ true → loses v h ≡ false → allowedHead (movedTo v h) ≡ true
+pub moved-allowed : (v : ℕ) (h : Head) → isHeadVersion v ≡ true → allowedHead h ≡ true → loses v h ≡ false
+    → allowedHead (movedTo v h) ≡ true
 moved-allowed v h known a kept =
     let old : v ≡ 1 → namingOk (movedTo v h) ≡ true = λ (e : v ≡ 1). rw e (not-false (bare h) (rw e at kept)) in
     let new : v ≡ 2 → namingOk (movedTo v h) ≡ true = λ (e : v ≡ 2). rw e (named-new h a) in

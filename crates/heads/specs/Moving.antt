@@ -13,7 +13,8 @@ use Rattle.wire.specs.Lists.{allBytes}
 use Rattle.heads.specs.declared.Head.{Head}
 use Rattle.heads.specs.declared.Moved.{Moved}
 use Rattle.heads.specs.declared.Moved.the-variants.{Whole, NotAHead, OtherVersion, WouldLose, NoRoom}
-use Rattle.heads.specs.Head.{unknown, nominal, headLength, versionIn, headIn, bare, headBytes, headReadChecks, headReadCode, headReadingOf}
+use Rattle.heads.specs.Head.{unknown, nominal, headLength, versionIn, headIn, bare, headBytes}
+use Rattle.heads.specs.Head.{headReadChecks, headReadCode, headReadingOf}
 
 -- "Old heads move to version 2 with unknown serial and 80,000,000", which is what `headIn` has for them. "A head already there is
 -- returned as it is." So a head that moves says the same as before, in another version.

@@ -1,20 +1,24 @@
 // Moving a capture file to another version of its head (02, No. 9), for the programs newer and older: crate heads moves the head,
 // and what stands behind it is copied as it is. Here bytes are read, handed on and written.
+mod out;
+
 use heads::Moved;
 use libc::STDERR_FILENO;
 use libc::STDIN_FILENO;
-use libc::STDOUT_FILENO;
+use out::Sending;
+use out::Sent;
 ghost use mathlib.Core.Path.{_≡_};
 ghost use mathlib.Core.Bool.{true};
-ghost use Prim.Native.Nat.{_≤_};
+ghost use Prim.Native.Nat.{_+_, _≤_};
 ghost use lib.ListN.{length, take, drop};
 ghost use Rattle.reads.specs.Got.{AllOf, NoMore, Whole};
 ghost use Rattle.lines.specs.Lines.{lineText};
 ghost use Rattle.heads.specs.Head.{isHeadVersion, headLength, headLengthIn};
 ghost use Rattle.heads.specs.Moving.{movedBytes};
-ghost use Rattle.moves.specs.Moves.{ReadBehind, FilledUp, MovedAs, Enough, Moving, refusedLine, movedLine};
+ghost use Rattle.moves.specs.Moves.{ReadBehind, FilledUp, PutAs, Enough, Movable, refusedLine, movedLine};
+ghost use Rattle.moves.specs.Moves.{MovedSoFar, BegunAs, most};
 
-// One read, to behind the bytes at hand, which stay.
+// One read, to behind the bytes at hand.
 fn read_on(buf: &mut [u8], have: usize) -> isize
     requires { ⌜ have ≤ length (now buf) ⌝ }
     ensures { λ r. ⌜ ReadBehind have (now (buf .entry)) (now (buf .exit)) r ⌝ }
@@ -47,7 +51,7 @@ fn fill(buf: &mut [u8]) -> Filled
 
 fn to_version(version: u32, first: &[u8], head: &mut [u8]) -> Moved
     requires { ⌜ isHeadVersion version ≡ true ⌝ }
-    ensures { λ r. ⌜ MovedAs version (now (first .entry)) (now (head .entry)) (now (head .exit)) r ⌝ }
+    ensures { λ r. ⌜ PutAs version (now (first .entry)) (now (head .entry)) (now (head .exit)) r ⌝ }
 {
     if version == 2 {
         return heads::newer(first, head);
@@ -57,7 +61,7 @@ fn to_version(version: u32, first: &[u8], head: &mut [u8]) -> Moved
 
 // What the first bytes came to: they were written as they are to be, or could not be, or they were refused.
 enum Begun {
-    Written,
+    Written(Sent),
     Unwritten,
     Refused,
 }
@@ -65,24 +69,29 @@ enum Begun {
 // Writes the moved head, and what stands behind the head in the first bytes. These, and the last read's answer, are there for the
 // contract alone, which says whose head it is, and that they are enough to tell.
 fn write_first(version: u32, got: isize, first: &[u8], head: &[u8], rest: &[u8]) -> Begun
-    requires { ⌜ Moving version got (now first)
+    requires { ⌜ Movable version got (now first)
         × (now head ≡ movedBytes version (now first))
         × (now rest ≡ drop (headLengthIn (now first)) (now first)) ⌝ }
+    ensures { λ r. ⌜ BegunAs r version (length (now (first .entry))) ⌝ }
 {
-    if !io::write_all(STDOUT_FILENO, head) {
+    let one = out::send(out::nothing(), head);
+    if !one.written {
         return Begun::Unwritten;
     }
-    if !io::write_all(STDOUT_FILENO, rest) {
+    let both = out::send(one.sent, rest);
+    let sent = both.sent;
+    if !both.written {
         return Begun::Unwritten;
     }
-    Begun::Written
+    Begun::Written(sent)
 }
 
 // The head that was moved stands at the start of a slice.
 fn write_moved(version: u32, got: isize, first: &[u8], moved: &[u8]) -> Begun
-    requires { ⌜ Moving version got (now first)
+    requires { ⌜ Movable version got (now first)
         × (headLength version ≤ length (now moved))
         × (take (headLength version) (now moved) ≡ movedBytes version (now first)) ⌝ }
+    ensures { λ r. ⌜ BegunAs r version (length (now (first .entry))) ⌝ }
 {
     let length = heads::head_length(version);
     let behind = heads::head_length_in(first);
@@ -92,6 +101,7 @@ fn write_moved(version: u32, got: isize, first: &[u8], moved: &[u8]) -> Begun
 // Says that the first bytes are refused, and writes nothing else.
 fn refuse(version: u32, got: isize, first: &[u8], line: &[u8]) -> Begun
     requires { ⌜ Enough got (now first) × (now line ≡ lineText (refusedLine version (now first))) ⌝ }
+    ensures { λ r. ⌜ BegunAs r version (length (now (first .entry))) ⌝ }
 {
     io::write_all(STDERR_FILENO, line);
     Begun::Refused
@@ -107,6 +117,7 @@ fn never() -> Begun
 // Moves the head that the first bytes begin with.
 fn begin(version: u32, got: isize, first: &[u8]) -> Begun
     requires { ⌜ (isHeadVersion version ≡ true) × Enough got (now first) ⌝ }
+    ensures { λ r. ⌜ BegunAs r version (length (now (first .entry))) ⌝ }
 {
     let mut head = [0u8; 26];
     let moved = to_version(version, first, &mut head);
@@ -120,14 +131,18 @@ fn begin(version: u32, got: isize, first: &[u8]) -> Begun
 }
 
 // Writes a piece as it is: all that the last read gave.
-fn write_piece(got: isize, piece: &[u8]) -> bool
+fn write_piece(sent: Sent, got: isize, piece: &[u8]) -> Sending
     requires { ⌜ AllOf got (now piece) ⌝ }
+    ensures { λ r. ⌜ (r .written ≡ true → r .sent .bytes ≡ sent .bytes + length (now (piece .entry))) ⌝ }
 {
-    io::write_all(STDOUT_FILENO, piece)
+    out::send(sent, piece)
 }
 
-// How copying came to an end: what the last read answered, and whether each piece was written.
+// How copying came to an end: what was written and how many bytes were read, what the last read answered, and whether each piece was
+// written.
 struct Ended {
+    sent: Sent,
+    read: usize,
     got: isize,
     written: bool,
 }
@@ -136,45 +151,62 @@ struct Ended {
 // that no run comes to; past it the program ends as where a read fails.
 const MOST: usize = 0x8000_0000_0000_0000;
 
-// Copies pieces as they come, until the input ends, a read fails or a piece cannot be written.
-fn copy_on(buf: &mut [u8]) -> Ended
-    ensures { λ r. ⌜ (r .written ≡ true → NoMore (r .got)) ⌝ }
+// Copies pieces as they come, until the input ends, a read fails or a piece cannot be written. The version is there for the contract
+// alone; so many bytes were read before, and so many written.
+fn copy_on(version: u32, have: usize, before: Sent, buf: &mut [u8]) -> Ended
+    requires { ⌜ MovedSoFar version have before × (have ≤ most) ⌝ }
+    ensures { λ r. ⌜ (r .written ≡ true → MovedSoFar version (r .read) (r .sent) × NoMore (r .got)) ⌝ }
 {
-    let mut read = 0;
+    let mut sent = before;
+    let mut read = have;
     loop {
         let got = libc::read(STDIN_FILENO, buf);
         if got <= 0 {
-            return Ended { got, written: true };
+            return Ended {
+                sent,
+                read,
+                got,
+                written: true,
+            };
         }
         let n = io::count(got, buf);
         if MOST - read < n {
             return Ended {
+                sent,
+                read,
                 got: -1,
                 written: true,
             };
         }
-        let written = write_piece(got, &buf[..n]);
-        if !written {
-            return Ended { got, written };
+        let sending = write_piece(sent, got, &buf[..n]);
+        sent = sending.sent;
+        if !sending.written {
+            return Ended {
+                sent,
+                read,
+                got,
+                written: sending.written,
+            };
         }
         read += n;
     }
 }
 
-// Says that the file was moved: the input was read to its end.
-fn say_moved(version: u32, got: isize, line: &[u8])
-    requires { ⌜ Whole got × (now line ≡ lineText (movedLine version)) ⌝ }
+// Says that the file was moved: the input was read to its end, and as many bytes were written as it has in that version. The counts
+// are there for the contract alone.
+fn say_moved(version: u32, read: usize, got: isize, sent: Sent, line: &[u8])
+    requires { ⌜ MovedSoFar version read sent × Whole got × (now line ≡ lineText (movedLine version)) ⌝ }
 {
     io::write_all(STDERR_FILENO, line);
 }
 
-fn moved_whole(version: u32, got: isize)
-    requires { ⌜ (isHeadVersion version ≡ true) × Whole got ⌝ }
+fn moved_whole(version: u32, read: usize, got: isize, sent: Sent)
+    requires { ⌜ (isHeadVersion version ≡ true) × MovedSoFar version read sent × Whole got ⌝ }
 {
     if version == 2 {
-        say_moved(version, got, b"H 2\n");
+        say_moved(version, read, got, sent, b"H 2\n");
     } else {
-        say_moved(version, got, b"H 1\n");
+        say_moved(version, read, got, sent, b"H 1\n");
     }
 }
 
@@ -195,14 +227,14 @@ fn unwritten(version: u32) {
 }
 
 // What is left once the first bytes are written: the rest of the input, where it has not ended with them.
-fn finish(version: u32, last: isize, buf: &mut [u8])
-    requires { ⌜ isHeadVersion version ≡ true ⌝ }
+fn finish(version: u32, have: usize, last: isize, before: Sent, buf: &mut [u8])
+    requires { ⌜ (isHeadVersion version ≡ true) × MovedSoFar version have before × (have ≤ most) ⌝ }
 {
     if last == 0 {
-        moved_whole(version, last);
+        moved_whole(version, have, last, before);
         return;
     }
-    let ended = copy_on(buf);
+    let ended = copy_on(version, have, before, buf);
     if !ended.written {
         unwritten(version);
         return;
@@ -211,11 +243,11 @@ fn finish(version: u32, last: isize, buf: &mut [u8])
         unread(version);
         return;
     }
-    moved_whole(version, ended.got);
+    moved_whole(version, ended.read, ended.got, ended.sent);
 }
 
 fn move_file(version: u32, buf: &mut [u8])
-    requires { ⌜ (isHeadVersion version ≡ true) × (26 ≤ length (now buf)) ⌝ }
+    requires { ⌜ (isHeadVersion version ≡ true) × (length (now buf) ≡ 262144) ⌝ }
 {
     let filled = fill(buf);
     if filled.got < 0 {
@@ -225,7 +257,7 @@ fn move_file(version: u32, buf: &mut [u8])
     let have = filled.have;
     let begun = begin(version, filled.got, &buf[..have]);
     match begun {
-        Begun::Written => finish(version, filled.got, buf),
+        Begun::Written(sent) => finish(version, have, filled.got, sent, buf),
         Begun::Unwritten => unwritten(version),
         Begun::Refused => {}
     }

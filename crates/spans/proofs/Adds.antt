@@ -56,6 +56,7 @@ unfolding linesOf
 every-line-adds-up input =
     let packets : List (List ℕ) = packetsIn (length input) (drop (headLengthIn input) input) in (
       opening-adds,
-      pick-keeps allAddUp (eqb (headReadCode input) 1) (linesFrom (headIn input) (nothing (headLengthIn input)) packets) (refusalLine (headReadCode input) 0 ∷ [])
+      pick-keeps allAddUp (eqb (headReadCode input) 1) (linesFrom (headIn input) (nothing (headLengthIn input)) packets)
+          (refusalLine (headReadCode input) 0 ∷ [])
           (λ e. lines-add packets (headIn input) (nothing (headLengthIn input)) tt) (λ e. (refusal-adds (headReadCode input) 0, tt)),
     )

@@ -24,7 +24,8 @@ use Rattle.spans.specs.declared.Span.{Span}
 use Rattle.lines.specs.Lines.{Line, textOf, openingLine, refusalLine}
 use Rattle.hearing.specs.Hearing.{farthest, accepting, reaching}
 use Rattle.hearing.specs.Inside.{Counted, Sane}
-use Rattle.spans.specs.Eating.{tallyFrom, freshSpan, validSpan, headLacks, headOf, withTally, lacking, headWantsBy, headTaken, headLines}
+use Rattle.spans.specs.Eating.{tallyFrom, freshSpan, validSpan, headLacks, headOf, withTally}
+use Rattle.spans.specs.Eating.{lacking, headWantsBy, headTaken, headLines}
 use Rattle.spans.specs.Eating.{headRead, heardLines, heardSpan, Eating, silently, saying, sayingAll}
 use Rattle.spans.specs.Eating.{opening, openingBy, listening, listeningBy, eatingOf, lastLines, finishingOf}
 use Rattle.lines.specs.Due.{Telling, telling}

@@ -131,7 +131,8 @@ by-kept s p q some =
     inside short =
         let x : Span = headFilled 26 s p in
         let reached : x .came ≡ s .came + length p = omega (arith, takes-all 26 s p q short) in
-        let kept = wants-kept (x .came) (headFilled 26 x q .came) (x .head) (take (lacking 26 x q) q) (omega (arith, reached)) (omega arith) in
+        let some′ : 14 ≤ x .came = omega (arith, reached) in
+        let kept = wants-kept (x .came) (headFilled 26 x q .came) (x .head) (take (lacking 26 x q) q) some′ (omega arith) in
         by-is s (p ++ q) ∙ ap wantsOf (fill-then 26 s p q short) ∙ kept ∙ sym (by-is s p)
 
 -- a head that lacks bytes lacks them still

@@ -114,7 +114,8 @@ module _ (input : List ℕ) where
         let after : Span = headTaken freshSpan input in
         let n : ℕ = lacking (headWantsBy freshSpan input) freshSpan input in
         let reached : after .came ≡ n = omega arith in
-        let none : headLacks after ≡ false = le-ltb (after .came) (wantsOf after) (omega (arith, late-whole freshSpan input few (omega (arith, late)))) in
+        let whole = late-whole freshSpan input few (omega (arith, late)) in
+        let none : headLacks after ≡ false = le-ltb (after .came) (wantsOf after) (omega (arith, whole)) in
         let reach : all ≤ length first
         = rw (length-sets zeros 0 (take all input)) (most-long (versionIn input)) in
         (rw none)
@@ -134,7 +135,8 @@ module _ (input : List ℕ) where
             let form = form-listed (headIn input) (passed input (eqb-true (headReadCode input) 1 e) .ok) in
             let less : length rest ≤ length input = simp length-drop (omega arith) in
             let small-rest = bytes-drop all input small in
-            let same = coming-lines (length input) (headIn input) form (tallyFrom all) (nothing all) rest less (nothing-known all) small-rest in
+            let known = nothing-known all in
+            let same = coming-lines (length input) (headIn input) form (tallyFrom all) (nothing all) rest less known small-rest in
             rw e (ap (λ (ls : List Line). openingLine ∷ ls) same)
         by false e = rw e
 

@@ -56,7 +56,8 @@ module _ (h : Head) (t : Tally) (s : Short h t) where
       let samples : n ≤ 1_024_000_000_000
       = samples-fit (t .position + 1) (formIn h .pairs) (omega (arith, s .position)) (form .few) in
       let time = time-below n (h .divisor) samples (divisor-small h (s .ok)) (h .clock) (clock-ok h (s .ok)) in
-      let line : Line = captureLine (formIn h) (h .divisor) (h .clock) (t .captures) (t .heard) (t .position) (missedOf (t .heard) (t .position)) in
+      let lost : ℕ = missedOf (t .heard) (t .position) in
+      let line : Line = captureLine (formIn h) (h .divisor) (h .clock) (t .captures) (t .heard) (t .position) lost in
       let over : allFit ((t .position + 1) ∷ n ∷ endTime (h .divisor) (h .clock) n ∷ missedOf (t .heard) (t .position) ∷ [])
       = (omega (arith, s .position), (omega (arith, samples), (omega (arith, time), (omega (arith, s .position), tt)))) in
       let fit : allFit (line .numbers)

@@ -17,7 +17,8 @@ use Rattle.spans.specs.declared.Span.{Span}
 use Rattle.lines.specs.Lines.{Line, textOf}
 use Rattle.lines.specs.Due.{Telling, silentWith, telling}
 use Rattle.hearing.specs.Hearing.{takingByte, settled, reaching}
-use Rattle.spans.specs.Eating.{validSpan, headOf, headLacks, lacking, headWantsBy, headTaken, headLines, headRead, heardLines, heardSpan}
+use Rattle.spans.specs.Eating.{validSpan, headOf, headLacks, lacking, headWantsBy, headTaken}
+use Rattle.spans.specs.Eating.{headLines, headRead, heardLines, heardSpan}
 use Rattle.spans.specs.Eating.{Eating, refused, silently, saying, opening, listening, eatingOf, lastLines, finishingOf}
 use Rattle.hearing.proofs.Reaches.{settled-at}
 

@@ -7,7 +7,8 @@ use native.Mathlib.Decide.{decLt}
 use native.Mathlib.Numerals.{add-one}
 use native.Mathlib.Omega.{arith}
 use lib.ListN.{length, getD, set, take, drop, length-take, length-drop, take-append-drop, drop-of-length-le}
-use lib.Seq.{sets, drop-cons, drop-drop, sets-eq, set-out, take-set-le, drop-set-lt, drop-set-add, take-all, take-append-seam, drop-at, length-take-le}
+use lib.Seq.{sets, drop-cons, drop-drop, sets-eq, set-out, take-set-le, drop-set-lt, drop-set-add}
+use lib.Seq.{take-all, take-append-seam, drop-at, length-take-le}
 use borrow.Rule.Slice.PartMut.{midOf, putMid}
 
 module _ {A : Type 0} where

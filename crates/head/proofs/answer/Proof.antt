@@ -8,7 +8,10 @@ enum-known-worded : tie.Need-enum-known-worded
 enum-known-worded c = search needs
 
 write-whole-requires : tie.Need-write-whole-requires
-write-whole-requires c κs = subst Fit (c .before .worded .given .1) (c .before .before .before .pre)
+write-whole-requires c κs =
+    let told = c .before in
+    let start = told .before .before .before .before .before .before .before .before in
+    subst Fit (told .worded .given .1) (start .pre .0)
 
 enum-told : tie.Need-enum-told
 enum-told c = search needs

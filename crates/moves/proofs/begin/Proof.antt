@@ -103,7 +103,7 @@ returns-4 : tie.Need-returns-4
 returns-4 c = search needs
 
 returns-5 : tie.Need-returns-5
-returns-5 c = search needs
+returns-5 c = absurd (has-room _ _ (sym (coded (c .before .before .before .before) (c .before .enum-told5 .given .1))))
 
 pub begin-spec : {M : Type 1} → statement M
 begin-spec =

@@ -1,27 +1,29 @@
 -- The measure is the number of bytes that can still be counted. Reading keeps the buffer's length, and what a read gave is all
--- that is written.
-use Prim.Native.Nat.{_-_, _≤_}
+-- that is written, and counted.
+use Prim.Native.Nat.{_+_, _-_, _≤_}
 use native.Mathlib.Omega.{arith}
-use mathlib.Core.Path.{_≡_, sym, _∙_}
+use mathlib.Core.Path.{_≡_, refl, sym, _∙_}
 use mathlib.Core.Bool.{true≢false}
-use lib.ListN.{length}
+use lib.ListN.{length, take}
 use borrow.Author.Needs.{needs}
-use borrow.Author.Tests.{not-true}
+use borrow.Author.Tests.{not-true, not-false}
 use mir.Syntax.{w64}
 use mir.Val.{toZ, ofZ}
 use mir.Facts.{toZ-ofZ}
 use Rattle.reads.proofs.Got.{no-more, Gave, gave}
+use Rattle.moves.specs.Moves.{MovedSoFar, most}
+use Rattle.moves.proofs.Counts.{piece-written}
 use Rattle.moves.proofs.copy_on.Statement.{statement}
 use Rattle.moves.proofs.copy_on.Tie as tie
 
 abbrev Inv-loop : tie.InvT-loop
-Inv-loop buf₀ read₀ buf read = (length buf ≡ length buf₀) × (read ≤ 0x8000_0000_0000_0000)
+Inv-loop version have buf₀ sent₀ read₀ buf sent read = (length buf ≡ length buf₀) × (read ≤ most) × MovedSoFar version read sent
 
 abbrev μ-loop : tie.MeasureT-loop
-μ-loop buf₀ read₀ buf read = 0x8000_0000_0000_0000 - read
+μ-loop version have buf₀ sent₀ read₀ buf sent read = most - read
 
 loop-holds : tie.Need-loop-holds Inv-loop μ-loop
-loop-holds c = search needs
+loop-holds c = (refl, c .before .pre .1, c .before .pre .0)
 
 read-requires : tie.Need-read-requires Inv-loop μ-loop
 read-requires c κs = search needs
@@ -30,7 +32,9 @@ same-length : tie.Need-same-length Inv-loop μ-loop
 same-length c = search needs
 
 returns : tie.Need-returns Inv-loop μ-loop
-returns c w = no-more (toZ w64 (ofZ w64 (c .before .before .before .read .result))) (c .if1 .taken)
+returns c w =
+    let held = c .before .before .before .before .before .loop .inv in
+    (held .2, no-more (toZ w64 (ofZ w64 (c .before .before .before .read .result))) (c .if1 .taken))
 
 -- the loop's turn in which a read was made, and the read of a piece that is counted
 abbrev looped : tie.After-buf Inv-loop μ-loop → tie.At-loop Inv-loop μ-loop
@@ -65,7 +69,7 @@ same-length-2 : tie.Need-same-length-2 Inv-loop μ-loop
 same-length-2 c = search needs
 
 returns-2 : tie.Need-returns-2 Inv-loop μ-loop
-returns-2 c w = tt
+returns-2 c w = (looped (readOf (c .before)) .loop .inv .2, tt)
 
 slice-reshare-prefix-write-piece : tie.Need-slice-reshare-prefix-write-piece Inv-loop μ-loop
 slice-reshare-prefix-write-piece c = search needs
@@ -85,16 +89,27 @@ returns-3 c w = absurd (true≢false (sym w ∙ not-true _ (c .if3 .taken)))
 
 -- where the read's bytes were counted, of a turn whose piece was written
 abbrev counted : tie.Else3 Inv-loop μ-loop → tie.After-count Inv-loop μ-loop
-counted c = c .before .before .before .before
+counted c = c .before .before .before .before .before .before
+
+-- they can be counted
+countable : (c : tie.Else3 Inv-loop μ-loop) → looped (readOf (counted c)) .loop .read + counted c .count .result ≤ most
+countable c = omega (arith, looped (readOf (counted c)) .loop .inv .1, c .before .before .before .before .before .if2 .left)
 
 add-read : tie.Need-add-read Inv-loop μ-loop
-add-read c = omega (arith, c .before .before .before .if2 .left)
+add-read c = omega (arith, countable c)
 
 loop-less : tie.Need-loop-less Inv-loop μ-loop
-loop-less c = omega (arith, given (counted c) .some, c .before .before .before .if2 .left)
+loop-less c = omega (arith, given (counted c) .some, countable c)
 
 loop-again : tie.Need-loop-again Inv-loop μ-loop
-loop-again c = (search needs, omega (arith, c .before .before .before .if2 .left))
+loop-again c =
+    let read = readOf (counted c) in
+    let piece = take (counted c .count .result) (read .before .read .last .1 .0) in
+    let sent = c .before .before .before .write-piece .ensures (not-false _ (c .if3 .left)) in (
+      same-long read ∙ looped read .loop .inv .0,
+      countable c,
+      piece-written _ _ _ piece _ _ (looped read .loop .inv .2) (given (counted c) .count) sent,
+    )
 
 pub copy-on-spec : {M : Type 1} → statement M
 copy-on-spec =

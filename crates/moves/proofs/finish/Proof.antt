@@ -11,13 +11,15 @@ use Rattle.moves.proofs.finish.Statement.{statement}
 use Rattle.moves.proofs.finish.Tie as tie
 
 moved-whole-requires : tie.Need-moved-whole-requires
-moved-whole-requires c κs = (c .before .before .pre, ap (toZ w64) (c .if1 .taken))
+moved-whole-requires c κs =
+    let start = c .before .before in
+    (start .pre .0, start .pre .1, ap (toZ w64) (c .if1 .taken))
 
 returns : tie.Need-returns
 returns c = search needs
 
 copy-on-requires : tie.Need-copy-on-requires
-copy-on-requires c κs = search needs
+copy-on-requires c κs = let start = c .before .before .before in (start .pre .1, start .pre .2)
 
 unwritten-requires : tie.Need-unwritten-requires
 unwritten-requires c κs = search needs
@@ -42,8 +44,9 @@ moved-whole-requires-2 c κs =
     let copied = c .before .before .before .before .before .before .before .before .copy-on in
     let start = c .before .before .before .before .before .before .before .before .before .before .before .before in
     let written = not-false _ (c .before .before .before .before .if2 .left) in
-    let fits : SFits w64 (copied .result .got) = record { sfits = c .before .before .struct-told .given .0 .1 } in
-    (start .pre, whole _ (subst NoMore (sym (toZ-ofZ fits)) (copied .ensures written)) (c .before .if3 .left))
+    let fits : SFits w64 (copied .result .got) = record { sfits = c .before .before .struct-told .given .1 .1 .0 .1 } in
+    let ended = copied .ensures written in
+    (start .pre .0, ended .0, whole _ (subst NoMore (sym (toZ-ofZ fits)) (ended .1)) (c .before .if3 .left))
 
 same-length-3 : tie.Need-same-length-3
 same-length-3 c = search needs

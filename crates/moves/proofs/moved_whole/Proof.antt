@@ -14,7 +14,7 @@ say-moved-requires : tie.Need-say-moved-requires
 unfolding decimal digitsIn
 say-moved-requires c κs =
     let start = c .before .before in
-    (rw (toZ-ofZ (start .fits .got)) (start .pre .1), rw (c .before .if1 .taken))
+    (start .pre .1, rw (toZ-ofZ (start .fits .got)) (start .pre .2), rw (c .before .if1 .taken))
 
 slice-aggregate-say-moved-2 : tie.Need-slice-aggregate-say-moved-2
 slice-aggregate-say-moved-2 c = search needs
@@ -24,7 +24,7 @@ unfolding decimal digitsIn
 say-moved-requires-2 c κs =
     let start = c .before .before in
     let old : start .args .version ≡ 1 = by-version _ (start .pre .0) (λ e. e) (λ e. absurd (c .before .if1 .left e)) in
-    (rw (toZ-ofZ (start .fits .got)) (start .pre .1), rw old)
+    (start .pre .1, rw (toZ-ofZ (start .fits .got)) (start .pre .2), rw old)
 
 returns : tie.Need-returns
 returns c = search needs

@@ -1,9 +1,6 @@
 -- The part that is read to lies behind the bytes at hand, and keeps its length.
-use Prim.Native.Nat.{_-_}
 use borrow.Author.Needs.{needs}
-use borrow.Rule.Slice.PartMut.{take-put}
 use mir.Facts.{toZ-ofZ}
-use lib.ListN.{length}
 use Rattle.wire.proofs.Stores.{rest-long}
 use Rattle.moves.proofs.read_on.Statement.{statement}
 use Rattle.moves.proofs.read_on.Tie as tie
@@ -31,7 +28,6 @@ returns c =
     let buf = start .args .buf .now in
     record {
       moved = rw (toZ-ofZ (record { sfits = read .ok }), ← rest-long have buf) (read .ensures);
-      kept = take-put have (length buf - have) buf (read .last .1 .0) (start .pre);
       long = search needs;
     }
 

@@ -53,7 +53,8 @@ returns-3 : tie.Need-returns-3
 returns-3 c =
     let r = c .before .before in
     let a = start r .args in
-    let is = sym (third-code (now (a .s)) (λ e. c .before .if1 .left (r .read-code .ensures ∙ e)) (λ e. c .if2 .left (r .read-code .ensures ∙ e))) in
+    let was = r .read-code .ensures in
+    let is = sym (third-code (now (a .s)) (λ e. c .before .if1 .left (was ∙ e)) (λ e. c .if2 .left (was ∙ e))) in
     let code = stays-with (a .version) (now (a .s)) (length (now (a .out))) 40 is (λ e. omega arith) in
     (sym code, rw code)
 

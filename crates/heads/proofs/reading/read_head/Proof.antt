@@ -38,7 +38,8 @@ returns-2 c =
 returns-3 : tie.Need-returns-3
 returns-3 c =
     let r = c .before .before in
-    sym (reading-by (came r) (third-code (came r) (λ e. c .before .if1 .left (r .read-code .ensures ∙ e)) (λ e. c .if2 .left (r .read-code .ensures ∙ e))))
+    let is = r .read-code .ensures in
+    sym (reading-by (came r) (third-code (came r) (λ e. c .before .if1 .left (is ∙ e)) (λ e. c .if2 .left (is ∙ e))))
 
 pub read-head-spec : {M : Type 1} → statement M
 read-head-spec =

@@ -1,5 +1,5 @@
 -- The eight tests, joined one after the other, are those of the list of bytes.
-use Prim.Native.Nat.{ℕ, _/_, _%_, _^_, _<_}
+use Prim.Native.Nat.{ℕ, zero, suc, _/_, _%_, _^_, _<_}
 use mathlib.Core.Path.{_≡_, refl, _∙_}
 use mathlib.Core.Bool.{Bool, true, false, _&&_}
 use native.Mathlib.Omega.{arith}
@@ -31,13 +31,17 @@ and-true false = refl
 abbrev low : ℕ → Bool
 low n = isSerialByte (n % 256)
 
-abbrev up : ℕ → ℕ
-up n = n / 256
+-- so many bytes further up
+abbrev up : ℕ → ℕ → ℕ
+up zero n = n
+up (suc k) n = up k n / 256
 
-eight : (n : ℕ) {a b c d e f g h : Bool} → a ≡ low n → b ≡ low (up n) → c ≡ low (up (up n)) → d ≡ low (up (up (up n)))
-    → e ≡ low (up (up (up (up n)))) → f ≡ low (up (up (up (up (up n))))) → g ≡ low (up (up (up (up (up (up n)))))) → h ≡ low (up (up (up (up (up (up (up n)))))))
+eight : (n : ℕ) {a b c d e f g h : Bool} → a ≡ low n → b ≡ low (up 1 n) → c ≡ low (up 2 n) → d ≡ low (up 3 n) → e ≡ low (up 4 n)
+    → f ≡ low (up 5 n) → g ≡ low (up 6 n) → h ≡ low (up 7 n)
     → ((((((a && b) && c) && d) && e) && f) && g) && h ≡ allSerial (bytes 8 n)
-eight n p q r s t u v w = rw (p, q, r, s, t, u, v, w) (joined (low n) (low (up n)) (low (up (up n))) (low (up (up (up n)))) (low (up (up (up (up n))))) (low (up (up (up (up (up n)))))) (low (up (up (up (up (up (up n))))))) (low (up (up (up (up (up (up (up n)))))))))
+eight n p q r s t u v w =
+    rw (p, q, r, s, t, u, v, w)
+    (joined (low n) (low (up 1 n)) (low (up 2 n)) (low (up 3 n)) (low (up 4 n)) (low (up 5 n)) (low (up 6 n)) (low (up 7 n)))
 
 cast-is-serial-byte : tie.Need-cast-is-serial-byte
 cast-is-serial-byte c = search needs

@@ -22,7 +22,8 @@ start c = c .before .before .before .before .before
 -- what was found there
 all-is : (c : tie.After-wanted) → c .wanted .result ≡ headWantsBy (start c .args .s) (now (start c .args .piece))
 all-is c =
-    c .wanted .ensures ∙ ap wantsOf (c .before .before .before .filled .ensures) ∙ sym (by-is (start c .args .s) (now (start c .args .piece)))
+    let a = start c .args in
+    c .wanted .ensures ∙ ap wantsOf (c .before .before .before .filled .ensures) ∙ sym (by-is (a .s) (now (a .piece)))
 
 filled-requires : tie.Need-filled-requires
 filled-requires c κs =
