@@ -8,8 +8,8 @@
 #   counted   the worst path through the machine code (src/bin/stack) of each door that cuts packets, as delivered; of the
 #             functions that a Rattle program calls, compiled by the same words; and of cut_held and pack where the optimiser
 #             does nothing
-#   painted   each call of a door (c/stack.c), cutting in all four forms, accepted and by every refusal, on a painted stack: never
-#             more than was counted
+#   painted   each call of a door (c/stack.c), cutting in all four forms with one channel and with two, accepted and by every
+#             refusal, on a painted stack: never more than was counted
 #   walled    the same calls in 1,024 bytes above a page that may not be touched, and in what was painted, rounded up to
 #             sixteens, but not in 16 less
 #   planted   a copy of the packet, planted in the library: count, paint and wall have to notice

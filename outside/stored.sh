@@ -19,9 +19,9 @@ item() {
 }
 items() { for i in $(seq "$1"); do item 8194; done; }
 
-# The box's buffer is 65,536 bytes. The first read sets frequency, gain, rate, clock and packet size; the second begins in the midst
-# of setting the gain to -10, and sets 7,050,000 Hz; the third begins in the midst of a data item, and asks for gain,
-# frequency, rate and serial.
+# The box's buffer is 65,536 bytes. The first read sets frequency, gain, rate, clock and packet size, and of channel 02 the
+# frequency; the second begins in the midst of setting the gain to -10, and sets 7,050,000 Hz; the third begins in the midst of a
+# data item, asks for gain, frequency, rate and serial, and ends with a talk about the channels.
 session() {
     # 90 bytes: name, serial, status; 14,010,000 Hz and the range; gain -20 set and asked for; a rate, the clock, the
     # acknowledgement and the data item that are unanswered, another rate, 20,000,000 Hz
@@ -31,8 +31,10 @@ session() {
     printf '\011\000\270\000\000\040\241\007\000\011\000\260\000\000\173\264\304\004\005\000\304\000\001'
     printf '\003\140\002\007\300\022\064\126\170\232\011\000\270\000\000\240\206\001\000'
     printf '\012\000\040\000\000\000\055\061\001\000'
+    # 20 bytes: two channels, 14,010,000 Hz on channel 02, one channel, so that 02 retains it
+    printf '\005\000\031\000\004\012\000\040\000\002\220\306\325\000\000\005\000\031\000\000'
     items 7
-    item 8085                                    # 65,533 bytes so far
+    item 8065                                    # 65,533 bytes so far
     printf '\006\000\070'                        # set the gain,
     printf '\000\000\366'                        # to -10
     printf '\012\000\040\000\000\020\223\153\000\000' # 7,050,000 Hz
@@ -42,6 +44,20 @@ session() {
     printf '\005\040\040\000\000'                # the frequency?
     printf '\005\040\270\000\000'                # the rate?
     printf '\004\040\002\000'                    # the serial?
+    channels
+}
+
+# how many channels; 02 closed, 1 not allowed; two, and 02 at what it retained, at 14,010,000 Hz, 00 at its own, the range; gain -20
+# on both; FF and 01 not asked for; one channel again, 02 closed, 20,000,000 Hz by FF on 00 alone, no gain of 02; two, the
+# frequencies of both; a capture, and then no other channel setup (17), no 5 (16), no range (14), no length 5 for a request (13)
+channels() {
+    printf '\004\040\031\000\005\040\040\000\002\005\000\031\000\001'
+    printf '\005\000\031\000\004\005\040\040\000\002\012\000\040\000\002\220\306\325\000\000'
+    printf '\005\040\040\000\002\005\040\040\000\000\005\100\040\000\002'
+    printf '\006\000\070\000\377\354\005\040\070\000\002\005\040\040\000\377\005\040\040\000\001'
+    printf '\005\000\031\000\000\005\040\040\000\002\012\000\040\000\377\000\055\061\001\000\006\000\070\000\002\000'
+    printf '\005\000\031\000\004\005\040\040\000\002\005\040\040\000\000\010\000\030\000\200\002\200\000'
+    printf '\005\000\031\000\004\005\000\031\000\005\004\100\031\000\005\040\031\000\000'
 }
 
 # Span's buffer is 262,144 bytes. Large packets of 16 bits, D = 100: the 255th lies across the first seam, and the 510th and

@@ -1,5 +1,5 @@
 #!/usr/bin/env python3
-"""The cases of span_cases, and what it must print of them, from document 01 and requests Nos. 1 and 9 of 02 alone:
+"""The cases of span_cases, and what it must print of them, from document 01 and requests Nos. 1, 7 and 9 of 02 alone:
 
     python3 expected.py stdin > stdin; python3 expected.py stdout > stdout
 
@@ -16,6 +16,10 @@ LARGE16 = (b"\x04\x84", 1028, 16, 256)
 SMALL16 = (b"\x04\x82", 516, 16, 128)
 FORMS = [LARGE24, SMALL24, LARGE16, SMALL16]
 OF_HEAD = {(0x80, 0): LARGE24, (0x80, 1): SMALL24, (0x00, 0): LARGE16, (0x00, 1): SMALL16}
+# the same of two channels, "mode byte bit 6 set"
+OF_TWO = {(0xC0, 0): LARGE24, (0xC0, 1): SMALL24, (0x40, 0): LARGE16, (0x40, 1): SMALL16}
+# "pairs per channel are 120, 32, 128 and 64"
+PAIRS_OF_TWO = {LARGE24: 120, SMALL24: 32, LARGE16: 128, SMALL16: 64}
 
 
 def little(n, width):
@@ -56,7 +60,7 @@ def head_code(data):
     d = number(data, 5, 2)
     hz = number(data, 7, 5)
     band = 100_000 <= hz <= 34_000_000 or 140_000_000 <= hz <= 150_000_000
-    if not 10 <= d <= 625 or not band or (data[12], data[13]) not in OF_HEAD:
+    if not 10 <= d <= 625 or not band or (data[12], data[13]) not in OF_HEAD | OF_TWO:
         return 40
     return 0
 
@@ -68,16 +72,17 @@ def report(data):
         yield f"R {code} 0"
         return
     d = number(data, 5, 2)
-    form = OF_HEAD[data[12], data[13]]
+    form = (OF_HEAD | OF_TWO)[data[12], data[13]]
+    pairs = PAIRS_OF_TWO[form] if (data[12], data[13]) in OF_TWO else form[3]
     at, clock = (26, number(data, 22, 4)) if number(data, 3, 2) == 2 else (14, 80_000_000)
     captures, positions, last = 0, [], 0
 
     def line():
         covered = positions[-1] + 1
-        samples = covered * form[3]
+        samples = covered * pairs
         missed = sum(after - before - 1 for before, after in zip(positions, positions[1:]))
         time = samples * 4 * d * 1_000_000 // clock
-        return f"C {captures} {form[2]} {form[3]} {len(positions)} {covered} {samples} {time} {missed}"
+        return f"C {captures} {form[2]} {pairs} {len(positions)} {covered} {samples} {time} {missed}"
 
     while at < len(data):
         found = [f for f in FORMS if data[at : at + 2] == f[0] and at + f[1] <= len(data)]
@@ -174,7 +179,21 @@ CASES = [
     ("D = 9", head(d=9) + small(0)),
     ("D = 626", head(d=626)),
     ("34000001 Hz", head(hz=34_000_001)),
-    ("mode 40", head(mode=0x40)),
+    ("two channels", head(hz=14_010_000, mode=0xC0) + small(0, 1, 4)),
+    ("two channels, 24 bits, large", head(d=10, mode=0xC0, size=0) + packet(LARGE24, 0) + packet(LARGE24, 2)),
+    ("two channels, 16 bits, large", head(d=625, mode=0x40, size=0) + packet(LARGE16, 0) + packet(LARGE16, 2)),
+    ("two channels, 16 bits, small", head(d=360, mode=0x40) + packet(SMALL16, 0) + packet(SMALL16, 2)),
+    ("two channels, time rounded down", head(d=11, mode=0xC0) + small(0)),
+    ("two channels, a restart", head(mode=0xC0) + small(0, 1, 0, 3)),
+    ("two channels, another form", head(mode=0xC0) + small(0, 1) + packet(SMALL16, 2)),
+    ("two channels, a packet cut off", head(mode=0x40) + packet(SMALL16, 0) + packet(SMALL16, 1)[:7]),
+    ("two channels, version 2", newer(hz=14_010_000, mode=0xC0) + small(0, 1, 4)),
+    ("two channels, version 2, large", newer(d=625, mode=0x40, size=0, clock=80_008_000) + packet(LARGE16, 0) + packet(LARGE16, 65_535)),
+    ("mode 20", head(mode=0x20)),
+    ("mode 60", head(mode=0x60)),
+    ("mode C1", head(mode=0xC1)),
+    ("mode C1, version 2", newer(mode=0xC1)),
+    ("two channels, size 2", head(mode=0xC0, size=2)),
     ("size 2", head(size=2)),
     ("rubbish", head() + b"rubbish"),
     ("rubbish in a capture", head() + small(0, 1) + b"\xff\xff\xff"),

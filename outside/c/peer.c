@@ -39,6 +39,7 @@ enum item {
     VERSIONS = 0x04,
     STATUS = 0x05,
     STATE = 0x18,
+    CHANNEL_SETUP = 0x19,
     FREQUENCY = 0x20,
     GAIN = 0x38,
     CLOCK = 0xB0,
@@ -47,6 +48,8 @@ enum item {
 };
 
 enum { COMPLEX = 0x80, IDLE = 1, RUN = 2 };
+enum { SINGLE = 0, DUAL = 4 };                     /* channel setup */
+enum { FIRST = 0x00, SECOND = 0x02, ALL = 0xFF }; /* channel bytes */
 
 struct channel {
     uint64_t frequency;
@@ -55,17 +58,18 @@ struct channel {
 };
 
 struct station {
-    struct channel first;
+    struct channel first, second;
     uint64_t count;
     uint32_t clock, divisor;
     bool running;
-    uint8_t mode, size, serial[8];
+    uint8_t mode, size, setup, serial[8];
     uint8_t held[HELD];
     size_t taken;
 };
 
 struct reader {
     bool heard;
+    uint8_t channels;
     uint64_t position, total, bits, pairs;
 };
 
@@ -94,12 +98,6 @@ static bool is_word_of(uint64_t f, uint32_t clock, uint32_t word)
     return (offset_of(f) << 33) + clock - divisor * word < divisor;
 }
 
-static void tune(struct channel *c, uint64_t f, uint32_t clock)
-{
-    c->frequency = f;
-    c->word = word_of(f, clock);
-}
-
 static uint32_t nearest(uint32_t rate)
 {
     uint64_t source = 20000000, below = source / rate, above = below + 1;
@@ -115,15 +113,20 @@ static size_t total_of(unsigned header)
     return length < 2 ? 2 : length;
 }
 
+/* Of a box whose clock is allowed. */
+static inline bool channel_sound(const struct channel *c, uint32_t clock)
+{
+    return frequency_allowed(c->frequency) && is_word_of(c->frequency, clock, c->word) && gain_allowed(c->gain);
+}
+
 /* inline: it has two callers, and gcc would make a call of it */
 static inline bool sound(const struct station *s)
 {
     static const uint8_t unused[HELD];
-    const struct channel *first = &s->first;
-    if (!frequency_allowed(first->frequency) || s->count > 4000000000u || !clock_allowed(s->clock)) return false;
-    if (!is_word_of(first->frequency, s->clock, first->word)) return false;
-    if (s->divisor < 10 || s->divisor > 625 || !mode_allowed(s->mode) || !gain_allowed(first->gain) || s->size > 1)
-        return false;
+    if (s->count > 4000000000u || !clock_allowed(s->clock)) return false;
+    if (!channel_sound(&s->first, s->clock) || !channel_sound(&s->second, s->clock)) return false;
+    if (s->divisor < 10 || s->divisor > 625 || !mode_allowed(s->mode) || s->size > 1) return false;
+    if (s->setup != SINGLE && s->setup != DUAL) return false;
     for (int i = 0; i < 8; i++) {
         uint8_t c = s->serial[i];
         if (!('A' <= c && c <= 'Z') && !('0' <= c && c <= '9')) return false;
@@ -136,8 +139,8 @@ static inline bool sound(const struct station *s)
 static void fresh(struct station *s)
 {
     memset(s, 0, sizeof *s);
-    s->first.frequency = 10000000;
-    s->first.word = 536870912;
+    s->first.frequency = s->second.frequency = 10000000;
+    s->first.word = s->second.word = 536870912;
     s->clock = 80000000;
     s->divisor = 100;
     s->mode = 0x80;
@@ -176,6 +179,7 @@ static bool look_up(unsigned item, size_t *set, size_t *request, size_t *reply)
     case VERSIONS: *request = 5, *reply = 7; break;
     case STATUS: *request = 4, *reply = 5; break;
     case STATE: *set = 8, *request = 4, *reply = 8; break;
+    case CHANNEL_SETUP: *set = 5, *request = 4, *reply = 5; break;
     case FREQUENCY: *set = 10, *request = 5, *reply = 10; break;
     case GAIN: *set = 6, *request = 5, *reply = 6; break;
     case CLOCK:
@@ -184,6 +188,12 @@ static bool look_up(unsigned item, size_t *set, size_t *request, size_t *reply)
     default: return false;
     }
     return true;
+}
+
+/* Whether a channel byte names a channel that is open. */
+static bool is_open(const struct station *s, uint8_t channel)
+{
+    return channel == FIRST || (channel == SECOND && s->setup == DUAL);
 }
 
 /* Whether a set's value is allowed, and allowed now. */
@@ -196,6 +206,11 @@ static enum code judge_set(const struct station *s, const uint8_t *m, struct ask
         if (a->value == IDLE) break;
         if (a->value != RUN || m[4] != COMPLEX || !mode_allowed(a->mode)) return VALUE_NOT_ALLOWED;
         if (s->running && a->mode != s->mode) return NOT_WHILE_RUNNING;
+        break;
+    case CHANNEL_SETUP:
+        a->value = m[4];
+        if (a->value != SINGLE && a->value != DUAL) return VALUE_NOT_ALLOWED;
+        if (s->running) return NOT_WHILE_RUNNING;
         break;
     case FREQUENCY: if (!frequency_allowed(a->value = get(m + 5, 5))) return VALUE_NOT_ALLOWED; break;
     case GAIN: if (!gain_allowed(a->value = m[5])) return VALUE_NOT_ALLOWED; break;
@@ -224,11 +239,38 @@ static enum code judge(const struct station *s, unsigned kind, const uint8_t *m,
     if (expected == 0) return NOT_OFFERED;
     if (n != expected) return WRONG_LENGTH;
     a->channel = n > 4 ? m[4] : 0;
-    if ((a->item == FREQUENCY || a->item == GAIN) && a->channel != 0 && !(kind == SET && a->channel == 0xFF))
+    if ((a->item == FREQUENCY || a->item == GAIN) && !is_open(s, a->channel) && !(kind == SET && a->channel == ALL))
         return CHANNEL_NOT_ALLOWED;
     if (kind == RANGE) a->reply = 36;
     if (kind != SET) return a->item == VERSIONS && a->channel > 3 ? VALUE_NOT_ALLOWED : DONE;
     return judge_set(s, m, a);
+}
+
+/* Whether a set with this byte, which was allowed, covers the first channel; the second. */
+static bool covers_first(uint8_t channel) { return channel != SECOND; }
+static bool covers_second(const struct station *s, uint8_t channel)
+{
+    return channel == SECOND || (channel == ALL && s->setup == DUAL);
+}
+
+static void store_frequency(struct station *s, uint8_t channel, uint64_t frequency)
+{
+    uint32_t word = word_of(frequency, s->clock);
+    if (covers_first(channel)) s->first.frequency = frequency, s->first.word = word;
+    if (covers_second(s, channel)) s->second.frequency = frequency, s->second.word = word;
+}
+
+static void store_gain(struct station *s, uint8_t channel, uint8_t gain)
+{
+    if (covers_first(channel)) s->first.gain = gain;
+    if (covers_second(s, channel)) s->second.gain = gain;
+}
+
+static void store_clock(struct station *s, uint32_t clock)
+{
+    s->clock = clock;
+    s->first.word = word_of(s->first.frequency, clock);
+    s->second.word = word_of(s->second.frequency, clock);
 }
 
 static void store(struct station *s, const struct asked *a)
@@ -238,9 +280,10 @@ static void store(struct station *s, const struct asked *a)
         if (a->value == IDLE) s->running = false;
         else if (!s->running) s->running = true, s->mode = a->mode, s->count = 0;
         break;
-    case FREQUENCY: tune(&s->first, a->value, s->clock); break;
-    case GAIN: s->first.gain = a->value; break;
-    case CLOCK: s->clock = a->value, tune(&s->first, s->first.frequency, s->clock); break;
+    case CHANNEL_SETUP: s->setup = a->value; break;
+    case FREQUENCY: store_frequency(s, a->channel, a->value); break;
+    case GAIN: store_gain(s, a->channel, a->value); break;
+    case CLOCK: store_clock(s, a->value); break;
     case RATE: s->divisor = nearest(a->value); break;
     case PACKET_SIZE: s->size = a->value; break;
     }
@@ -249,6 +292,7 @@ static void store(struct station *s, const struct asked *a)
 static void write_reply(const struct station *s, const struct asked *a, uint8_t *out)
 {
     static const uint8_t versions[4][2] = {{0x64, 0}, {0x6B, 0}, {0x66, 0}, {1, 7}};
+    const struct channel *shown = a->channel == SECOND ? &s->second : &s->first;
     put(out, a->reply | (a->kind == RANGE ? 0x4000 : 0), 2);
     put(out + 2, a->item, 2);
     if (a->kind == RANGE) {
@@ -270,8 +314,9 @@ static void write_reply(const struct station *s, const struct asked *a, uint8_t 
     case VERSIONS: memcpy(out + 5, versions[a->channel], 2); break;
     case STATUS: out[4] = s->running ? 0x0C : 0x0B; break;
     case STATE: out[4] = COMPLEX; out[5] = s->running ? RUN : IDLE; out[6] = s->mode; out[7] = 0; break;
-    case FREQUENCY: put(out + 5, s->first.frequency, 5); break;
-    case GAIN: out[5] = s->first.gain; break;
+    case CHANNEL_SETUP: out[4] = s->setup; break;
+    case FREQUENCY: put(out + 5, shown->frequency, 5); break;
+    case GAIN: out[5] = shown->gain; break;
     case CLOCK: put(out + 5, s->clock, 4); break;
     case RATE: put(out + 5, achieved(s->divisor), 4); break;
     case PACKET_SIZE: out[4] = s->size; break;
@@ -354,40 +399,54 @@ size_t peer_serve(const uint8_t *host, size_t n, uint8_t *replies, size_t room)
 }
 
 #else
-/* A box of 112 bytes: its channel (frequency 8, word 4, gain 1), count 8, clock 4, D 4, running 1, mode 1, size 1, serial 8,
-   held 64, taken 8. */
-enum { STATION_BYTES = 112 };
+/* A box of 126 bytes: channel 00 (frequency 8, word 4, gain 1), channel 02 (the same), count 8, clock 4, D 4, running 1, mode 1,
+   size 1, setup 1, serial 8, held 64, taken 8. */
+enum { STATION_BYTES = 126, CHANNEL_BYTES = 13 };
+
+static void channel_in(struct channel *c, const uint8_t *b)
+{
+    c->frequency = get(b, 8);
+    c->word = get(b + 8, 4);
+    c->gain = b[12];
+}
 
 static void station_in(struct station *s, const uint8_t *b)
 {
-    s->first.frequency = get(b, 8);
-    s->first.word = get(b + 8, 4);
-    s->first.gain = b[12];
-    s->count = get(b + 13, 8);
-    s->clock = get(b + 21, 4);
-    s->divisor = get(b + 25, 4);
-    s->running = b[29];
-    s->mode = b[30];
-    s->size = b[31];
-    memcpy(s->serial, b + 32, 8);
-    memcpy(s->held, b + 40, HELD);
-    s->taken = get(b + 104, 8);
+    channel_in(&s->first, b);
+    channel_in(&s->second, b + CHANNEL_BYTES);
+    s->count = get(b + 26, 8);
+    s->clock = get(b + 34, 4);
+    s->divisor = get(b + 38, 4);
+    s->running = b[42];
+    s->mode = b[43];
+    s->size = b[44];
+    s->setup = b[45];
+    memcpy(s->serial, b + 46, 8);
+    memcpy(s->held, b + 54, HELD);
+    s->taken = get(b + 118, 8);
+}
+
+static void put_channel(uint8_t *b, const struct channel *c)
+{
+    put(b, c->frequency, 8);
+    put(b + 8, c->word, 4);
+    b[12] = c->gain;
 }
 
 static void put_station(uint8_t *b, const struct station *s)
 {
-    put(b, s->first.frequency, 8);
-    put(b + 8, s->first.word, 4);
-    b[12] = s->first.gain;
-    put(b + 13, s->count, 8);
-    put(b + 21, s->clock, 4);
-    put(b + 25, s->divisor, 4);
-    b[29] = s->running;
-    b[30] = s->mode;
-    b[31] = s->size;
-    memcpy(b + 32, s->serial, 8);
-    memcpy(b + 40, s->held, HELD);
-    put(b + 104, s->taken, 8);
+    put_channel(b, &s->first);
+    put_channel(b + CHANNEL_BYTES, &s->second);
+    put(b + 26, s->count, 8);
+    put(b + 34, s->clock, 4);
+    put(b + 38, s->divisor, 4);
+    b[42] = s->running;
+    b[43] = s->mode;
+    b[44] = s->size;
+    b[45] = s->setup;
+    memcpy(b + 46, s->serial, 8);
+    memcpy(b + 54, s->held, HELD);
+    put(b + 118, s->taken, 8);
 }
 
 /* One call of feeding on a box in bytes, which are written back only where it was not refused. */
@@ -447,7 +506,7 @@ static enum code cut(struct station *s, const int32_t *samples, size_t n, uint8_
 }
 
 /* Cuts packets from a run of samples with a box that has just been started; how many. */
-size_t peer_cut_run(uint8_t mode, uint8_t size, const int32_t *samples, size_t n, uint8_t *packets, size_t room)
+size_t peer_cut_run(uint8_t mode, uint8_t size, uint8_t setup, const int32_t *samples, size_t n, uint8_t *packets, size_t room)
 {
     struct station s;
     size_t pairs = mode ? (size ? 64 : 240) : (size ? 128 : 256), at = 0, count = 0, wrote;
@@ -455,6 +514,7 @@ size_t peer_cut_run(uint8_t mode, uint8_t size, const int32_t *samples, size_t n
     s.running = true;
     s.mode = mode;
     s.size = size;
+    s.setup = setup;
     while (n >= 2 * pairs && cut(&s, samples, 2 * pairs, packets + at, room - at, &wrote) == DONE) {
         samples += 2 * pairs;
         n -= 2 * pairs;
@@ -476,7 +536,8 @@ static bool form_of(const uint8_t *packet, size_t n, uint64_t *bits, uint64_t *p
     return false;
 }
 
-/* Where a packet stands in its capture, how many were missed just before it, and how many in the capture so far. */
+/* Where a packet stands in its capture, and its first sample among those of its channel; how many were missed just before it,
+   and how many in the capture so far. */
 struct place {
     uint64_t position, sample, missed, total;
 };
@@ -484,6 +545,7 @@ struct place {
 static enum code read_packet(struct reader *r, const uint8_t *packet, size_t n, struct place *place)
 {
     uint64_t bits, pairs, at = 0, missed = 0, total = 0;
+    if (r->channels != 1 && r->channels != 2) return BROKEN;
     if (r->heard) {
         bool listed = (r->bits == 24 && (r->pairs == 240 || r->pairs == 64))
             || (r->bits == 16 && (r->pairs == 256 || r->pairs == 128));
@@ -504,16 +566,16 @@ static enum code read_packet(struct reader *r, const uint8_t *packet, size_t n, 
         if (at > 3999999999u) return PAST_LAST;
         total = r->total + missed;
     }
-    *r = (struct reader){true, at, total, bits, pairs};
-    *place = (struct place){at, at * pairs, missed, total};
+    *r = (struct reader){true, r->channels, at, total, bits, pairs};
+    *place = (struct place){at, at * (r->channels == 2 ? pairs / 2 : pairs), missed, total};
     return DONE;
 }
 
-/* Reads packets of one length one after another by a new reader, to the first that is refused: the position of the last
-   packet's first sample, and how many packets were missed in its capture up to it. */
-uint64_t peer_read_run(const uint8_t *packets, size_t n, size_t total, uint64_t *missed)
+/* Reads packets of one length one after another by a new reader of so many channels, to the first that is refused: the position
+   of the last packet's first sample, and how many packets were missed in its capture up to it. */
+uint64_t peer_read_run(uint8_t channels, const uint8_t *packets, size_t n, size_t total, uint64_t *missed)
 {
-    struct reader r = {0};
+    struct reader r = {.channels = channels};
     struct place last = {0};
     while (n >= total && read_packet(&r, packets, total, &last) == DONE) {
         packets += total;

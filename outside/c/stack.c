@@ -12,7 +12,7 @@ typedef __SIZE_TYPE__ size;
 byte skvornela_fresh(const byte *serial, size, byte *state, size);
 byte skvornela_feed(byte *state, size, const byte *host, size, byte *reply, size, size *consumed, size *wrote);
 byte skvornela_cut(byte *state, size, const number *samples, size, byte *packet, size, size *wrote);
-size skvornela_cut_run(byte mode, byte packet_size, size n, size total, const number *samples, size, byte *out, size);
+size skvornela_cut_run(byte mode, byte packet_size, byte setup, size n, size total, const number *samples, size, byte *out, size);
 
 /* ---- the system, and a stack of our own */
 #if defined __x86_64__
@@ -100,8 +100,8 @@ static size used_with(byte paint, void (*go)(void *), void *call) {
 }
 
 /* ---- the calls */
-/* a box in bytes, and where its word, count, run byte and mode begin */
-enum { STATE = 112, WORD = 8, COUNT = 13, RUNNING = 29, MODE = 30 };
+/* a box in bytes, and where its two words, count, run byte, mode and channel setup begin */
+enum { STATE = 126, WORD = 8, SECOND_WORD = 21, COUNT = 26, RUNNING = 42, MODE = 43, SETUP = 45 };
 struct cut {
     byte *state, *packet;
     const number *samples;
@@ -113,14 +113,14 @@ void cut_now(void *call) {
     c->code = skvornela_cut(c->state, c->bytes, c->samples, c->count, c->packet, c->packet_bytes, &c->wrote);
 }
 struct run {
-    byte mode, size;
+    byte mode, size, setup;
     size n, total, count, bytes, answer;
     const number *samples;
     byte *out;
 };
 void run_now(void *call) {
     struct run *r = call;
-    r->answer = skvornela_cut_run(r->mode, r->size, r->n, r->total, r->samples, r->count, r->out, r->bytes);
+    r->answer = skvornela_cut_run(r->mode, r->size, r->setup, r->n, r->total, r->samples, r->count, r->out, r->bytes);
 }
 
 struct feed {
@@ -134,8 +134,13 @@ void feed_now(void *call) {
     f->code = skvornela_feed(f->state, STATE, f->host, f->bytes, f->reply, f->room, &f->consumed, &f->wrote);
 }
 
-enum { PACKETS = 3, LARGEST = 1444 };
-static const size pairs[4] = {240, 64, 256, 128}, totals[4] = {1444, 388, 1028, 516};
+/* the four forms, and each again with two channels: what is packed is as long */
+enum { FORMS = 8, PACKETS = 3, LARGEST = 1444 };
+static const size pairs[FORMS] = {240, 64, 256, 128, 240, 64, 256, 128};
+static const size totals[FORMS] = {1444, 388, 1028, 516, 1444, 388, 1028, 516};
+static byte mode_of(int form) { return form % 4 < 2 ? 0x80 : 0; }
+static byte size_of(int form) { return (byte)(form % 2); }
+static byte setup_of(int form) { return form < 4 ? 0 : 4; }
 static byte lent[STATE], lent_out[PACKETS * LARGEST]; /* what a call is lent */
 static byte state[STATE], out[PACKETS * LARGEST];     /* what it has to leave */
 static number samples[PACKETS * 512];
@@ -191,9 +196,11 @@ static void feed(const byte *message, size n) {
     must(consumed == n && wrote == n, "a message was not obeyed");
 }
 static void started(int form) {
-    const byte packet_size[5] = {5, 0, 0xC4, 0, (byte)(form % 2)};
-    const byte run[8] = {8, 0, 0x18, 0, 0x80, 2, form < 2 ? 0x80 : 0, 0};
+    const byte setup[5] = {5, 0, 0x19, 0, setup_of(form)};
+    const byte packet_size[5] = {5, 0, 0xC4, 0, size_of(form)};
+    const byte run[8] = {8, 0, 0x18, 0, 0x80, 2, mode_of(form), 0};
     must(skvornela_fresh((const byte *)"MT123456", 8, lent, STATE) == 1, "no fresh box");
+    feed(setup, sizeof setup);
     feed(packet_size, sizeof packet_size);
     feed(run, sizeof run);
     for (size i = 0; i < sizeof samples / sizeof *samples; i++)
@@ -219,6 +226,8 @@ static const struct {
     {"not a sample", NOT_A_SAMPLE},
     {"a capture that is full", FULL},
     {"a box with another word", BROKEN},
+    {"a box with another word in its second channel", BROKEN},
+    {"a box with another channel setup", BROKEN},
     {"three packets in a run", 3},
     {"a run to the first that is refused", 2},
     {"messages fed whole", DONE},
@@ -241,14 +250,16 @@ static size cut(int form, int kind) {
     case 8: samples[2 * pairs[form] - 1] = -8388609; break;
     case 9: put_count(4000000000); break;
     case 10: lent[WORD] ^= 1; break;
+    case 11: lent[SECOND_WORD] ^= 1; break;
+    case 12: lent[SETUP] ^= 1; break;
     }
     used = measured(cut_now, &c, kinds[kind].what);
     must(c.code == kinds[kind].code && c.wrote == (c.code == DONE ? totals[form] : 0), kinds[kind].what);
     return used;
 }
 static size cut_run(int form, int kind) {
-    struct run r = {form < 2 ? 0x80 : 0, (byte)(form % 2), 2 * pairs[form], totals[form], PACKETS * 2 * pairs[form],
-                    sizeof lent_out,     99,               samples,         lent_out};
+    struct run r = {mode_of(form), size_of(form), setup_of(form), 2 * pairs[form], totals[form], PACKETS * 2 * pairs[form],
+                    sizeof lent_out, 99, samples, lent_out};
     size used;
     started(form);
     if (kind != RUN) samples[5 * pairs[form]] = 8388608;
@@ -257,8 +268,8 @@ static size cut_run(int form, int kind) {
     return used;
 }
 
-/* every item is asked for, and set where it can be; rates of both ends and the middle of the table; what is not answered; every
-   refusal but for length, room and a broken box, which come after */
+/* every item is asked for, and set where it can be, of either channel and of both; rates of both ends and the middle of the
+   table; what is not answered; every refusal but for length, room and a broken box, which come after */
 static const struct {
     byte code, bytes[10];
 } messages[] = {
@@ -272,6 +283,18 @@ static const struct {
     {1, {5, 0x40, 0x20, 0, 0}},
     {1, {6, 0, 0x38, 0, 0, 0xEC}},
     {1, {5, 0x20, 0x38, 0, 0}},
+    {15, {10, 0, 0x20, 0, 2, 0x90, 0xC6, 0xD5, 0, 0}},
+    {15, {5, 0x20, 0x20, 0, 2}},
+    {1, {10, 0, 0x20, 0, 0xFF, 0x40, 0x86, 0xA4, 8, 0}},
+    {1, {5, 0, 0x19, 0, 4}},
+    {1, {4, 0x20, 0x19, 0}},
+    {1, {10, 0, 0x20, 0, 2, 0x90, 0xC6, 0xD5, 0, 0}},
+    {1, {10, 0, 0x20, 0, 0xFF, 0x40, 0x86, 0xA4, 8, 0}},
+    {1, {5, 0x20, 0x20, 0, 2}},
+    {1, {5, 0x40, 0x20, 0, 2}},
+    {1, {6, 0, 0x38, 0, 2, 0xF6}},
+    {1, {6, 0, 0x38, 0, 0xFF, 0xE2}},
+    {1, {5, 0x20, 0x38, 0, 2}},
     {1, {9, 0, 0xB0, 0, 0, 0x7B, 0xB4, 0xC4, 4}},
     {1, {5, 0x20, 0xB0, 0, 0}},
     {1, {9, 0, 0xB8, 0, 0, 0x80, 0x84, 0x1E, 0}},
@@ -287,9 +310,11 @@ static const struct {
     {12, {4, 0x20, 0x99, 0}},
     {13, {5, 0x20, 1, 0, 0}},
     {14, {4, 0, 1, 0}},
-    {15, {10, 0, 0x20, 0, 2, 0x90, 0xC6, 0xD5, 0, 0}},
+    {15, {10, 0, 0x20, 0, 1, 0x90, 0xC6, 0xD5, 0, 0}},
     {16, {6, 0, 0x38, 0, 0, 0xED}},
+    {16, {5, 0, 0x19, 0, 5}},
     {17, {9, 0, 0xB8, 0, 0, 0, 0x7D, 0, 0}},
+    {17, {5, 0, 0x19, 0, 4}},
 };
 static const byte too_long[66] = {66, 0, 1, 0}, asked[4] = {4, 0x20, 1, 0};
 
@@ -322,6 +347,9 @@ static size feed_all(int kind) {
     if (used < its) used = its;
     lent[MODE] ^= 1, lent[WORD] ^= 1;
     its = fed(asked, sizeof asked, sizeof asked, BROKEN, what);
+    if (used < its) used = its;
+    lent[WORD] ^= 1, lent[SECOND_WORD] ^= 1;
+    its = fed(asked, sizeof asked, sizeof asked, BROKEN, what);
     return used < its ? its : used;
 }
 
@@ -337,7 +365,7 @@ void begin(long *given) {
     }
     for (int kind = from; kind < to; kind++) {
         size used = kind < FEED ? 0 : feed_all(kind);
-        for (int form = 0; form < 4 && kind < FEED; form++) {
+        for (int form = 0; form < FORMS && kind < FEED; form++) {
             size its = kind < RUN ? cut(form, kind) : cut_run(form, kind);
             if (used < its) used = its;
         }

@@ -2,28 +2,47 @@
 //!
 //! A box, a reader and a wish cross it as plain bytes or numbers, so that every state can be handed over, sound or broken.
 
+use std::mem::take;
+
 use crate::code::Code;
 use crate::reader::Place;
 use crate::station::{Channel, Settings};
 use crate::wish::StateWish;
 use crate::{head, reader, reply, span, station, Form, Head, Reader, Reply, Station, Wish};
 
-/// A box in bytes: its channel (frequency 8, word 4, gain 1), count 8, clock 4, D 4, running 1, mode 1, size 1, serial 8, held
-/// 64, taken 8.
-pub const STATION_BYTES: usize = 112;
+/// A box in bytes: channel 00 (frequency 8, word 4, gain 1), channel 02 (the same), count 8, clock 4, D 4, running 1, mode 1,
+/// size 1, setup 1, serial 8, held 64, taken 8.
+pub const STATION_BYTES: usize = 126;
+pub type StationBytes = [u8; STATION_BYTES];
 
-/// A reader in bytes: position 8, bits 8, pairs 8, total 8, heard 1.
-pub const READER_BYTES: usize = 33;
+/// Where a box's flag is, and its setup.
+pub const RUNNING_AT: usize = 42;
+pub const SETUP_AT: usize = 45;
 
-/// Wishes are numbered from 0 to 17, in the order of 01's table of items; these are the ones whose value counts.
+/// A reader in bytes: position 8, bits 8, pairs 8, total 8, heard 1, channels 1.
+pub const READER_BYTES: usize = 34;
+pub type ReaderBytes = [u8; READER_BYTES];
+
+/// Where a reader's flag is.
+pub const HEARD_AT: usize = 32;
+
+/// Wishes are numbered from 0 on, in the order of the table of items, and in it sets before requests; those whose value
+/// or channel counts have names.
+pub const WISHES: u64 = 20;
 pub const ASK_VERSION: u64 = 3;
 pub const SET_STATE: u64 = 5;
-pub const SET_FREQUENCY: u64 = 7;
-pub const SET_GAIN: u64 = 10;
-pub const SET_CLOCK: u64 = 12;
-pub const SET_RATE: u64 = 14;
-pub const ASK_RATE: u64 = 15;
-pub const SET_SIZE: u64 = 16;
+pub const SET_SETUP: u64 = 7;
+pub const ASK_SETUP: u64 = 8;
+pub const SET_FREQUENCY: u64 = 9;
+pub const ASK_FREQUENCY: u64 = 10;
+pub const ASK_RANGE: u64 = 11;
+pub const SET_GAIN: u64 = 12;
+pub const ASK_GAIN: u64 = 13;
+pub const SET_CLOCK: u64 = 14;
+pub const ASK_CLOCK: u64 = 15;
+pub const SET_RATE: u64 = 16;
+pub const ASK_RATE: u64 = 17;
+pub const SET_SIZE: u64 = 18;
 
 /// The calls of document 01. Each first result is the code.
 pub trait Library {
@@ -31,10 +50,12 @@ pub trait Library {
     fn fresh(&self, serial: &[u8], state: &mut [u8]) -> u8;
     /// Code, bytes consumed, bytes written.
     fn feed(&self, state: &mut [u8], host: &[u8], reply: &mut [u8]) -> (u8, usize, usize);
-    /// Code, tuning word.
-    fn word(&self, state: &[u8]) -> (u8, u64);
+    /// Code, tuning word of a channel.
+    fn word(&self, state: &[u8], channel: u8) -> (u8, u64);
     /// Code, bytes written.
     fn cut(&self, state: &mut [u8], samples: &[i32], packet: &mut [u8]) -> (u8, usize);
+    /// Code; a reader of so many channels that has heard nothing in `reader`.
+    fn silent(&self, channels: u8, reader: &mut [u8]) -> u8;
     /// Code, and the packet's place, zeros where it has none.
     fn read(&self, reader: &mut [u8], packet: &[u8]) -> (u8, Place);
     /// How many sample bytes a packet has, and the one at a place (0 past the end).
@@ -55,8 +76,11 @@ pub trait Library {
     fn older(&self, bytes: &[u8], buffer: &mut [u8]) -> u8;
     /// Bytes of reply written.
     fn serve(&self, host: &[u8], replies: &mut [u8]) -> usize;
-    /// The position of the first sample of the last packet heard, and how many were missed in its capture up to it.
-    fn read_run(&self, packets: &[u8], each: usize) -> (u64, u64);
+    /// How many packets a box cuts that has just been started in this mode, size and setup.
+    fn cut_run(&self, mode: u8, size: u8, setup: u8, samples: &[i32], packets: &mut [u8]) -> usize;
+    /// The position of the first sample of the last packet that a reader of so many channels heard, and how many were missed
+    /// in its capture up to it.
+    fn read_run(&self, channels: u8, packets: &[u8], each: usize) -> (u64, u64);
     /// What the span program prints, where it is there to be asked.
     fn span(&self, input: &[u8]) -> Option<Vec<u8>>;
 }
@@ -70,19 +94,20 @@ pub struct WishFields {
     pub gain: i8,
     pub word: u32,
     pub hertz: u64,
+    pub channel: u8,
 }
 
 impl WishFields {
-    /// The wish of a number and a value. A state is its run byte and 256 times its mode. A number that names no wish where
-    /// the value does not fit its field: such a value is one that the box would refuse.
-    pub fn of(which: u64, value: u64) -> Self {
-        let none = WishFields { which: u8::MAX, ..WishFields::default() };
+    /// The wish of a number, a channel byte and a value. A state is its run byte and 256 times its mode. A number that names no
+    /// wish where the value does not fit its field: such a value is one that the box would refuse.
+    pub fn of(which: u64, channel: u8, value: u64) -> Self {
+        let none = WishFields { which: u8::MAX, channel, ..WishFields::default() };
         let Ok(which) = u8::try_from(which) else { return none };
-        let fields = WishFields { which, ..WishFields::default() };
+        let fields = WishFields { which, channel, ..WishFields::default() };
         let byte = u8::try_from(value);
         let word = u32::try_from(value);
         match u64::from(which) {
-            ASK_VERSION | SET_SIZE => byte.map_or(none, |byte| WishFields { byte, ..fields }),
+            ASK_VERSION | SET_SETUP | SET_SIZE => byte.map_or(none, |byte| WishFields { byte, ..fields }),
             SET_STATE => u16::try_from(value).map_or(none, |state| {
                 let [byte, mode] = state.to_le_bytes();
                 WishFields { byte, mode, ..fields }
@@ -104,17 +129,19 @@ impl WishFields {
             4 => Wish::Status,
             SET_STATE => Wish::SetState(StateWish { run: self.byte, mode: self.mode }),
             6 => Wish::State,
-            SET_FREQUENCY => Wish::SetFrequency(self.hertz),
-            8 => Wish::Frequency,
-            9 => Wish::FrequencyRange,
-            SET_GAIN => Wish::SetGain(self.gain),
-            11 => Wish::Gain,
-            SET_CLOCK => Wish::SetClock(self.word),
-            13 => Wish::Clock,
-            SET_RATE => Wish::SetRate(self.word),
-            ASK_RATE => Wish::Rate,
+            SET_SETUP => Wish::SetChannelSetup(self.byte),
+            ASK_SETUP => Wish::ChannelSetup,
+            SET_FREQUENCY => Wish::SetFrequency(self.channel, self.hertz),
+            ASK_FREQUENCY => Wish::Frequency(self.channel),
+            ASK_RANGE => Wish::FrequencyRange(self.channel),
+            SET_GAIN => Wish::SetGain(self.channel, self.gain),
+            ASK_GAIN => Wish::Gain(self.channel),
+            SET_CLOCK => Wish::SetClock(self.channel, self.word),
+            ASK_CLOCK => Wish::Clock(self.channel),
+            SET_RATE => Wish::SetRate(self.channel, self.word),
+            ASK_RATE => Wish::Rate(self.channel),
             SET_SIZE => Wish::SetPacketSize(self.byte),
-            17 => Wish::PacketSize,
+            19 => Wish::PacketSize,
             _ => return None,
         })
     }
@@ -148,6 +175,7 @@ pub fn said(wish: Wish, reply: Reply) -> Said {
         }
         Reply::Status { running } => one(if running { 0x0C } else { 0x0B }),
         Reply::State { running, mode } => two(if running { 2 } else { 1 }, mode.into()),
+        Reply::ChannelSetup(setup) => one(setup.into()),
         Reply::Frequency(frequency) => one(frequency),
         Reply::Gain(gain) => Said { gain, ..one(0) },
         Reply::Clock(hertz) | Reply::Rate(hertz) => one(hertz.into()),
@@ -176,60 +204,85 @@ impl Fields<'_> {
     }
 }
 
-pub fn station_in(bytes: &[u8]) -> Station {
+pub fn station_in(bytes: &StationBytes) -> Station {
     let mut fields = Fields(bytes);
     let settings = Settings {
         first: fields.channel(),
+        second: fields.channel(),
         count: u64::from_le_bytes(fields.array()),
         clock: u32::from_le_bytes(fields.array()),
         divisor: u32::from_le_bytes(fields.array()),
         running: fields.array() != [0],
         mode: u8::from_le_bytes(fields.array()),
         size: u8::from_le_bytes(fields.array()),
+        setup: u8::from_le_bytes(fields.array()),
         serial: fields.array(),
     };
     let held = fields.array();
     Station { settings, held, taken: usize::from_le_bytes(fields.array()) }
 }
 
-pub fn station_bytes(station: &Station) -> [u8; STATION_BYTES] {
+/// Writes fields into a state's bytes, from the front on.
+struct Places<'a>(&'a mut [u8]);
+
+impl Places<'_> {
+    fn put(&mut self, field: &[u8]) {
+        let (place, rest) = take(&mut self.0).split_at_mut(field.len());
+        place.copy_from_slice(field);
+        self.0 = rest;
+    }
+
+    fn put_channel(&mut self, channel: &Channel) {
+        self.put(&channel.frequency.to_le_bytes());
+        self.put(&channel.word.to_le_bytes());
+        self.put(&channel.gain.to_le_bytes());
+    }
+}
+
+/// Straight into the lent bytes, which saves a copy at each call.
+fn put_station(station: &Station, bytes: &mut StationBytes) {
     let settings = &station.settings;
+    let mut places = Places(bytes);
+    places.put_channel(&settings.first);
+    places.put_channel(&settings.second);
+    places.put(&settings.count.to_le_bytes());
+    places.put(&settings.clock.to_le_bytes());
+    places.put(&settings.divisor.to_le_bytes());
+    places.put(&[settings.running.into(), settings.mode, settings.size, settings.setup]);
+    places.put(&settings.serial);
+    places.put(&station.held);
+    places.put(&station.taken.to_le_bytes());
+}
+
+pub fn station_bytes(station: &Station) -> StationBytes {
     let mut bytes = [0; STATION_BYTES];
-    let mut at = 0;
-    let mut put = |field: &[u8]| {
-        bytes[at..at + field.len()].copy_from_slice(field);
-        at += field.len();
-    };
-    put(&settings.first.frequency.to_le_bytes());
-    put(&settings.first.word.to_le_bytes());
-    put(&[settings.first.gain as u8]);
-    put(&settings.count.to_le_bytes());
-    put(&settings.clock.to_le_bytes());
-    put(&settings.divisor.to_le_bytes());
-    put(&[settings.running.into(), settings.mode, settings.size]);
-    put(&settings.serial);
-    put(&station.held);
-    put(&station.taken.to_le_bytes());
+    put_station(station, &mut bytes);
     bytes
 }
 
-pub fn reader_in(bytes: &[u8]) -> Reader {
+pub fn reader_in(bytes: &ReaderBytes) -> Reader {
     let mut fields = Fields(bytes);
     Reader {
         position: u64::from_le_bytes(fields.array()),
         form: Form { bits: u64::from_le_bytes(fields.array()), pairs: u64::from_le_bytes(fields.array()) },
         total: u64::from_le_bytes(fields.array()),
         heard: fields.array() != [0],
+        channels: u8::from_le_bytes(fields.array()),
     }
 }
 
-pub fn reader_bytes(reader: &Reader) -> [u8; READER_BYTES] {
+fn put_reader(reader: &Reader, bytes: &mut ReaderBytes) {
+    let mut places = Places(bytes);
+    places.put(&reader.position.to_le_bytes());
+    places.put(&reader.form.bits.to_le_bytes());
+    places.put(&reader.form.pairs.to_le_bytes());
+    places.put(&reader.total.to_le_bytes());
+    places.put(&[reader.heard.into(), reader.channels]);
+}
+
+pub fn reader_bytes(reader: &Reader) -> ReaderBytes {
     let mut bytes = [0; READER_BYTES];
-    bytes[..8].copy_from_slice(&reader.position.to_le_bytes());
-    bytes[8..16].copy_from_slice(&reader.form.bits.to_le_bytes());
-    bytes[16..24].copy_from_slice(&reader.form.pairs.to_le_bytes());
-    bytes[24..32].copy_from_slice(&reader.total.to_le_bytes());
-    bytes[32] = reader.heard.into();
+    put_reader(reader, &mut bytes);
     bytes
 }
 
@@ -249,33 +302,27 @@ fn done(written: Result<usize, Code>) -> u8 {
 impl Library for Plain {
     #[inline(never)]
     fn fresh(&self, serial: &[u8], state: &mut [u8]) -> u8 {
-        if state.len() != STATION_BYTES {
-            return BROKEN;
-        }
+        let Ok(state) = <&mut StationBytes>::try_from(state) else { return BROKEN };
         let (station, code) = Station::fresh(serial);
-        state.copy_from_slice(&station_bytes(&station));
+        put_station(&station, state);
         code as u8
     }
 
     #[inline(never)]
     fn feed(&self, state: &mut [u8], host: &[u8], reply: &mut [u8]) -> (u8, usize, usize) {
-        if state.len() != STATION_BYTES {
-            return (BROKEN, 0, 0);
-        }
+        let Ok(state) = <&mut StationBytes>::try_from(state) else { return (BROKEN, 0, 0) };
         let mut station = station_in(state);
         let fed = station.feed(host, reply);
         if (fed.code as u8) < 20 {
-            state.copy_from_slice(&station_bytes(&station));
+            put_station(&station, state);
         }
         (fed.code as u8, fed.consumed, fed.wrote)
     }
 
     #[inline(never)]
-    fn word(&self, state: &[u8]) -> (u8, u64) {
-        if state.len() != STATION_BYTES {
-            return (BROKEN, 0);
-        }
-        match station_in(state).word() {
+    fn word(&self, state: &[u8], channel: u8) -> (u8, u64) {
+        let Ok(state) = <&StationBytes>::try_from(state) else { return (BROKEN, 0) };
+        match station_in(state).word(channel) {
             Ok(word) => (1, word.into()),
             Err(code) => (code as u8, 0),
         }
@@ -283,26 +330,34 @@ impl Library for Plain {
 
     #[inline(never)]
     fn cut(&self, state: &mut [u8], samples: &[i32], packet: &mut [u8]) -> (u8, usize) {
-        if state.len() != STATION_BYTES {
-            return (BROKEN, 0);
-        }
+        let Ok(state) = <&mut StationBytes>::try_from(state) else { return (BROKEN, 0) };
         let mut station = station_in(state);
         let cut = station.cut(samples, packet);
         if (cut.code as u8) < 20 {
-            state.copy_from_slice(&station_bytes(&station));
+            put_station(&station, state);
         }
         (cut.code as u8, cut.wrote)
     }
 
     #[inline(never)]
-    fn read(&self, reader: &mut [u8], packet: &[u8]) -> (u8, Place) {
-        if reader.len() != READER_BYTES {
-            return (BROKEN, Place::default());
+    fn silent(&self, channels: u8, reader: &mut [u8]) -> u8 {
+        let silent = Reader::new(channels);
+        match <&mut ReaderBytes>::try_from(reader) {
+            Ok(bytes) if silent.is_sound() => {
+                put_reader(&silent, bytes);
+                1
+            }
+            _ => BROKEN,
         }
-        let mut state = reader_in(reader);
+    }
+
+    #[inline(never)]
+    fn read(&self, reader: &mut [u8], packet: &[u8]) -> (u8, Place) {
+        let Ok(bytes) = <&mut ReaderBytes>::try_from(reader) else { return (BROKEN, Place::default()) };
+        let mut state = reader_in(bytes);
         match state.read(packet) {
             Ok(place) => {
-                reader.copy_from_slice(&reader_bytes(&state));
+                put_reader(&state, bytes);
                 (1, place)
             }
             Err(code) => (code as u8, Place::default()),
@@ -368,11 +423,15 @@ impl Library for Plain {
         station::serve(host, replies)
     }
 
-    fn read_run(&self, packets: &[u8], each: usize) -> (u64, u64) {
+    fn cut_run(&self, mode: u8, size: u8, setup: u8, samples: &[i32], packets: &mut [u8]) -> usize {
+        station::cut_run(mode, size, setup, samples, packets)
+    }
+
+    fn read_run(&self, channels: u8, packets: &[u8], each: usize) -> (u64, u64) {
         if each == 0 {
             return (0, 0);
         }
-        reader::read_run(packets, each)
+        reader::read_run(channels, packets, each)
     }
 
     fn span(&self, input: &[u8]) -> Option<Vec<u8>> {

@@ -1,6 +1,6 @@
 //! The samples and packets of the benchmarks.
 
-use crate::item::{MODE_16, MODE_24, SIZE_LARGE, SIZE_SMALL};
+use crate::item::{MODE_16, MODE_24, SETUP_DUAL, SETUP_SINGLE, SIZE_LARGE, SIZE_SMALL};
 use crate::packet::{number_at, Form};
 use crate::random::Random;
 
@@ -18,6 +18,9 @@ pub const FORMS: [(&str, Form, u8, u8); 4] = [
     ("large, 16 bits", Form::LARGE_16, MODE_16, SIZE_LARGE),
     ("small, 16 bits", Form::SMALL_16, MODE_16, SIZE_SMALL),
 ];
+
+/// Captures with one channel and with two: what a row's name has more, the box's setup, and the reader's count.
+pub const COUNTS: [(&str, u8, u8); 2] = [("", SETUP_SINGLE, 1), (", two channels", SETUP_DUAL, 2)];
 
 /// As many samples as PACKETS packets hold.
 pub fn signal(form: Form) -> Vec<i32> {

@@ -19,11 +19,15 @@ pub const UNKNOWN: [u8; 8] = [0; 8];
 /// The clock of a head that names none.
 pub const USUAL_CLOCK: u32 = 80_000_000;
 
+/// Bit 6 of the mode byte: the packets hold two channels.
+pub const TWO_CHANNELS: u8 = 0x40;
+
 #[derive(Clone, Copy, Debug, Default, PartialEq, Eq)]
 pub struct Head {
     pub version: u32,
     pub divisor: u32,
     pub frequency: u64,
+    /// the capture mode, and TWO_CHANNELS
     pub mode: u8,
     pub size: u8,
     /// of version 1 UNKNOWN
@@ -43,12 +47,26 @@ impl Head {
         named
             && rate::divisor_allowed(self.divisor)
             && tuning::frequency_allowed(self.frequency)
-            && item::mode_allowed(self.mode)
+            && item::mode_allowed(self.capture_mode())
             && item::size_allowed(self.size)
     }
 
+    /// The mode byte without bit 6.
+    fn capture_mode(&self) -> u8 {
+        self.mode & !TWO_CHANNELS
+    }
+
     pub fn form(&self) -> Form {
-        Form::of_settings(self.mode, self.size)
+        Form::of_settings(self.capture_mode(), self.size)
+    }
+
+    /// How many channels a packet holds.
+    pub fn channels(&self) -> u8 {
+        if self.mode & TWO_CHANNELS == 0 {
+            1
+        } else {
+            2
+        }
     }
 
     /// Bytes of an allowed head, behind which the packets begin.

@@ -11,6 +11,7 @@ pub enum Item {
     Versions = 0x0004,
     Status = 0x0005,
     State = 0x0018,
+    ChannelSetup = 0x0019,
     Frequency = 0x0020,
     Gain = 0x0038,
     Clock = 0x00B0,
@@ -27,6 +28,7 @@ impl Item {
             0x0004 => Item::Versions,
             0x0005 => Item::Status,
             0x0018 => Item::State,
+            0x0019 => Item::ChannelSetup,
             0x0020 => Item::Frequency,
             0x0038 => Item::Gain,
             0x00B0 => Item::Clock,
@@ -43,7 +45,7 @@ impl Item {
             (Item::Frequency, Kind::Set) => Some(10),
             (Item::Gain, Kind::Set) => Some(6),
             (Item::Clock | Item::Rate, Kind::Set) => Some(9),
-            (Item::PacketSize, Kind::Set) => Some(5),
+            (Item::ChannelSetup | Item::PacketSize, Kind::Set) => Some(5),
             (_, Kind::Set) => None,
             (Item::Versions | Item::Frequency | Item::Gain | Item::Clock | Item::Rate, Kind::Request) => Some(5),
             (_, Kind::Request) => Some(4),
@@ -59,7 +61,7 @@ impl Item {
             Item::Serial => 13,
             Item::Interface | Item::Gain => 6,
             Item::Versions => 7,
-            Item::Status | Item::PacketSize => 5,
+            Item::Status | Item::ChannelSetup | Item::PacketSize => 5,
             Item::State => 8,
             Item::Frequency => 10,
             Item::Clock | Item::Rate => 9,
@@ -77,6 +79,15 @@ pub const RUN_IDLE: u8 = 1;
 pub const RUN_START: u8 = 2;
 pub const MODE_24: u8 = 0x80;
 pub const MODE_16: u8 = 0x00;
+
+/// Channel setup: one channel, or two from one converter.
+pub const SETUP_SINGLE: u8 = 0;
+pub const SETUP_DUAL: u8 = 4;
+
+/// Channel bytes: the first channel, the second, and all that are open, where a set sets them to the same value.
+pub const CHANNEL_1: u8 = 0x00;
+pub const CHANNEL_2: u8 = 0x02;
+pub const ALL_CHANNELS: u8 = 0xFF;
 
 pub const SIZE_LARGE: u8 = 0;
 pub const SIZE_SMALL: u8 = 1;
@@ -99,10 +110,15 @@ pub fn mode_allowed(mode: u8) -> bool {
     matches!(mode, MODE_24 | MODE_16)
 }
 
+pub fn setup_allowed(setup: u8) -> bool {
+    matches!(setup, SETUP_SINGLE | SETUP_DUAL)
+}
+
 pub fn size_allowed(size: u8) -> bool {
     matches!(size, SIZE_LARGE | SIZE_SMALL)
 }
 
+#[inline(always)] // as the test of a box, which it is a part of
 pub fn serial_allowed(serial: &[u8]) -> bool {
     serial.len() == 8 && serial.iter().all(|c| c.is_ascii_uppercase() || c.is_ascii_digit())
 }

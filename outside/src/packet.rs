@@ -8,7 +8,7 @@ use crate::message::Header;
 pub struct Form {
     /// bits of a sample
     pub bits: u64,
-    /// I/Q pairs in a packet
+    /// I/Q pairs in a packet, of all channels together
     pub pairs: u64,
 }
 
@@ -47,6 +47,15 @@ impl Form {
 
     pub fn is_listed(self) -> bool {
         Form::LISTED.contains(&self)
+    }
+
+    /// I/Q pairs of each channel, where a packet holds one or two.
+    pub fn pairs_each(self, channels: u8) -> u64 {
+        if channels == 2 {
+            self.pairs / 2
+        } else {
+            self.pairs
+        }
     }
 
     /// Numbers in a packet: I and Q of each pair.

@@ -23,7 +23,7 @@ mod door {
             consumed: *mut usize,
             wrote: *mut usize,
         ) -> u8;
-        pub fn skvornela_word(state: *const u8, state_len: usize, word: *mut u32) -> u8;
+        pub fn skvornela_word(state: *const u8, state_len: usize, channel: u8, word: *mut u32) -> u8;
         pub fn skvornela_cut(
             state: *mut u8,
             state_len: usize,
@@ -33,6 +33,7 @@ mod door {
             packet_len: usize,
             wrote: *mut usize,
         ) -> u8;
+        pub fn skvornela_silent(channels: u8, reader: *mut u8, reader_len: usize) -> u8;
         pub fn skvornela_read(
             reader: *mut u8,
             reader_len: usize,
@@ -58,6 +59,7 @@ mod door {
             gain: i8,
             word: u32,
             hertz: u64,
+            channel: u8,
             buffer: *mut u8,
             buffer_len: usize,
             wrote: *mut usize,
@@ -93,6 +95,7 @@ mod door {
             gain: i8,
             word: u32,
             hertz: u64,
+            channel: u8,
             bytes: *const u8,
             bytes_len: usize,
             item: *mut u16,
@@ -105,6 +108,7 @@ mod door {
         pub fn skvornela_cut_run(
             mode: u8,
             size: u8,
+            setup: u8,
             n: usize,
             total: usize,
             samples: *const i32,
@@ -112,7 +116,13 @@ mod door {
             packets: *mut u8,
             packets_len: usize,
         ) -> usize;
-        pub fn skvornela_read_run(packets: *const u8, packets_len: usize, each: usize, total: *mut u64) -> u64;
+        pub fn skvornela_read_run(
+            channels: u8,
+            packets: *const u8,
+            packets_len: usize,
+            each: usize,
+            total: *mut u64,
+        ) -> u64;
     }
 }
 
@@ -141,9 +151,9 @@ impl Library for Proved {
         (code, consumed, wrote)
     }
 
-    fn word(&self, state: &[u8]) -> (u8, u64) {
+    fn word(&self, state: &[u8], channel: u8) -> (u8, u64) {
         let mut word = u32::MAX;
-        let code = unsafe { door::skvornela_word(state.as_ptr(), state.len(), &mut word) };
+        let code = unsafe { door::skvornela_word(state.as_ptr(), state.len(), channel, &mut word) };
         (code, word.into())
     }
 
@@ -161,6 +171,10 @@ impl Library for Proved {
             )
         };
         (code, wrote)
+    }
+
+    fn silent(&self, channels: u8, reader: &mut [u8]) -> u8 {
+        unsafe { door::skvornela_silent(channels, reader.as_mut_ptr(), reader.len()) }
     }
 
     fn read(&self, reader: &mut [u8], packet: &[u8]) -> (u8, Place) {
@@ -204,6 +218,7 @@ impl Library for Proved {
                 fields.gain,
                 fields.word,
                 fields.hertz,
+                fields.channel,
                 buffer.as_mut_ptr(),
                 buffer.len(),
                 &mut wrote,
@@ -222,6 +237,7 @@ impl Library for Proved {
                 fields.gain,
                 fields.word,
                 fields.hertz,
+                fields.channel,
                 bytes.as_ptr(),
                 bytes.len(),
                 &mut said.item,
@@ -283,8 +299,12 @@ impl Library for Proved {
         serve(host, replies)
     }
 
-    fn read_run(&self, packets: &[u8], each: usize) -> (u64, u64) {
-        read_run(packets, each)
+    fn cut_run(&self, mode: u8, size: u8, setup: u8, samples: &[i32], packets: &mut [u8]) -> usize {
+        cut_run(mode, size, setup, samples, packets)
+    }
+
+    fn read_run(&self, channels: u8, packets: &[u8], each: usize) -> (u64, u64) {
+        read_run(channels, packets, each)
     }
 
     /// Runs the program that SPAN_PROGRAM names. The input goes to it in pieces of many sizes, cut as its length says.
@@ -315,12 +335,13 @@ pub fn serve(host: &[u8], replies: &mut [u8]) -> usize {
     unsafe { door::skvornela_serve(host.as_ptr(), host.len(), replies.as_mut_ptr(), replies.len()) }
 }
 
-pub fn cut_run(mode: u8, size: u8, samples: &[i32], packets: &mut [u8]) -> usize {
+pub fn cut_run(mode: u8, size: u8, setup: u8, samples: &[i32], packets: &mut [u8]) -> usize {
     let form = Form::of_settings(mode, size);
     unsafe {
         door::skvornela_cut_run(
             mode,
             size,
+            setup,
             form.samples(),
             form.total(),
             samples.as_ptr(),
@@ -331,8 +352,8 @@ pub fn cut_run(mode: u8, size: u8, samples: &[i32], packets: &mut [u8]) -> usize
     }
 }
 
-pub fn read_run(packets: &[u8], each: usize) -> (u64, u64) {
+pub fn read_run(channels: u8, packets: &[u8], each: usize) -> (u64, u64) {
     let mut total = u64::MAX;
-    let sample = unsafe { door::skvornela_read_run(packets.as_ptr(), packets.len(), each, &mut total) };
+    let sample = unsafe { door::skvornela_read_run(channels, packets.as_ptr(), packets.len(), each, &mut total) };
     (sample, total)
 }

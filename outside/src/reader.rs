@@ -16,13 +16,15 @@ pub struct Reader {
     /// packets missed up to that position
     pub total: u64,
     pub form: Form,
+    /// how many channels a packet holds, 1 or 2, as it was told when made
+    pub channels: u8,
 }
 
 /// Where a packet stands in its capture, and what is missing there. A capture starts where all is zero.
 #[derive(Clone, Copy, Debug, Default, PartialEq, Eq)]
 pub struct Place {
     pub position: u64,
-    /// the position of its first sample
+    /// the position of its first sample, of each channel
     pub sample: u64,
     /// packets missed just before it
     pub missed: u64,
@@ -30,18 +32,20 @@ pub struct Place {
     pub total: u64,
 }
 
-impl Default for Reader {
-    fn default() -> Self {
-        Reader { heard: false, position: 0, total: 0, form: Form { bits: 0, pairs: 0 } }
-    }
-}
-
 impl Reader {
+    /// A reader of captures with so many channels, which has heard nothing yet.
+    pub fn new(channels: u8) -> Self {
+        Reader { heard: false, position: 0, total: 0, form: Form { bits: 0, pairs: 0 }, channels }
+    }
+
     pub fn is_sound(&self) -> bool {
+        if !matches!(self.channels, 1 | 2) {
+            return false;
+        }
         if self.heard {
             self.position <= LAST_POSITION && self.steps_give_total() && self.form.is_listed()
         } else {
-            *self == Reader::default()
+            *self == Reader::new(self.channels)
         }
     }
 
@@ -57,7 +61,7 @@ impl Reader {
         let form = Form::of_packet(packet).ok_or(Code::NotAPacket)?;
         let number = u16::from_le_bytes([packet[2], packet[3]]);
         let place = if number == 0 { Place::default() } else { self.next(form, number)? };
-        *self = Reader { heard: true, position: place.position, total: place.total, form };
+        *self = Reader { heard: true, position: place.position, total: place.total, form, ..*self };
         Ok(place)
     }
 
@@ -77,11 +81,12 @@ impl Reader {
             return Err(Code::PastLast);
         }
         let missed = step - 1;
-        Ok(Place { position, sample: position * form.pairs, missed, total: self.total + missed })
+        Ok(Place { position, sample: position * form.pairs_each(self.channels), missed, total: self.total + missed })
     }
 }
 
-/// Writes a packet's I and Q in turn as signed numbers of the width sent; answers how many.
+/// Writes a packet's I and Q in turn, those of two channels as they stand in it, as signed numbers of the width sent; answers
+/// how many.
 pub fn unpack(packet: &[u8], numbers: &mut [i32]) -> Result<usize, Code> {
     let form = Form::of_packet(packet).ok_or(Code::NotAPacket)?;
     let numbers = numbers.get_mut(..form.samples()).ok_or(Code::NoRoom)?;
@@ -116,11 +121,11 @@ pub fn unpack_by_chunks(packet: &[u8], numbers: &mut [i32]) -> Result<usize, Cod
     Ok(numbers.len())
 }
 
-/// Reads packets of `each` bytes one after another by a new reader, to the first that is refused: the position of the last
-/// packet's first sample, and how many packets were missed in its capture up to it.
+/// Reads packets of `each` bytes one after another by a new reader of so many channels, to the first that is refused: the
+/// position of the last packet's first sample, and how many packets were missed in its capture up to it.
 #[inline(never)]
-pub fn read_run(packets: &[u8], each: usize) -> (u64, u64) {
-    let mut reader = Reader::default();
+pub fn read_run(channels: u8, packets: &[u8], each: usize) -> (u64, u64) {
+    let mut reader = Reader::new(channels);
     let mut sample = 0;
     for packet in packets.chunks_exact(each) {
         match reader.read(packet) {

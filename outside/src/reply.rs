@@ -16,6 +16,7 @@ pub enum Reply {
     Version([u8; 2]),
     Status { running: bool },
     State { running: bool, mode: u8 },
+    ChannelSetup(u8),
     Frequency(u64),
     Gain(i8),
     Clock(u32),
@@ -24,18 +25,16 @@ pub enum Reply {
     FrequencyRange,
 }
 
-/// Reads the bytes that came for a wish: 16 where the writer would refuse it, 28 where no valid box answers so.
+/// Reads the bytes that came for a wish: the writer's code where it would refuse the wish, 28 where no valid box answers so.
 pub fn read(wish: Wish, bytes: &[u8]) -> Result<Reply, Code> {
-    if !wish.is_allowed() {
-        return Err(Code::ValueNotAllowed);
-    }
+    wish.check()?;
     if bytes == NAK {
         return Ok(Reply::Nak);
     }
     body_of(wish, bytes).and_then(|body| value(wish, body)).ok_or(Code::NotAReply)
 }
 
-/// What follows header and item code, where these are those of a reply to the wish.
+/// What follows header, item code and the byte that is repeated, where these are those of a reply to the wish.
 fn body_of(wish: Wish, bytes: &[u8]) -> Option<&[u8]> {
     let (kind, length) = match wish.kind() {
         Kind::Range => (2, 36),
@@ -44,7 +43,13 @@ fn body_of(wish: Wish, bytes: &[u8]) -> Option<&[u8]> {
     let body = bytes
         .strip_prefix(&Header { kind, length: length as u16 }.bytes())?
         .strip_prefix(&(wish.item() as u16).to_le_bytes())?;
-    (bytes.len() == length).then_some(body)
+    if bytes.len() != length {
+        return None;
+    }
+    match wish.echo() {
+        Some(echo) => body.strip_prefix(&[echo]),
+        None => Some(body),
+    }
 }
 
 fn value(wish: Wish, body: &[u8]) -> Option<Reply> {
@@ -55,17 +60,18 @@ fn value(wish: Wish, body: &[u8]) -> Option<Reply> {
     let as_set = match (wish, reply) {
         (Wish::SetState(StateWish { run: item::RUN_IDLE, .. }), Reply::State { running, .. }) => !running,
         (Wish::SetState(wished), Reply::State { running, mode }) => running && mode == wished.mode,
-        (Wish::SetFrequency(wished), Reply::Frequency(frequency)) => frequency == wished,
-        (Wish::SetGain(wished), Reply::Gain(gain)) => gain == wished,
-        (Wish::SetClock(wished), Reply::Clock(clock)) => clock == wished,
-        (Wish::SetRate(wished), Reply::Rate(rate)) => rate == rate::achieved(rate::nearest(wished)),
+        (Wish::SetChannelSetup(wished), Reply::ChannelSetup(setup)) => setup == wished,
+        (Wish::SetFrequency(_, wished), Reply::Frequency(frequency)) => frequency == wished,
+        (Wish::SetGain(_, wished), Reply::Gain(gain)) => gain == wished,
+        (Wish::SetClock(_, wished), Reply::Clock(clock)) => clock == wished,
+        (Wish::SetRate(_, wished), Reply::Rate(rate)) => rate == rate::achieved(rate::nearest(wished)),
         (Wish::SetPacketSize(wished), Reply::PacketSize(size)) => size == wished,
         _ => wish.kind() == Kind::Request,
     };
     as_set.then_some(reply)
 }
 
-/// The value in a reply's body, of any valid box, with channel byte 00 or the id asked for.
+/// The value in a reply's body, of any valid box.
 fn any_value(wish: Wish, body: &[u8]) -> Option<Reply> {
     match (wish.item(), body) {
         (Item::Name, body) => (body == item::NAME).then_some(Reply::Name),
@@ -76,9 +82,9 @@ fn any_value(wish: Wish, body: &[u8]) -> Option<Reply> {
             item::INTERFACE => Some(Reply::Interface(item::INTERFACE)),
             _ => None,
         },
-        (Item::Versions, &[id, a, b]) => {
-            let asked = wish == Wish::Version(id) && item::version(id) == Some([a, b]);
-            asked.then_some(Reply::Version([a, b]))
+        (Item::Versions, &[a, b]) => {
+            let version = wish.echo().and_then(item::version);
+            (version == Some([a, b])).then_some(Reply::Version([a, b]))
         }
         (Item::Status, &[item::STATUS_IDLE]) => Some(Reply::Status { running: false }),
         (Item::Status, &[item::STATUS_RUNNING]) => Some(Reply::Status { running: true }),
@@ -87,16 +93,17 @@ fn any_value(wish: Wish, body: &[u8]) -> Option<Reply> {
             item::RUN_START => Some(Reply::State { running: true, mode }),
             _ => None,
         },
-        (Item::Frequency, &[0, a, b, c, d, e]) => {
+        (Item::ChannelSetup, &[setup]) => item::setup_allowed(setup).then_some(Reply::ChannelSetup(setup)),
+        (Item::Frequency, &[a, b, c, d, e]) => {
             let frequency = tuning::frequency_from([a, b, c, d, e]);
             tuning::frequency_allowed(frequency).then_some(Reply::Frequency(frequency))
         }
-        (Item::Gain, &[0, gain]) => item::gain_allowed(gain as i8).then_some(Reply::Gain(gain as i8)),
-        (Item::Clock, &[0, a, b, c, d]) => {
+        (Item::Gain, &[gain]) => item::gain_allowed(gain as i8).then_some(Reply::Gain(gain as i8)),
+        (Item::Clock, &[a, b, c, d]) => {
             let clock = u32::from_le_bytes([a, b, c, d]);
             item::clock_allowed(clock).then_some(Reply::Clock(clock))
         }
-        (Item::Rate, &[0, a, b, c, d]) => {
+        (Item::Rate, &[a, b, c, d]) => {
             let rate = u32::from_le_bytes([a, b, c, d]);
             rate::divisor_of(rate).map(|_| Reply::Rate(rate))
         }
@@ -105,9 +112,9 @@ fn any_value(wish: Wish, body: &[u8]) -> Option<Reply> {
     }
 }
 
-/// The body of the range reply for channel 00, as source document 003 prints it.
-const RANGES: [u8; 32] = [
-    0x00, 0x02, //
+/// What follows the channel byte in the range reply, as source document 003 prints it.
+const RANGES: [u8; 31] = [
+    0x02, //
     0xA0, 0x86, 0x01, 0x00, 0x00, 0x80, 0xCC, 0x06, 0x02, 0x00, 0x00, 0x00, 0x00, 0x00, 0x00, //
     0x00, 0x3B, 0x58, 0x08, 0x00, 0x80, 0xD1, 0xF0, 0x08, 0x00, 0x00, 0x68, 0x89, 0x09, 0x00,
 ];

@@ -24,7 +24,7 @@ pub fn text(input: &[u8]) -> String {
     };
     let mut captures = 0;
     let mut open: Option<Capture> = None;
-    let mut reader = Reader::default();
+    let mut reader = Reader::new(head.channels());
     let mut rest = &input[head.length()..];
     while !rest.is_empty() {
         match next_packet(&head, &mut reader, rest) {
@@ -68,15 +68,16 @@ fn next_packet(head: &Head, reader: &mut Reader, rest: &[u8]) -> Result<Place, C
     reader.read(packet)
 }
 
+/// A capture's line. Pairs, samples and end time are those of each channel.
 fn line(out: &mut String, head: &Head, number: u64, capture: &Capture) {
     let form = head.form();
+    let pairs = form.pairs_each(head.channels());
     let positions = capture.last.position + 1;
-    let samples = positions * form.pairs;
+    let samples = positions * pairs;
     let _ = writeln!(
         out,
-        "C {number} {} {} {} {positions} {samples} {} {}",
+        "C {number} {} {pairs} {} {positions} {samples} {} {}",
         form.bits,
-        form.pairs,
         capture.packets,
         end_time(head, samples),
         capture.last.total,

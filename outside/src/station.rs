@@ -22,7 +22,10 @@ pub struct Channel {
 
 #[derive(Clone, Debug, PartialEq, Eq)]
 pub struct Settings {
+    /// channel 00
     pub first: Channel,
+    /// channel 02, which keeps its values while it is closed
+    pub second: Channel,
     /// packets cut in this capture
     pub count: u64,
     /// Hz
@@ -34,6 +37,8 @@ pub struct Settings {
     pub mode: u8,
     /// 0 large, 1 small
     pub size: u8,
+    /// 0 one channel, 4 two
+    pub setup: u8,
     pub serial: [u8; 8],
 }
 
@@ -67,8 +72,9 @@ enum Change {
     Nothing,
     Idle,
     Start { mode: u8 },
-    Frequency(u64),
-    Gain(i8),
+    Setup(u8),
+    Frequency { channel: u8, frequency: u64 },
+    Gain { channel: u8, gain: i8 },
     Clock(u32),
     Divisor(u32),
     Size(u8),
@@ -91,7 +97,9 @@ impl Answer {
 }
 
 impl Channel {
-    const FRESH: Self = Channel { frequency: 10_000_000, word: 536_870_912, gain: 0 };
+    fn fresh() -> Self {
+        Channel { frequency: 10_000_000, word: 536_870_912, gain: 0 }
+    }
 
     /// Whether its fields are in order in a box with this clock, which is in order.
     fn is_sound(&self, clock: u32) -> bool {
@@ -108,13 +116,15 @@ impl Channel {
 impl Settings {
     pub fn fresh(serial: [u8; 8]) -> Self {
         Settings {
-            first: Channel::FRESH,
+            first: Channel::fresh(),
+            second: Channel::fresh(),
             count: 0,
             clock: 80_000_000,
             divisor: 100,
             running: false,
             mode: item::MODE_24,
             size: item::SIZE_LARGE,
+            setup: item::SETUP_SINGLE,
             serial,
         }
     }
@@ -123,16 +133,51 @@ impl Settings {
     pub fn is_sound(&self) -> bool {
         item::clock_allowed(self.clock)
             && self.first.is_sound(self.clock)
+            && self.second.is_sound(self.clock)
             && self.count <= CAPTURE_LIMIT
             && rate::divisor_allowed(self.divisor)
             && item::mode_allowed(self.mode)
             && item::size_allowed(self.size)
+            && item::setup_allowed(self.setup)
             && item::serial_allowed(&self.serial)
     }
 
     /// The packet form of the mode and size set.
     pub fn form(&self) -> Form {
         Form::of_settings(self.mode, self.size)
+    }
+
+    /// How many channels are open, and so how many a packet holds.
+    pub fn channels(&self) -> u8 {
+        if self.setup == item::SETUP_DUAL {
+            2
+        } else {
+            1
+        }
+    }
+
+    /// Whether this byte names a channel that is open.
+    fn is_open(&self, channel: u8) -> bool {
+        channel == item::CHANNEL_1 || channel == item::CHANNEL_2 && self.setup == item::SETUP_DUAL
+    }
+
+    /// The channel whose values a reply shows that repeats this byte.
+    fn channel(&self, byte: u8) -> &Channel {
+        if byte == item::CHANNEL_2 {
+            &self.second
+        } else {
+            &self.first
+        }
+    }
+
+    /// Sets the channels that a set with this byte covers, which was allowed.
+    fn set_channels(&mut self, byte: u8, set: impl Fn(&mut Channel)) {
+        if byte != item::CHANNEL_2 {
+            set(&mut self.first);
+        }
+        if byte == item::CHANNEL_2 || byte == item::ALL_CHANNELS && self.setup == item::SETUP_DUAL {
+            set(&mut self.second);
+        }
     }
 
     /// What a control message of 4 to 64 bytes asks for, or why it is refused. Codes 12, 14, 13, 15, 16, 17.
@@ -149,14 +194,14 @@ impl Settings {
             Kind::Request => {
                 let echo = parameters.first().copied().unwrap_or(0);
                 match item {
-                    Item::Frequency | Item::Gain if echo != 0 => return Err(Code::ChannelNotAllowed),
+                    Item::Frequency | Item::Gain if !self.is_open(echo) => return Err(Code::ChannelNotAllowed),
                     Item::Versions if item::version(echo).is_none() => return Err(Code::ValueNotAllowed),
                     _ => {}
                 }
                 Ok((Answer::Value { item, echo }, Change::Nothing))
             }
             Kind::Range => match parameters[0] {
-                0 => Ok((Answer::Range { channel: 0 }, Change::Nothing)),
+                channel if self.is_open(channel) => Ok((Answer::Range { channel }, Change::Nothing)),
                 _ => Err(Code::ChannelNotAllowed),
             },
         }
@@ -165,8 +210,9 @@ impl Settings {
     fn judge_set(&self, item: Item, parameters: &[u8]) -> Result<(Answer, Change), Code> {
         let allowed = |yes: bool| if yes { Ok(()) } else { Err(Code::ValueNotAllowed) };
         let while_idle = || if self.running { Err(Code::NotWhileRunning) } else { Ok(()) };
-        let channel_00_or_ff = |channel| match channel {
-            0x00 | 0xFF => Ok(()),
+        let open_or_all = |channel| match channel {
+            item::ALL_CHANNELS => Ok(()),
+            _ if self.is_open(channel) => Ok(()),
             _ => Err(Code::ChannelNotAllowed),
         };
         let (echo, change) = match (item, parameters) {
@@ -179,17 +225,22 @@ impl Settings {
                     (true, false) => return Err(Code::NotWhileRunning),
                 }
             }
+            (Item::ChannelSetup, &[setup]) => {
+                allowed(item::setup_allowed(setup))?;
+                while_idle()?;
+                (0, Change::Setup(setup))
+            }
             (Item::Frequency, &[channel, a, b, c, d, e]) => {
-                channel_00_or_ff(channel)?;
+                open_or_all(channel)?;
                 let frequency = tuning::frequency_from([a, b, c, d, e]);
                 allowed(tuning::frequency_allowed(frequency))?;
-                (channel, Change::Frequency(frequency))
+                (channel, Change::Frequency { channel, frequency })
             }
             (Item::Gain, &[channel, gain]) => {
-                channel_00_or_ff(channel)?;
+                open_or_all(channel)?;
                 let gain = gain as i8;
                 allowed(item::gain_allowed(gain))?;
-                (channel, Change::Gain(gain))
+                (channel, Change::Gain { channel, gain })
             }
             (Item::Clock, &[channel, a, b, c, d]) => {
                 let clock = u32::from_le_bytes([a, b, c, d]);
@@ -221,11 +272,16 @@ impl Settings {
                 self.mode = mode;
                 self.count = 0;
             }
-            Change::Frequency(frequency) => self.first.tune(frequency, self.clock),
-            Change::Gain(gain) => self.first.gain = gain,
+            Change::Setup(setup) => self.setup = setup,
+            Change::Frequency { channel, frequency } => {
+                let word = tuning::word(frequency, self.clock);
+                self.set_channels(channel, |c| (c.frequency, c.word) = (frequency, word));
+            }
+            Change::Gain { channel, gain } => self.set_channels(channel, |c| c.gain = gain),
             Change::Clock(clock) => {
                 self.clock = clock;
                 self.first.tune(self.first.frequency, clock);
+                self.second.tune(self.second.frequency, clock);
             }
             Change::Divisor(divisor) => self.divisor = divisor,
             Change::Size(size) => self.size = size,
@@ -267,11 +323,12 @@ impl Settings {
                 let run = if self.running { item::RUN_START } else { item::RUN_IDLE };
                 body.copy_from_slice(&[item::COMPLEX, run, self.mode, 0]);
             }
+            Item::ChannelSetup => body[0] = self.setup,
             Item::Frequency => {
                 body[0] = echo;
-                body[1..].copy_from_slice(&tuning::frequency_bytes(self.first.frequency));
+                body[1..].copy_from_slice(&tuning::frequency_bytes(self.channel(echo).frequency));
             }
-            Item::Gain => body.copy_from_slice(&[echo, self.first.gain as u8]),
+            Item::Gain => body.copy_from_slice(&[echo, self.channel(echo).gain as u8]),
             Item::Clock => {
                 body[0] = echo;
                 body[1..].copy_from_slice(&self.clock.to_le_bytes());
@@ -323,12 +380,15 @@ impl Station {
         Header::parse([self.held[0], self.held[1]])
     }
 
-    /// The tuning word: the one that is kept.
-    pub fn word(&self) -> Result<u32, Code> {
+    /// The tuning word of a channel: the one that is kept.
+    pub fn word(&self, channel: u8) -> Result<u32, Code> {
         if !self.is_sound() {
             return Err(Code::Broken);
         }
-        Ok(self.settings.first.word)
+        if !self.settings.is_open(channel) {
+            return Err(Code::ChannelNotAllowed);
+        }
+        Ok(self.settings.channel(channel).word)
     }
 
     /// Takes a part of the host's bytes, up to the end of one message.
@@ -394,7 +454,8 @@ impl Station {
         Fed { code, consumed, wrote: length }
     }
 
-    /// Cuts the next packet of the capture from I and Q in turn.
+    /// Cuts the next packet of the capture from I and Q in turn; with two channels a pair of the first, a pair of the second,
+    /// and so on.
     pub fn cut(&mut self, samples: &[i32], packet: &mut [u8]) -> Cut {
         match self.try_cut(samples, packet) {
             Ok(wrote) => Cut { code: Code::Done, wrote },
@@ -452,11 +513,12 @@ pub fn serve(host: &[u8], replies: &mut [u8]) -> usize {
 
 /// Cuts packets from a run of samples, one after another, by a box that has just been started; answers how many.
 #[inline(never)]
-pub fn cut_run(mode: u8, size: u8, samples: &[i32], packets: &mut [u8]) -> usize {
+pub fn cut_run(mode: u8, size: u8, setup: u8, samples: &[i32], packets: &mut [u8]) -> usize {
     let (mut station, _) = Station::fresh(b"MT123456");
     station.settings.running = true;
     station.settings.mode = mode;
     station.settings.size = size;
+    station.settings.setup = setup;
     let form = station.settings.form();
     let mut count = 0;
     for (samples, packet) in samples.chunks_exact(form.samples()).zip(packets.chunks_exact_mut(form.total())) {

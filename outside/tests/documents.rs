@@ -2,6 +2,7 @@
 
 use outside::packet::{number_at, sample_bytes, samples_fit, to_sixteen};
 use outside::reader::{read_run, unpack, Place};
+use outside::station::{Channel, Settings};
 use outside::wish::StateWish;
 use outside::{head, reply, span, Code, Form, Head, Reader, Reply, Station, Wish};
 
@@ -51,7 +52,7 @@ fn examples_of_003() {
         assert_eq!(tell(station, message), (code, answer), "section {section}");
         run += 1;
     }
-    assert_eq!(run, 57);
+    assert_eq!(run, 59);
 }
 
 #[test]
@@ -65,7 +66,7 @@ fn frequency_and_word() {
     let message = "0A 00 20 00 00 90 C6 D5 00 00";
     assert_eq!(tell(&mut station, message), (1, hex(message)));
     assert_eq!(station.settings.first.frequency, 14_010_000);
-    assert_eq!(station.word(), Ok(752_156_148));
+    assert_eq!(station.word(0), Ok(752_156_148));
     // the SDR-IQ form: 4,308,977,296 Hz
     assert_eq!(tell(&mut station, "0A 00 20 00 00 90 C6 D5 00 01"), nak(16));
     // 34,000,000 is taken, 34,000,001 not
@@ -76,7 +77,7 @@ fn frequency_and_word() {
     // 145,000,000
     let second = "0A 00 20 00 FF 40 86 A4 08 00";
     assert_eq!(tell(&mut station, second), (1, hex(second)));
-    assert_eq!(station.word(), Ok(805_306_368));
+    assert_eq!(station.word(0), Ok(805_306_368));
 }
 
 #[test]
@@ -100,27 +101,165 @@ fn the_word_is_kept_after_every_message() {
         ("09 00 B0 00 00 00 B4 C4 04", 1, 805_306_368),
     ] {
         assert_eq!(tell(&mut station, message).0, code, "{message}");
-        assert_eq!((station.settings.first.word, station.word()), (word, Ok(word)), "{message}");
+        assert_eq!((station.settings.first.word, station.word(0)), (word, Ok(word)), "{message}");
     }
     // no room for the reply: nothing is set, and the word is the old one
     let fed = station.feed(&hex("09 00 B0 00 00 7B B4 C4 04"), &mut [0; 8]);
-    assert_eq!((fed.code, station.word()), (Code::NoRoom, Ok(805_306_368)));
+    assert_eq!((fed.code, station.word(0)), (Code::NoRoom, Ok(805_306_368)));
 }
 
 #[test]
 fn a_box_with_another_word_is_broken() {
     for word in [536_870_911, 536_870_913, 0, u32::MAX] {
+        is_broken(|settings| settings.first.word = word);
+        is_broken(|settings| settings.second.word = word);
+    }
+}
+
+/// A running box of either setup with one field changed is fed, cut and asked for its words: 21, and as it was.
+fn is_broken(change: impl Fn(&mut Settings)) {
+    for setup in [0, 4] {
         let mut station = fresh();
         station.settings.running = true;
-        station.settings.first.word = word;
+        station.settings.setup = setup;
+        assert!(station.is_sound());
+        change(&mut station.settings);
         let given = station.clone();
         let fed = station.feed(&hex("04 20 01 00"), &mut [0; 64]);
         assert_eq!((fed.code, fed.consumed, fed.wrote), (Code::Broken, 0, 0));
         let cut = station.cut(&[0; 480], &mut [0; 1444]);
         assert_eq!((cut.code, cut.wrote), (Code::Broken, 0));
-        assert_eq!(station.word(), Err(Code::Broken));
+        for channel in [0x00, 0x02, 0xFF] {
+            assert_eq!(station.word(channel), Err(Code::Broken));
+        }
         assert_eq!(station, given);
     }
+}
+
+/// Document 02, No. 7: one fresh box, told one thing after another.
+#[test]
+fn two_channels() {
+    let mut station = fresh();
+    for (message, code, answer) in [
+        ("04 20 19 00", 1, "05 00 19 00 00"),
+        ("05 20 20 00 02", 15, "02 00"),
+        ("05 00 19 00 01", 16, "02 00"),
+        // as document 003 prints it
+        ("05 00 19 00 04", 1, "05 00 19 00 04"),
+        ("05 20 20 00 02", 1, "0A 00 20 00 02 80 96 98 00 00"),
+        ("0A 00 20 00 02 90 C6 D5 00 00", 1, "0A 00 20 00 02 90 C6 D5 00 00"),
+        // as document 003 prints it
+        ("05 20 20 00 02", 1, "0A 00 20 00 02 90 C6 D5 00 00"),
+        ("05 20 20 00 00", 1, "0A 00 20 00 00 80 96 98 00 00"),
+        (
+            "05 40 20 00 02",
+            1,
+            "24 40 20 00 02 02 A0 86 01 00 00 80 CC 06 02 00 00 00 00 00 00 \
+             00 3B 58 08 00 80 D1 F0 08 00 00 68 89 09 00",
+        ),
+        ("06 00 38 00 FF EC", 1, "06 00 38 00 FF EC"),
+        ("05 20 38 00 02", 1, "06 00 38 00 02 EC"),
+        ("05 20 20 00 FF", 15, "02 00"),
+        ("05 20 20 00 01", 15, "02 00"),
+        // closed again: FF sets the first alone
+        ("05 00 19 00 00", 1, "05 00 19 00 00"),
+        ("05 20 20 00 02", 15, "02 00"),
+        ("05 40 20 00 02", 15, "02 00"),
+        ("0A 00 20 00 FF 00 2D 31 01 00", 1, "0A 00 20 00 FF 00 2D 31 01 00"),
+        ("06 00 38 00 02 00", 15, "02 00"),
+        ("05 00 19 00 04", 1, "05 00 19 00 04"),
+        ("05 20 20 00 02", 1, "0A 00 20 00 02 90 C6 D5 00 00"),
+        ("05 20 20 00 00", 1, "0A 00 20 00 00 00 2D 31 01 00"),
+    ] {
+        assert_eq!(tell(&mut station, message), (code, hex(answer)), "{message}");
+    }
+    assert_eq!((station.word(0x00), station.word(0x02)), (Ok(1_073_741_824), Ok(752_156_148)));
+    for (message, code) in [
+        ("08 00 18 00 80 02 80 00", 1),
+        ("05 00 19 00 04", 17),
+        ("05 00 19 00 00", 17),
+        ("05 00 19 00 05", 16),
+        ("04 40 19 00", 14),
+        ("05 20 19 00 00", 13),
+        ("0A 00 20 00 02 80 96 98 00 00", 1),
+    ] {
+        assert_eq!(tell(&mut station, message).0, code, "{message}");
+    }
+}
+
+/// Every value of 0019: two are taken, and change nothing else.
+#[test]
+fn channel_setups() {
+    for setup in 0..=255u8 {
+        let mut station = fresh();
+        station.settings.second.tune(145_000_000, 80_000_000);
+        station.settings.second.gain = -30;
+        station.settings.count = 7;
+        let before = station.clone();
+        let message = format!("05 00 19 00 {setup:02X}");
+        if setup == 0 || setup == 4 {
+            assert_eq!(tell(&mut station, &message), (1, hex(&message)));
+            assert_eq!(tell(&mut station, "04 20 19 00"), (1, hex(&message)));
+            station.settings.setup = 0;
+        } else {
+            assert_eq!(tell(&mut station, &message), nak(16));
+            is_broken(|settings| settings.setup = setup);
+        }
+        assert_eq!(station, before);
+    }
+}
+
+/// With one channel and with two, every channel byte: which are allowed, and what each sets.
+#[test]
+fn channel_bytes() {
+    for two in [false, true] {
+        for channel in 0..=255u8 {
+            let mut station = fresh();
+            station.settings.setup = if two { 4 } else { 0 };
+            let open = channel == 0 || two && channel == 2;
+            let settable = open || channel == 0xFF;
+            for request in ["05 20 20 00", "05 40 20 00", "05 20 38 00"] {
+                assert_eq!(tell(&mut station, &format!("{request} {channel:02X}")).0, if open { 1 } else { 15 });
+            }
+            let word = if open { Ok(536_870_912) } else { Err(Code::ChannelNotAllowed) };
+            assert_eq!(station.word(channel), word);
+
+            let frequency = format!("0A 00 20 00 {channel:02X} 90 C6 D5 00 00");
+            let gain = format!("06 00 38 00 {channel:02X} EC");
+            for message in [frequency, gain] {
+                let answer = if settable { (1, hex(&message)) } else { nak(15) };
+                assert_eq!(tell(&mut station, &message), answer);
+            }
+            let set = Channel { frequency: 14_010_000, word: 752_156_148, gain: -20 };
+            let left = fresh().settings.first;
+            let (first, second) = (settable && channel != 2, two && (channel == 2 || channel == 0xFF));
+            assert_eq!(station.settings.first, if first { set.clone() } else { left.clone() });
+            assert_eq!(station.settings.second, if second { set } else { left });
+            // before the value
+            let bad = format!("0A 00 20 00 {channel:02X} 81 CC 06 02 00");
+            assert_eq!(tell(&mut station, &bad), nak(if settable { 16 } else { 15 }));
+        }
+    }
+}
+
+#[test]
+fn a_clock_set_renews_both_words() {
+    for setup in [0, 4] {
+        let mut station = fresh();
+        station.settings.setup = setup;
+        station.settings.second.tune(14_010_000, 80_000_000);
+        assert_eq!(tell(&mut station, "09 00 B0 00 00 7B B4 C4 04").0, 1);
+        assert!(station.is_sound());
+        assert_eq!((station.settings.first.word, station.settings.second.word), (536_870_087, 752_154_991));
+    }
+}
+
+#[test]
+fn a_box_with_a_bad_second_channel_is_broken() {
+    is_broken(|settings| settings.second.frequency = 34_000_001);
+    is_broken(|settings| settings.second.frequency = 10_000_001);
+    is_broken(|settings| settings.second.gain = -1);
+    is_broken(|settings| settings.clock = 80_000_001);
 }
 
 #[test]
@@ -248,7 +387,7 @@ fn numbers() {
         packet[2..4].copy_from_slice(&number.to_le_bytes());
         packet
     };
-    let mut reader = Reader::default();
+    let mut reader = Reader::new(1);
     assert_eq!(reader.read(&packet(7)), Err(Code::NoFirstPacket));
     assert_eq!(reader.read(&packet(0)).unwrap().position, 0);
     assert_eq!(reader.read(&packet(7)).unwrap().position, 7);
@@ -265,10 +404,7 @@ fn numbers() {
 }
 
 fn small_24(number: u16) -> Vec<u8> {
-    let mut packet = vec![0x33; Form::SMALL_24.total()];
-    packet[..2].copy_from_slice(&Form::SMALL_24.header());
-    packet[2..4].copy_from_slice(&number.to_le_bytes());
-    packet
+    packet_of(Form::SMALL_24, number)
 }
 
 /// Document 02, No. 1: position, sample, missed and total of each packet that one reader is handed, by its number.
@@ -284,7 +420,7 @@ fn missed_packets() {
         (&[3, 0, 5], &[Err(Code::NoFirstPacket), start, place(5, 320, 4, 4)]),
     ];
     for (numbers, answers) in cases {
-        let mut reader = Reader::default();
+        let mut reader = Reader::new(1);
         let mut heard = 0;
         for (&number, &answer) in numbers.iter().zip(answers) {
             let before = reader;
@@ -293,20 +429,87 @@ fn missed_packets() {
                 Ok(Place { position, total, .. }) => {
                     heard = if number == 0 { 1 } else { heard + 1 };
                     assert_eq!(heard + total, position + 1);
-                    assert_eq!(reader, Reader { heard: true, position, total, form: Form::SMALL_24 });
+                    assert_eq!(reader, Reader { heard: true, position, total, form: Form::SMALL_24, channels: 1 });
                 }
                 Err(_) => assert_eq!(reader, before),
             }
         }
         let packets: Vec<u8> = numbers.iter().flat_map(|&number| small_24(number)).collect();
         let last = answers.iter().map_while(|answer| answer.ok()).last().unwrap_or_default();
-        assert_eq!(read_run(&packets, Form::SMALL_24.total()), (last.sample, last.total));
+        assert_eq!(read_run(1, &packets, Form::SMALL_24.total()), (last.sample, last.total));
+        assert_eq!(read_run(2, &packets, Form::SMALL_24.total()), (last.sample / 2, last.total));
+        assert_eq!(read_run(3, &packets, Form::SMALL_24.total()), (0, 0));
+    }
+}
+
+fn packet_of(form: Form, number: u16) -> Vec<u8> {
+    let mut packet = vec![0x33; form.total()];
+    packet[..2].copy_from_slice(&form.header());
+    packet[2..4].copy_from_slice(&number.to_le_bytes());
+    packet
+}
+
+/// Document 02, No. 7: pairs per channel in each form, and by them the position of a packet's first sample.
+#[test]
+fn positions_of_two_channels() {
+    let pairs = [(240, 120), (64, 32), (256, 128), (128, 64)];
+    for (form, (alone, each)) in Form::LISTED.into_iter().zip(pairs) {
+        for (channels, pairs) in [(1, alone), (2, each)] {
+            assert_eq!(form.pairs_each(channels), pairs);
+            let mut reader = Reader::new(channels);
+            assert_eq!(reader.read(&packet_of(form, 0)).map(|place| place.sample), Ok(0));
+            let place = Place { position: 3, sample: 3 * pairs, missed: 2, total: 2 };
+            assert_eq!(reader.read(&packet_of(form, 3)), Ok(place));
+            // a new capture keeps the count
+            assert_eq!(reader.read(&packet_of(form, 0)), Ok(Place::default()));
+            assert_eq!(reader.read(&packet_of(form, 1)).map(|place| place.sample), Ok(pairs));
+        }
+        for channels in [0, 3, 4, 255] {
+            for given in [Reader::new(channels), Reader { heard: true, form, ..Reader::new(channels) }] {
+                let mut reader = given;
+                assert_eq!(reader.read(&packet_of(form, 0)), Err(Code::Broken));
+                assert_eq!(reader.read(&[]), Err(Code::Broken));
+                assert_eq!(reader, given);
+            }
+        }
+    }
+}
+
+/// Channel 1 I, Q, then channel 2 I, Q, pair by pair: where each stands in a packet of each form.
+#[test]
+fn two_channels_in_turn() {
+    for (mode, size) in [(0x80, 0), (0x80, 1), (0x00, 0), (0x00, 1)] {
+        let mut station = fresh();
+        for message in
+            [format!("05 00 C4 00 {size:02X}"), "05 00 19 00 04".into(), format!("08 00 18 00 80 02 {mode:02X} 00")]
+        {
+            assert_eq!(tell(&mut station, &message).0, 1);
+        }
+        let form = station.settings.form();
+        let pairs = form.pairs_each(station.settings.channels()) as usize;
+        // of pair k: I and Q of channel 1, I and Q of channel 2
+        let sent = |k: usize| [0, 1, 2, 3].map(|j| 256 * (4 * k + j) as i32);
+        let samples: Vec<i32> = (0..pairs).flat_map(sent).collect();
+        let mut packet = vec![0; form.total()];
+        assert_eq!(station.cut(&samples, &mut packet).code, Code::Done);
+        let width = form.bits as usize / 8;
+        for k in 0..pairs {
+            for (place, number) in sent(k).iter().enumerate() {
+                let at = 4 + (4 * k + place) * width;
+                let low = if form.bits == 24 { number.to_le_bytes() } else { (number / 256).to_le_bytes() };
+                assert_eq!(packet[at..at + width], low[..width]);
+            }
+        }
+        let mut numbers = vec![0; form.samples()];
+        assert_eq!(unpack(&packet, &mut numbers), Ok(4 * pairs));
+        assert!(numbers.iter().zip(&samples).all(|(n, s)| *n == if form.bits == 24 { *s } else { s / 256 }));
+        assert_eq!(station.cut(&samples[..2 * pairs], &mut packet).code, Code::WrongCount);
     }
 }
 
 #[test]
 fn totals_that_no_steps_give() {
-    let heard = |position, total| Reader { heard: true, position, total, form: Form::SMALL_24 };
+    let heard = |position, total| Reader { heard: true, position, total, form: Form::SMALL_24, channels: 1 };
     let sound = [(65_535, 65_534), (65_536, 65_534), (10, 9), (3_999_999_999, 3_999_938_962), (0, 0), (10, 0)];
     for (position, total) in sound {
         assert!(heard(position, total).is_sound(), "{total} missed up to {position}");
@@ -318,9 +521,9 @@ fn totals_that_no_steps_give() {
         assert_eq!(reader.read(&[]), Err(Code::Broken));
         assert_eq!(reader, heard(position, total));
     }
-    let mut silent = Reader { total: 1, ..Reader::default() };
+    let mut silent = Reader { total: 1, ..Reader::new(1) };
     assert_eq!(silent.read(&small_24(0)), Err(Code::Broken));
-    assert_eq!(silent, Reader { total: 1, ..Reader::default() });
+    assert_eq!(silent, Reader { total: 1, ..Reader::new(1) });
 }
 
 /// A step leads at most 65,535 on, and all its packets but one are missed: the fewest steps to a position give the greatest
@@ -334,8 +537,10 @@ fn greatest_totals() {
         for total in near_greatest.chain([0, position, u64::MAX]) {
             let sound = position <= 3_999_999_999 && total <= greatest;
             for form in Form::LISTED {
-                let reader = Reader { heard: true, position, total, form };
-                assert_eq!(reader.is_sound(), sound, "{total} missed up to {position}");
+                for channels in [1, 2] {
+                    let reader = Reader { heard: true, position, total, form, channels };
+                    assert_eq!(reader.is_sound(), sound, "{total} missed up to {position}");
+                }
             }
         }
     }
@@ -414,21 +619,34 @@ fn wishes_reach_the_box_and_its_reply_is_read() {
         (Wish::Version(3), Reply::Version([1, 7])),
         (Wish::Status, Reply::Status { running: false }),
         (Wish::State, Reply::State { running: false, mode: 0x80 }),
-        (Wish::FrequencyRange, Reply::FrequencyRange),
-        (Wish::SetFrequency(145_000_000), Reply::Frequency(145_000_000)),
-        (Wish::Frequency, Reply::Frequency(145_000_000)),
-        (Wish::SetGain(-30), Reply::Gain(-30)),
-        (Wish::Gain, Reply::Gain(-30)),
-        (Wish::SetClock(79_999_999), Reply::Clock(79_999_999)),
-        (Wish::Clock, Reply::Clock(79_999_999)),
-        (Wish::SetRate(1_907_000), Reply::Rate(1_818_182)),
-        (Wish::Rate, Reply::Rate(1_818_182)),
+        (Wish::ChannelSetup, Reply::ChannelSetup(0)),
+        (Wish::FrequencyRange(0), Reply::FrequencyRange),
+        (Wish::SetFrequency(0, 145_000_000), Reply::Frequency(145_000_000)),
+        (Wish::Frequency(0), Reply::Frequency(145_000_000)),
+        (Wish::Frequency(2), Reply::Nak),
+        (Wish::SetGain(0xFF, -30), Reply::Gain(-30)),
+        (Wish::SetGain(2, -30), Reply::Nak),
+        (Wish::Gain(0), Reply::Gain(-30)),
+        (Wish::SetChannelSetup(4), Reply::ChannelSetup(4)),
+        (Wish::ChannelSetup, Reply::ChannelSetup(4)),
+        (Wish::FrequencyRange(2), Reply::FrequencyRange),
+        (Wish::Frequency(2), Reply::Frequency(10_000_000)),
+        (Wish::Gain(2), Reply::Gain(0)),
+        (Wish::SetFrequency(2, 14_010_000), Reply::Frequency(14_010_000)),
+        (Wish::SetGain(0xFF, -10), Reply::Gain(-10)),
+        (Wish::Gain(2), Reply::Gain(-10)),
+        (Wish::Frequency(0), Reply::Frequency(145_000_000)),
+        (Wish::SetClock(0, 79_999_999), Reply::Clock(79_999_999)),
+        (Wish::Clock(0xAB), Reply::Clock(79_999_999)),
+        (Wish::SetRate(0xFF, 1_907_000), Reply::Rate(1_818_182)),
+        (Wish::Rate(1), Reply::Rate(1_818_182)),
         (Wish::SetPacketSize(1), Reply::PacketSize(1)),
         (Wish::PacketSize, Reply::PacketSize(1)),
         (Wish::SetState(StateWish { run: 2, mode: 0 }), Reply::State { running: true, mode: 0 }),
         (Wish::Status, Reply::Status { running: true }),
         (Wish::SetState(StateWish { run: 2, mode: 0x80 }), Reply::Nak),
-        (Wish::SetRate(32_000), Reply::Nak),
+        (Wish::SetRate(0, 32_000), Reply::Nak),
+        (Wish::SetChannelSetup(4), Reply::Nak),
         (Wish::SetState(StateWish { run: 1, mode: 9 }), Reply::State { running: false, mode: 0 }),
     ];
     let mut station = fresh();
@@ -440,9 +658,58 @@ fn wishes_reach_the_box_and_its_reply_is_read() {
         assert_eq!(reply::read(wish, &buffer[..fed.wrote]), Ok(expected), "{wish:?}");
         assert_eq!(reply::read(wish, &buffer[..fed.wrote + 1]), Err(Code::NotAReply));
     }
-    assert_eq!(Wish::SetGain(1).write(&mut []), Err(Code::ValueNotAllowed));
-    assert_eq!(Wish::SetGain(0).write(&mut [0; 15]), Err(Code::NoRoom));
+    assert_eq!(Wish::SetGain(0, 1).write(&mut []), Err(Code::ValueNotAllowed));
+    assert_eq!(Wish::SetGain(0, 0).write(&mut [0; 15]), Err(Code::NoRoom));
     assert_eq!(reply::read(Wish::Version(4), &[2, 0]), Err(Code::ValueNotAllowed));
+}
+
+/// Document 02, No. 7: a channel byte that no box allows is 15, before 16, before 20; nothing is written.
+#[test]
+fn wishes_for_channels() {
+    let refused = |wish: Wish, code: Code| {
+        let mut buffer = [0xEE; 16];
+        assert_eq!(wish.write(&mut buffer), Err(code), "{wish:?}");
+        assert_eq!(wish.write(&mut buffer[..15]), Err(code), "{wish:?}");
+        assert_eq!(buffer, [0xEE; 16]);
+        assert_eq!(reply::read(wish, &[0x02, 0x00]), Err(code), "{wish:?}");
+    };
+    refused(Wish::SetFrequency(2, 34_000_001), Code::ValueNotAllowed);
+    refused(Wish::SetFrequency(1, 34_000_001), Code::ChannelNotAllowed);
+    refused(Wish::Frequency(0xFF), Code::ChannelNotAllowed);
+    for setup in (0..=255).filter(|setup| *setup != 0 && *setup != 4) {
+        refused(Wish::SetChannelSetup(setup), Code::ValueNotAllowed);
+    }
+    for channel in 0..=255 {
+        let set_too = matches!(channel, 0x00 | 0x02 | 0xFF);
+        let asked_too = set_too && channel != 0xFF;
+        for (wish, allowed) in [
+            (Wish::SetFrequency(channel, 14_010_000), set_too),
+            (Wish::SetGain(channel, -20), set_too),
+            (Wish::Frequency(channel), asked_too),
+            (Wish::FrequencyRange(channel), asked_too),
+            (Wish::Gain(channel), asked_too),
+            (Wish::SetClock(channel, 80_000_123), true),
+            (Wish::Clock(channel), true),
+            (Wish::SetRate(channel, 500_000), true),
+            (Wish::Rate(channel), true),
+        ] {
+            if !allowed {
+                refused(wish, Code::ChannelNotAllowed);
+                continue;
+            }
+            let mut buffer = [0xEE; 16];
+            let length = wish.write(&mut buffer).unwrap();
+            assert_eq!(buffer[4], channel);
+            // the box's answer is a reply to it, the same for another channel is not
+            let mut station = fresh();
+            station.settings.setup = 4;
+            let mut answer = [0; 64];
+            let wrote = station.feed(&buffer[..length], &mut answer).wrote;
+            assert!(reply::read(wish, &answer[..wrote]).is_ok_and(|reply| reply != Reply::Nak), "{wish:?}");
+            answer[4] ^= 2;
+            assert_eq!(reply::read(wish, &answer[..wrote]), Err(Code::NotAReply), "{wish:?}");
+        }
+    }
 }
 
 const OLD_HEAD: Head = Head {
@@ -454,6 +721,48 @@ const OLD_HEAD: Head = Head {
     serial: head::UNKNOWN,
     clock: 80_000_000,
 };
+
+/// The mode byte has bit 6 set for two channels: 80, 00, C0 and 40 are allowed, in both versions.
+#[test]
+fn modes_of_heads() {
+    for head in [OLD_HEAD, named_head(b"MT123456", 79_999_990)] {
+        for mode in 0..=255 {
+            let mut bytes = head_bytes(&head);
+            bytes[12] = mode;
+            let head = Head { mode, ..head };
+            if matches!(mode, 0x80 | 0x00 | 0xC0 | 0x40) {
+                assert_eq!(Head::read(&bytes), Ok(head));
+                assert_eq!(head_bytes(&head), bytes);
+                assert_eq!(head.channels(), if mode < 0x40 || mode == 0x80 { 1 } else { 2 });
+                assert_eq!(head.form(), if mode >= 0x80 { Form::SMALL_24 } else { Form::SMALL_16 });
+                assert_eq!(head.newer().mode, mode);
+            } else {
+                assert_eq!(Head::read(&bytes), Err(Code::NotAHead));
+                assert_eq!(head.write(&mut [0; 30]), Err(Code::ValueNotAllowed));
+            }
+        }
+    }
+}
+
+#[test]
+fn span_lines_of_two_channels() {
+    let bytes = hex("53 50 4E 01 00 64 00 90 C6 D5 00 00 C0 01");
+    let packets: Vec<u8> = [0, 1, 4].iter().flat_map(|&number| small_24(number)).collect();
+    let capture = [&bytes[..], &packets].concat();
+    assert_eq!(span::text(&capture), "SPAN 1\nC 1 24 32 3 5 160 800 2\nE 1\n");
+    // 16 bits and large: 128 pairs each
+    let large = Head { mode: 0x40, size: 0, ..OLD_HEAD };
+    let capture = [head_bytes(&large), packet_of(Form::LARGE_16, 0), packet_of(Form::LARGE_16, 2)].concat();
+    assert_eq!(span::text(&capture), "SPAN 1\nC 1 16 128 2 3 384 1920 1\nE 1\n");
+    // small packets with one channel hold as many pairs, and are another form
+    let capture = [head_bytes(&large), packet_of(Form::SMALL_16, 0)].concat();
+    assert_eq!(span::text(&capture), "SPAN 1\nR 32 14\n");
+    for mode in [0x20, 0xC1] {
+        let mut bytes = bytes.clone();
+        bytes[12] = mode;
+        assert_eq!(span::text(&bytes), "SPAN 1\nR 40 0\n");
+    }
+}
 
 /// Of version 2.
 fn named_head(serial: &[u8; 8], clock: u32) -> Head {

@@ -38,6 +38,7 @@ first-only code =
     then (λ s p h. rw (take-one p h))
     then (λ s p h. refl)
     then (λ s p h. refl)
+    then (λ s p h. refl)
     then (λ s p h. rw (take-one p h))
     then (λ s p h. rw (take-one p h))
     then (λ s p h. rw (take-one p h))

@@ -32,10 +32,10 @@ module _ (i : Item) (item width value : ℕ) (s : Settings) (echo : ℕ) (code :
 
 -- a code that is in no row
 pub no-row : (item : ℕ) → (item ≡ 0x0001 → ⊥) → (item ≡ 0x0002 → ⊥) → (item ≡ 0x0003 → ⊥) → (item ≡ 0x0004 → ⊥) → (item ≡ 0x0005 → ⊥)
-    → (item ≡ 0x0018 → ⊥) → (item ≡ 0x0020 → ⊥) → (item ≡ 0x0038 → ⊥) → (item ≡ 0x00B0 → ⊥) → (item ≡ 0x00B8 → ⊥) → (item ≡ 0x00C4 → ⊥)
-    → rowOf item ≡ noItem
+    → (item ≡ 0x0018 → ⊥) → (item ≡ 0x0019 → ⊥) → (item ≡ 0x0020 → ⊥) → (item ≡ 0x0038 → ⊥) → (item ≡ 0x00B0 → ⊥) → (item ≡ 0x00B8 → ⊥)
+    → (item ≡ 0x00C4 → ⊥) → rowOf item ≡ noItem
 unfolding rowOf
-no-row item a b c d e f g h i j k =
+no-row item a b c d e f g h i j k l =
     rw (
       ne-eqb item 0x0001 a,
       ne-eqb item 0x0002 b,
@@ -43,10 +43,11 @@ no-row item a b c d e f g h i j k =
       ne-eqb item 0x0004 d,
       ne-eqb item 0x0005 e,
       ne-eqb item 0x0018 f,
-      ne-eqb item 0x0020 g,
-      ne-eqb item 0x0038 h,
-      ne-eqb item 0x00B0 i,
-      ne-eqb item 0x00B8 j,
-      ne-eqb item 0x00C4 k,
+      ne-eqb item 0x0019 g,
+      ne-eqb item 0x0020 h,
+      ne-eqb item 0x0038 i,
+      ne-eqb item 0x00B0 j,
+      ne-eqb item 0x00B8 k,
+      ne-eqb item 0x00C4 l,
     )
     refl

@@ -18,7 +18,7 @@ use Rattle.cutting.specs.declared.CutHeld.{CutHeld}
 use Rattle.station.specs.Station.{boxOf}
 use Rattle.cutting.specs.Cutting.{Cutting, cuttingOf, partsOf}
 use Rattle.cutting.proofs.Ways.{each-cut, cutting-holds}
-use Rattle.boxdoor.specs.States.{stationSize, settingsIn, settingsBytes, stationBytes}
+use Rattle.boxdoor.specs.States.{heldFrom, takenFrom, stationSize, settingsIn, settingsBytes, stationBytes}
 use Rattle.boxdoor.specs.Cutting.{CutAnswer, cutBy, cutOver, packetOver}
 use Rattle.boxdoor.proofs.Parts.{length-part}
 use Rattle.boxdoor.proofs.Fields.{parts-stored}
@@ -62,18 +62,19 @@ module _ (state : List ℕ) (samples : List ℤ) (room : ℕ) (l : Lent state sa
 
   serial-long : length (r .settings .serial) ≡ 8
   unfolding settingsIn
-  serial-long = rw (l .told, same-serial, l .box .read) (length-part 32 8 state (omega (arith, l .box .long)))
+  serial-long = rw (l .told, same-serial, l .box .read) (length-part 46 8 state (omega (arith, l .box .long)))
 
-  pub cut-done : (after : List ℕ) → r .code < 20 → after ≡ sets (sets state 0 (settingsBytes (r .settings))) 104 (bytes 8 (l .box .taken))
+  pub cut-done : (after : List ℕ) → r .code < 20
+      → after ≡ sets (sets state 0 (settingsBytes (r .settings))) takenFrom (bytes 8 (l .box .taken))
       → record { code = r .code; wrote = r .wrote; state = after } ≡ cutOver state samples room
   cut-done after low e =
       let holds = sym (cutting-holds lent samples room) in
-      let same : boxOf (r .settings) (midOf 40 64 state) (l .box .taken) ≡ cut .station =
-      box-after (cut .station) (r .settings) (midOf 40 64 state) (l .box .taken)
+      let same : boxOf (r .settings) (midOf heldFrom 64 state) (l .box .taken) ≡ cut .station =
+      box-after (cut .station) (r .settings) (midOf heldFrom 64 state) (l .box .taken)
       (ap (λ (k : CutHeld). k .settings) (l .told)) (ap (λ (k : Store). k .held) holds) (ap (λ (k : Store). k .taken) holds) in
       answer after
       (e
-      ∙ parts-stored (r .settings) (midOf 40 64 state) state (l .box .taken) (l .box .long) serial-long refl
+      ∙ parts-stored (r .settings) (midOf heldFrom 64 state) state (l .box .taken) (l .box .long) serial-long refl
       ∙ ap stationBytes same
       ∙ rw (lt-ltb (r .code) 20 low) refl)
 

@@ -22,7 +22,7 @@ use Rattle.framing.proofs.Leaving.{left-long}
 use Rattle.station.proofs.Kept.{serial-long}
 use Rattle.station.proofs.Valid.{valid-settings, valid-store, feeding-broken}
 use Rattle.station.proofs.Calls.{refused-returns, feeding-keeps}
-use Rattle.boxdoor.specs.States.{stationSize, stationIn, settingsBytes, stationBytes}
+use Rattle.boxdoor.specs.States.{heldFrom, takenFrom, stationSize, stationIn, settingsBytes, stationBytes}
 use Rattle.boxdoor.specs.Feeding.{FeedAnswer, fedOver, feedOver, repliedOver, freshOver, Tuned, tuned, tunedOver}
 use Rattle.boxdoor.proofs.Parts.{length-part}
 use Rattle.boxdoor.proofs.Fields.{parts-stored, held-put}
@@ -77,7 +77,7 @@ module _ (state host : List ℕ) (room : ℕ) (l : Lent state host room) where
           absurd (omega (arith, ap (λ (k : FedHeld). k .code) (l .told)))
 
   pub feed-done : (after : List ℕ) → f .code < 20
-      → after ≡ sets (sets (putMid 40 64 state (l .held)) 0 (settingsBytes (f .settings))) 104 (bytes 8 (f .taken))
+      → after ≡ sets (sets (putMid heldFrom 64 state (l .held)) 0 (settingsBytes (f .settings))) takenFrom (bytes 8 (f .taken))
       → record { code = f .code; consumed = f .consumed; wrote = f .wrote; state = after } ≡ feedOver state host room
   feed-done after low e =
       let s = fed .station in
@@ -85,26 +85,28 @@ module _ (state host : List ℕ) (room : ℕ) (l : Lent state host room) where
       let serial : length (f .settings .serial) ≡ 8 =
       rw (l .told) (serial-long (s .settings) (valid-settings (s .settings) (s .store) v)) in
       let many : length (l .held) ≡ 64 = rw (l .kept) (left-long (s .store) (valid-store (s .settings) (s .store) v)) in
-      let part : length (midOf 40 64 state) ≡ 64 = length-part 40 64 state (omega arith) in
-      let size : length (putMid 40 64 state (l .held)) ≡ stationSize =
-      same-len-mid 40 64 state (l .held) (many ∙ sym part) ∙ l .box .long in
+      let part : length (midOf heldFrom 64 state) ≡ 64 = length-part heldFrom 64 state (omega arith) in
+      let size : length (putMid heldFrom 64 state (l .held)) ≡ stationSize =
+      same-len-mid heldFrom 64 state (l .held) (many ∙ sym part) ∙ l .box .long in
       let same : boxOf (f .settings) (l .held) (f .taken) ≡ s =
       box-after s (f .settings) (l .held) (f .taken)
       (ap (λ (k : FedHeld). k .settings) (l .told)) (l .kept) (ap (λ (k : FedHeld). k .taken) (l .told)) in
       answer after
       (e
-      ∙ parts-stored (f .settings) (l .held) (putMid 40 64 state (l .held)) (f .taken) size serial
+      ∙ parts-stored (f .settings) (l .held) (putMid heldFrom 64 state (l .held)) (f .taken) size serial
       (held-put state (l .held) (l .box .long) many)
       ∙ ap stationBytes same
       ∙ rw (lt-ltb (f .code) 20 low) refl)
 
   pub feed-refused : 20 ≤ f .code
-      → record { code = f .code; consumed = f .consumed; wrote = f .wrote; state = putMid 40 64 state (l .held) } ≡ feedOver state host room
+      → record { code = f .code; consumed = f .consumed; wrote = f .wrote; state = putMid heldFrom 64 state (l .held) }
+      ≡ feedOver state host room
   feed-refused high =
       let code : f .code ≡ fed .code = ap (λ (k : FedHeld). k .code) (l .told) in
-      let same : l .held ≡ midOf 40 64 state =
+      let same : l .held ≡ midOf heldFrom 64 state =
       l .kept ∙ ap (λ (k : Station). k .store .held) (refused-returns lent host room (omega arith)) in
-      answer (putMid 40 64 state (l .held)) (ap (putMid 40 64 state) same ∙ put-same 40 64 state ∙ rw (le-ltb (f .code) 20 high) refl)
+      answer (putMid heldFrom 64 state (l .held))
+      (ap (putMid heldFrom 64 state) same ∙ put-same heldFrom 64 state ∙ rw (le-ltb (f .code) 20 high) refl)
 
   pub replied-whole : (reply after : List ℕ) → after ≡ sets reply 0 (feedingOf lent host room .bytes)
       → after ≡ sets reply 0 (repliedOver state host room)
@@ -132,12 +134,13 @@ pub fresh-broken : (serial state : List ℕ) → (length state ≡ stationSize �
 unfolding freshOver
 fresh-broken serial state other = rw (ne-eqb (length state) stationSize other)
 
-pub word-whole : (state : List ℕ) (s : Station) (t : Told) {w : Tuned} → length state ≡ stationSize → s ≡ stationIn state
-    → t ≡ tuningTold s → w ≡ tuned t
-    → w ≡ tunedOver state
+pub word-whole : (state : List ℕ) (channel : ℕ) (s : Station) (t : Told) {w : Tuned} → length state ≡ stationSize → s ≡ stationIn state
+    → t ≡ tuningTold s channel → w ≡ tuned t
+    → w ≡ tunedOver state channel
 unfolding tunedOver
-word-whole state s t long p q r = r ∙ rw (q, p, eq-eqb (length state) stationSize long)
+word-whole state channel s t long p q r = r ∙ rw (q, p, eq-eqb (length state) stationSize long)
 
-pub word-broken : (state : List ℕ) → (length state ≡ stationSize → ⊥) → record { code = 21; word = 0 } ≡ tunedOver state
+pub word-broken : (state : List ℕ) (channel : ℕ) → (length state ≡ stationSize → ⊥)
+    → record { code = 21; word = 0 } ≡ tunedOver state channel
 unfolding tunedOver
-word-broken state other = rw (ne-eqb (length state) stationSize other)
+word-broken state channel other = rw (ne-eqb (length state) stationSize other)

@@ -9,7 +9,7 @@ use Rattle.wire.specs.Number.{field}
 use Rattle.items.specs.declared.Settings.{Settings}
 use Rattle.station.specs.declared.Station.{Station}
 use Rattle.station.specs.Station.{boxOf}
-use Rattle.boxdoor.specs.States.{stationSize, settingsIn, storeIn, stationIn}
+use Rattle.boxdoor.specs.States.{heldFrom, takenFrom, stationSize, settingsIn, storeIn, stationIn}
 
 -- bytes of a box, and what was read out of them
 pub record Read (state : List ℕ) : Type 0 where
@@ -17,11 +17,11 @@ pub record Read (state : List ℕ) : Type 0 where
   pub taken : ℕ
   pub long : length state ≡ stationSize
   pub read : settings ≡ settingsIn state
-  pub had : taken ≡ field 104 8 state
+  pub had : taken ≡ field takenFrom 8 state
 
 -- the box that the call is about
 abbrev pub lentBox : (state : List ℕ) → Read state → Station
-lentBox state b = boxOf (b .settings) (midOf 40 64 state) (b .taken)
+lentBox state b = boxOf (b .settings) (midOf heldFrom 64 state) (b .taken)
 
 pub lent-is : (state : List ℕ) (b : Read state) → lentBox state b ≡ stationIn state
 unfolding storeIn

@@ -12,20 +12,28 @@ use Rattle.wire.specs.Choice.{pick}
 use Rattle.wire.specs.Number.{number, bytes}
 use Rattle.wire.proofs.Numbers.{number-bytes}
 use Rattle.framing.specs.declared.Store.{Store}
+use Rattle.items.specs.declared.Channel.{Channel}
 use Rattle.items.specs.declared.Settings.{Settings}
 use Rattle.station.specs.declared.Station.{Station}
-use Rattle.boxdoor.specs.States.{channelBytes, commonBytes, stationBytes, settingsIn, storeIn, stationIn}
+use Rattle.boxdoor.specs.States.{channelBytes, commonBytes, stationBytes}
+use Rattle.boxdoor.specs.States.{heldFrom, takenFrom, channelIn, settingsIn, storeIn, stationIn}
 
--- every field of a box has room in its bytes
+-- every field of a channel has room in its bytes
+pub record ChannelFits (c : Channel) : Type 0 where
+  pub frequency : c .frequency < 256 ^ 8
+  pub word : c .word < 256 ^ 4
+  pub gain : c .gain < 256
+
+-- every field of a box
 pub record Fits (s : Station) : Type 0 where
-  pub frequency : s .settings .first .frequency < 256 ^ 8
-  pub word : s .settings .first .word < 256 ^ 4
-  pub gain : s .settings .first .gain < 256
+  pub first : ChannelFits (s .settings .first)
+  pub second : ChannelFits (s .settings .second)
   pub count : s .settings .count < 256 ^ 8
   pub clock : s .settings .clock < 256 ^ 4
   pub divisor : s .settings .divisor < 256 ^ 4
   pub mode : s .settings .mode < 256
   pub size : s .settings .size < 256
+  pub setup : s .settings .setup < 256
   pub serial : length (s .settings .serial) ≡ 8
   pub held : length (s .store .held) ≡ 64
   pub taken : s .store .taken < 256 ^ 8
@@ -37,21 +45,29 @@ flag-back : (b : Bool) → not (eqb (pick b 1 0 % 256) 0) ≡ b
 flag-back true = refl
 flag-back false = refl
 
+-- a channel that stands first in bytes
+channel-back : (c : Channel) (behind : List ℕ) → ChannelFits c → channelIn 0 (channelBytes c ++ behind) ≡ c
+unfolding channelBytes
+channel-back c behind fits =
+    rw (number-bytes 8 (c .frequency) (fits .frequency), number-bytes 4 (c .word) (fits .word), byte-back (c .gain) (fits .gain)) refl
+
 -- settings, from their parts
-settings-from : (s : Settings) (f w g n c d z m : ℕ) (r : Bool) (l : List ℕ) → f ≡ s .first .frequency → w ≡ s .first .word
-    → g ≡ s .first .gain → n ≡ s .count → c ≡ s .clock → d ≡ s .divisor → r ≡ s .running → m ≡ s .mode → z ≡ s .size → l ≡ s .serial
+settings-from : (s : Settings) (f g : Channel) (n c d z u m : ℕ) (r : Bool) (l : List ℕ) → f ≡ s .first → g ≡ s .second
+    → n ≡ s .count → c ≡ s .clock → d ≡ s .divisor → r ≡ s .running → m ≡ s .mode → z ≡ s .size → u ≡ s .setup → l ≡ s .serial
     → record {
-      first = record { frequency = f; word = w; gain = g };
+      first = f;
+      second = g;
       count = n;
       clock = c;
       divisor = d;
       size = z;
+      setup = u;
       running = r;
       mode = m;
       serial = l;
     } ≡ s
-settings-from s f w g n c d z m r l is-f is-w is-g is-n is-c is-d is-r is-m is-z is-l =
-    rw (is-f, is-w, is-g, is-n, is-c, is-d, is-r, is-m, is-z, is-l) refl
+settings-from s f g n c d z u m r l is-f is-g is-n is-c is-d is-r is-m is-z is-u is-l =
+    rw (is-f, is-g, is-n, is-c, is-d, is-r, is-m, is-z, is-u, is-l) refl
 
 module _ (s : Station) (fits : Fits s) where
   abbrev a : Settings
@@ -59,6 +75,10 @@ module _ (s : Station) (fits : Fits s) where
 
   abbrev t : Store
   t = s .store
+
+  -- what stands behind the channels
+  abbrev common : List ℕ
+  common = commonBytes a ++ a .serial ++ (t .held ++ bytes 8 (t .taken))
 
   -- behind the serial stand the held bytes, and behind those how many were taken
   behind-serial : drop 8 (a .serial ++ (t .held ++ bytes 8 (t .taken))) ≡ t .held ++ bytes 8 (t .taken)
@@ -74,22 +94,22 @@ module _ (s : Station) (fits : Fits s) where
   unfolding settingsIn channelBytes commonBytes
   settings-back =
       settings-from a _ _ _ _ _ _ _ _ _ _
-      (number-bytes 8 (a .first .frequency) (fits .frequency))
-      (number-bytes 4 (a .first .word) (fits .word))
-      (byte-back (a .first .gain) (fits .gain))
+      (channel-back (a .first) (channelBytes (a .second) ++ common) (fits .first))
+      (channel-back (a .second) common (fits .second))
       (number-bytes 8 (a .count) (fits .count))
       (number-bytes 4 (a .clock) (fits .clock))
       (number-bytes 4 (a .divisor) (fits .divisor))
       (flag-back (a .running))
       (byte-back (a .mode) (fits .mode))
       (byte-back (a .size) (fits .size))
+      (byte-back (a .setup) (fits .setup))
       (take-at (a .serial) (t .held ++ bytes 8 (t .taken)) 8 (fits .serial))
 
-  held-back : take 64 (drop 40 (stationBytes s)) ≡ t .held
+  held-back : take 64 (drop heldFrom (stationBytes s)) ≡ t .held
   unfolding channelBytes commonBytes
   held-back = ap (take 64) behind-serial ∙ take-at (t .held) (bytes 8 (t .taken)) 64 (fits .held)
 
-  taken-back : number (take 8 (drop 104 (stationBytes s))) ≡ t .taken
+  taken-back : number (take 8 (drop takenFrom (stationBytes s))) ≡ t .taken
   unfolding channelBytes commonBytes
   taken-back = ap (λ (l : List ℕ). number (take 8 l)) behind-held ∙ number-bytes 8 (t .taken) (fits .taken)
 

@@ -61,6 +61,6 @@ firstOr0 (w ∷ ws) = w
 abbrev pub tuned : Told → Tuned
 tuned t = record { code = t .code; word = firstOr0 (t .values) }
 
-unfoldable pub tunedOver : List ℕ → Tuned
-tunedOver state =
-    pick (eqb (length state) stationSize) (tuned (tuningTold (stationIn state))) (record { code = Code.broken; word = 0 })
+unfoldable pub tunedOver : List ℕ → ℕ → Tuned
+tunedOver state channel =
+    pick (eqb (length state) stationSize) (tuned (tuningTold (stationIn state) channel)) (record { code = Code.broken; word = 0 })

@@ -72,6 +72,10 @@ fn tuned_by(t: Tuning) -> Tuned
             code: codes::DONE,
             word: w,
         },
+        Tuning::NotAllowed => Tuned {
+            code: codes::CHANNEL_NOT_ALLOWED,
+            word: 0,
+        },
         Tuning::Broken => Tuned {
             code: codes::BROKEN,
             word: 0,
@@ -79,13 +83,13 @@ fn tuned_by(t: Tuning) -> Tuned
     }
 }
 
-// The tuning word of a box in its bytes. Answers the code, and leaves the word, 0 where there is none.
+// The tuning word of a channel of a box in its bytes. Answers the code, and leaves the word, 0 where there is none.
 #[no_mangle]
-pub extern "C" fn skvornela_word(state: &[u8], word: &mut u32) -> u8
-    ensures { λ r. ⌜ record { code = r; word = now (word .exit) } ≡ tunedOver (now (state .entry)) ⌝ }
+pub extern "C" fn skvornela_word(state: &[u8], channel: u8, word: &mut u32) -> u8
+    ensures { λ r. ⌜ record { code = r; word = now (word .exit) } ≡ tunedOver (now (state .entry)) channel ⌝ }
 {
     if state.len() == crate::states::LENGTH {
-        let t = tuned_by(station::tuning_word(crate::states::station_in(state)));
+        let t = tuned_by(station::tuning_word(crate::states::station_in(state), channel));
         *word = t.word;
         return t.code;
     }

@@ -8,7 +8,7 @@ ghost use Prim.Native.Nat.{_+_, _≤_};
 ghost use lib.ListN.{length};
 ghost use lib.Seq.{sets};
 ghost use Rattle.wire.specs.Number.{bytes, field};
-ghost use Rattle.boxdoor.specs.States.{stationSize, channelIn, settingsIn, stationIn};
+ghost use Rattle.boxdoor.specs.States.{commonFrom, heldFrom, takenFrom, stationSize, channelIn, settingsIn, stationIn};
 ghost use Rattle.boxdoor.specs.States.{channelBytes, commonBytes, settingsBytes, stationBytes};
 
 // Where a channel's word and gain begin, counted from the channel's first byte; at that byte begins its frequency.
@@ -19,26 +19,30 @@ const GAIN: usize = 12;
 // Where the fields of a box begin.
 const FIRST: usize = 0;
 
-const COUNT: usize = 13;
+const SECOND: usize = 13;
 
-const CLOCK: usize = 21;
+const COUNT: usize = 26;
 
-const DIVISOR: usize = 25;
+const CLOCK: usize = 34;
 
-const RUNNING: usize = 29;
+const DIVISOR: usize = 38;
 
-const MODE: usize = 30;
+const RUNNING: usize = 42;
 
-const SIZE: usize = 31;
+const MODE: usize = 43;
 
-const SERIAL: usize = 32;
+const SIZE: usize = 44;
 
-pub(crate) const HELD: usize = 40;
+const SETUP: usize = 45;
 
-pub(crate) const TAKEN: usize = 104;
+const SERIAL: usize = 46;
+
+pub(crate) const HELD: usize = 54;
+
+pub(crate) const TAKEN: usize = 118;
 
 // How many bytes it is in all.
-pub(crate) const LENGTH: usize = 112;
+pub(crate) const LENGTH: usize = 126;
 
 // The channel from a place on.
 fn channel_at(b: &[u8], at: usize) -> Channel
@@ -63,10 +67,12 @@ pub(crate) fn settings_of(b: &[u8]) -> Settings
     let front = &b[..HELD];
     Settings {
         first: channel_at(front, FIRST),
+        second: channel_at(front, SECOND),
         count: wire::number_at(front, COUNT, 8),
         clock: wire::number_at(front, CLOCK, 4) as u32,
         divisor: wire::number_at(front, DIVISOR, 4) as u32,
         size: b[SIZE] as u32,
+        setup: b[SETUP] as u16,
         running: b[RUNNING] != 0,
         mode: b[MODE],
         serial: serial,
@@ -76,7 +82,7 @@ pub(crate) fn settings_of(b: &[u8]) -> Settings
 // How many bytes of its message are taken.
 pub(crate) fn taken_of(b: &[u8]) -> usize
     requires { ⌜ length (now b) ≡ stationSize ⌝ }
-    ensures { λ r. ⌜ r ≡ field 104 8 (now (b .entry)) ⌝ }
+    ensures { λ r. ⌜ r ≡ field takenFrom 8 (now (b .entry)) ⌝ }
 {
     wire::number_at(b, TAKEN, 8) as usize
 }
@@ -108,10 +114,10 @@ fn put_channel(b: &mut [u8], at: usize, c: Channel)
     wire::put(b, at + GAIN, 1, c.gain as u64);
 }
 
-// Stores the numbers among the settings that are no channel's, behind the channel.
+// Stores the numbers among the settings that are no channel's, behind the channels.
 fn put_common(b: &mut [u8], s: Settings)
-    requires { ⌜ length (now b) ≡ 40 ⌝ }
-    ensures { λ _. ⌜ now (b .exit) ≡ sets (now (b .entry)) 13 (commonBytes s) ⌝ }
+    requires { ⌜ length (now b) ≡ heldFrom ⌝ }
+    ensures { λ _. ⌜ now (b .exit) ≡ sets (now (b .entry)) commonFrom (commonBytes s) ⌝ }
 {
     wire::put(b, COUNT, 8, s.count);
     wire::put(b, CLOCK, 4, s.clock as u64);
@@ -119,14 +125,16 @@ fn put_common(b: &mut [u8], s: Settings)
     wire::put(b, RUNNING, 1, s.running as u64);
     wire::put(b, MODE, 1, s.mode as u64);
     wire::put(b, SIZE, 1, s.size as u64);
+    wire::put(b, SETUP, 1, s.setup as u64);
 }
 
 // Stores the settings in the bytes in front of the held ones.
 fn put_settings(b: &mut [u8], s: Settings)
-    requires { ⌜ length (now b) ≡ 40 ⌝ }
+    requires { ⌜ length (now b) ≡ heldFrom ⌝ }
     ensures { λ _. ⌜ now (b .exit) ≡ sets (now (b .entry)) 0 (settingsBytes s) ⌝ }
 {
     put_channel(b, FIRST, s.first);
+    put_channel(b, SECOND, s.second);
     put_common(b, s);
     let serial = s.serial;
     wire::copy(&serial, b, SERIAL);
@@ -135,7 +143,7 @@ fn put_settings(b: &mut [u8], s: Settings)
 // Stores all of a box but its held bytes, which are left as they lie.
 pub(crate) fn put_parts(b: &mut [u8], s: Settings, taken: usize)
     requires { ⌜ length (now b) ≡ stationSize ⌝ }
-    ensures { λ _. ⌜ now (b .exit) ≡ sets (sets (now (b .entry)) 0 (settingsBytes s)) 104 (bytes 8 taken) ⌝ }
+    ensures { λ _. ⌜ now (b .exit) ≡ sets (sets (now (b .entry)) 0 (settingsBytes s)) takenFrom (bytes 8 taken) ⌝ }
 {
     // a part of a length that the compiler sees
     put_settings(&mut b[..HELD], s);

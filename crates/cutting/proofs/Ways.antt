@@ -18,7 +18,7 @@ use Rattle.items.specs.declared.Settings.{Settings}
 use Rattle.items.specs.Settings.{inRange, withCount}
 use Rattle.station.specs.declared.Station.{Station}
 use Rattle.station.specs.Station.{valid}
-use Rattle.station.proofs.Kept.{ranges, in-range}
+use Rattle.station.proofs.Kept.{ranges, in-range, others-in}
 use Rattle.station.proofs.Valid.{valid-settings, valid-store, valid-both}
 use Rattle.cutting.specs.Cutting.{Cutting, formNow, cutChecks, cutCode, cutFrom, refused, cuttingOf}
 
@@ -66,15 +66,7 @@ counted : (s : Settings) → inRange s ≡ true → s .count < most → inRange 
 counted s h less =
     let r = ranges s h in
     in-range (withCount (s .count + 1) s)
-    (record {
-      clock = r .clock;
-      first = r .first;
-      count = le-leb (s .count + 1) most (omega arith);
-      divisor = r .divisor;
-      size = r .size;
-      mode = r .mode;
-      serial = r .serial;
-    })
+    (others-in r (le-leb (s .count + 1) most (omega arith)) (r .divisor) (r .size) (r .setup) (r .mode))
 
 -- cutting from a valid box leaves a valid box
 pub cutting-keeps : (s : Station) (samples : List ℤ) (room : ℕ) → valid s ≡ true → valid (cuttingOf s samples room .cut .station) ≡ true

@@ -1,4 +1,5 @@
--- Cutting: a running box makes the next packet of its capture from whole-number samples, I and Q in turn.
+-- Cutting: a running box makes the next packet of its capture from whole-number samples, I and Q in turn, with two channels those of the
+-- first and of the second in turn (packets/specs/Channels).
 use Prim.Native.Nat.{ℕ, _+_, _*_}
 use mathlib.Core.Bool.{not}
 use mathlib.Core.List.{List, [], _∷_, _++_}

@@ -7,7 +7,7 @@ use borrow.Author.Tests.{lt-leb, not-false}
 use mathlib.Core.Path.{_≡_, refl, sym, ap, _∙_}
 use mathlib.Core.Bool.{true, false}
 use mathlib.Core.List.{List, [], _++_, append-nil}
-use mathlib.Core.Logic.{_⊎_, inl, inr}
+use mathlib.Core.Logic.{_⊎_, inl, inr, _↔_}
 use lib.Dec.{leb, lit≤}
 use lib.ListN.{length, replicate}
 use Rattle.wire.specs.Number.{bytes, field}
@@ -25,15 +25,15 @@ use Rattle.items.specs.Answer.{Message, codeOf, settingsAfter, replyOf}
 use Rattle.station.specs.Feeding.{Feeding, feedingOf, messageIn, answered}
 use Rattle.station.proofs.Valid.{valid-both}
 use Rattle.wishes.specs.declared.Wish.{Wish}
-use Rattle.wishes.specs.Wishes.{asking, layoutOf, messageOf, asMessage, allowedWish}
+use Rattle.wishes.specs.Wishes.{asking, layoutOf, messageOf, asMessage, openWish, allowedWish}
 use Rattle.wishes.specs.Writing.{wishChecks, wishCode, bytesWritten}
 use Rattle.wishes.proofs.Rows.{of-row, short-message}
-use Rattle.wishes.proofs.Understood.{code-of-wish, settings-of-wish}
-use Rattle.replies.specs.Reading.{replyReaderSays}
+use Rattle.wishes.proofs.Understood.{code-of-wish, settings-of-wish, wish-fifteen-exactly}
+use Rattle.replies.specs.Reading.{replyCode, replyReaderSays}
 use Rattle.replies.specs.Exactly.{Given}
 use Rattle.replies.proofs.Exactly.{box-reply-is-read, exactly}
 use Rattle.demands.specs.Shown.{resting, hasRoom}
-use Rattle.demands.specs.Asked.{Understands, WhatIsAskedIsUnderstood, Writes, ReadsWhatBoxesWrite}
+use Rattle.demands.specs.Asked.{Understands, WhatIsAskedIsUnderstood, Writes, ReadsWhatBoxesWrite, RefusedByEveryBox}
 use Rattle.demands.proofs.OneMessage.{holding, tookAll, one-message, whole-fed, whole-answered}
 
 -- ---- a message has its true length in its header
@@ -59,8 +59,7 @@ module _ (a : Layout) (rest : List ℕ) (low : a .kind ≤ 2) (few : sizeOf a �
 -- ---- a wish's message
 
 kind-low : (w : Wish) → asking w .kind ≤ 2
-kind-low = of-row (λ i k. k ≤ 2) (lit≤ tt) (lit≤ tt) (lit≤ tt) (lit≤ tt) (lit≤ tt) (lit≤ tt) (lit≤ tt) (lit≤ tt) (lit≤ tt)
-    (lit≤ tt) (lit≤ tt) (lit≤ tt) (lit≤ tt) (lit≤ tt) (lit≤ tt) (lit≤ tt) (lit≤ tt) (lit≤ tt)
+kind-low w = search (of-row (λ i k. k ≤ 2), lit≤)
 
 few : (w : Wish) → sizeOf (layoutOf w) ≤ 64
 few w = omega (arith, short-message w)
@@ -112,20 +111,24 @@ roomy-wish : (w : Wish) (s : Settings) (room : ℕ) → inRange s ≡ true → 6
 roomy-wish w s room v enough =
     whole-fed (messageOf w) s room (wish-taken w) (valid-both s between v between-left) enough ∙ answered-wish w s
 
-understands : (w : Wish) (s : Settings) (room : ℕ) → allowedWish w ≡ true → inRange s ≡ true
+understands : (w : Wish) (s : Settings) (room : ℕ) → openWish w ≡ true → allowedWish w ≡ true → inRange s ≡ true
     → feedingOf (resting s) (messageOf w) room ≡ answering w s
     → Understands w (messageOf w) s room
-understands w s room e v fed =
+understands w s room o e v fed =
     record {
       code = ap (λ (f : Feeding). f .fed .code) fed ∙ code-of-wish w s e;
       does = ap (λ (f : Feeding). f .fed .station) fed ∙ ap resting (settings-of-wish w s e);
-      says = ap (λ (f : Feeding). replyReaderSays w (f .bytes)) fed ∙ box-reply-is-read w s e v;
+      says = ap (λ (f : Feeding). replyReaderSays w (f .bytes)) fed ∙ box-reply-is-read w s o e v;
     }
 
--- the writer accepts exactly what is allowed, and writes its message
+-- the writer accepts exactly what is open and allowed, and writes its message
+pub opened : (w : Wish) (buffer : ℕ) → wishCode w buffer ≡ 1 → openWish w ≡ true
+unfolding wishCode
+opened w buffer e = not-false (openWish w) (absent (wishChecks w buffer) 1 refl e .0)
+
 pub accepted : (w : Wish) (buffer : ℕ) → wishCode w buffer ≡ 1 → allowedWish w ≡ true
 unfolding wishCode
-accepted w buffer e = not-false (allowedWish w) (absent (wishChecks w buffer) 1 refl e .0)
+accepted w buffer e = not-false (allowedWish w) (absent (wishChecks w buffer) 1 refl e .1 .0)
 
 pub message-written : (w : Wish) (buffer : ℕ) → wishCode w buffer ≡ 1 → bytesWritten w buffer ≡ messageOf w
 unfolding bytesWritten
@@ -134,17 +137,18 @@ message-written w buffer e = rw e refl
 pub what-is-asked-is-understood : WhatIsAskedIsUnderstood
 what-is-asked-is-understood w buffer e s v room some =
     let written = message-written w buffer e in
-    rw written (understands w s room (accepted w buffer e) v (fed-wish w s room v (rw written at some)))
+    rw written (understands w s room (opened w buffer e) (accepted w buffer e) v (fed-wish w s room v (rw written at some)))
 
 -- with 64 bytes of room
-pub understood-in-64 : (w : Wish) (s : Settings) → allowedWish w ≡ true → inRange s ≡ true → Understands w (messageOf w) s 64
-understood-in-64 w s e v = understands w s 64 e v (roomy-wish w s 64 v (le-refl 64))
+pub understood-in-64 : (w : Wish) (s : Settings) → openWish w ≡ true → allowedWish w ≡ true → inRange s ≡ true
+    → Understands w (messageOf w) s 64
+understood-in-64 w s o e v = understands w s 64 o e v (roomy-wish w s 64 v (le-refl 64))
 
 pub reads-what-boxes-write : ReadsWhatBoxesWrite
-reads-what-boxes-write w buffer bs e = rw (message-written w buffer e) (λ h. into (exactly w bs ok .0 h), λ h. exactly w bs ok .1 (from h))
+reads-what-boxes-write w buffer bs e = rw (message-written w buffer e) (λ h. into (read .0 h), λ h. read .1 (from h))
   where
-    ok : allowedWish w ≡ true
-    ok = accepted w buffer e
+    read : (replyCode w bs ≡ 1) ↔ ((bs ≡ nak) ⊎ Given w bs)
+    read = exactly w bs (opened w buffer e) (accepted w buffer e)
 
     bytes-of : (s : Settings) → inRange s ≡ true → feedingOf (resting s) (messageOf w) 64 .bytes ≡ replyOf s (asMessage w)
     bytes-of s v = ap (λ (f : Feeding). f .bytes) (roomy-wish w s 64 v (le-refl 64))
@@ -156,3 +160,12 @@ reads-what-boxes-write w buffer bs e = rw (message-written w buffer e) (λ h. in
     from : (bs ≡ nak) ⊎ Writes (messageOf w) bs → (bs ≡ nak) ⊎ Given w bs
     from (inl n) = inl n
     from (inr g) = inr (record { settings = g .settings; valid = g .valid; gives = sym (bytes-of (g .settings) (g .valid)) ∙ g .writes })
+
+pub refused-by-every-box : RefusedByEveryBox
+refused-by-every-box w buffer = (
+  λ h s v. code-of s v ∙ wish-fifteen-exactly w buffer .0 h s v,
+  λ all. wish-fifteen-exactly w buffer .1 (λ s v. sym (code-of s v) ∙ all s v),
+)
+  where
+    code-of : (s : Settings) → inRange s ≡ true → feedingOf (resting s) (messageOf w) 64 .fed .code ≡ codeOf s (asMessage w)
+    code-of s v = ap (λ (f : Feeding). f .fed .code) (roomy-wish w s 64 v (le-refl 64))

@@ -22,13 +22,13 @@ use Rattle.station.specs.Feeding.{messageIn, feedingOf}
 use Rattle.station.specs.Serving.{Served, unserved, noting, called, Piece, serving, joined, roomy}
 use Rattle.station.proofs.Valid.{valid-both}
 use Rattle.wishes.specs.declared.Wish.{Wish}
-use Rattle.wishes.specs.Wishes.{layoutOf, messageOf, notNow}
+use Rattle.wishes.specs.Wishes.{layoutOf, messageOf, closedNow, notNow}
 use Rattle.wishes.proofs.Rows.{short-message}
 use Rattle.replies.specs.Reading.{ReplyAnswer, replyReaderSays}
 use Rattle.demands.specs.Shown.{resting}
 use Rattle.demands.specs.Asked.{Understands}
 use Rattle.demands.specs.AskedInPieces.{UnderstandsInPieces, WhatIsAskedIsUnderstoodInPieces}
-use Rattle.demands.proofs.Asked.{wish-taken, accepted, message-written, understood-in-64}
+use Rattle.demands.proofs.Asked.{wish-taken, opened, accepted, message-written, understood-in-64}
 use Rattle.demands.proofs.Written.{feeds-by-the-table}
 use Rattle.demands.proofs.InPieces.{whole, message-served, pieces-served}
 
@@ -40,10 +40,11 @@ length-wish w = let long = length-laid (layoutOf w) in (omega (arith, least (lay
 
 -- ---- and gets one reply
 
--- done or not while running: neither is silent
-aloud : (wait : Bool) (s : Settings) (m : Message) → 1 ≤ length (boxWrites (pick wait 17 1) (replyDue s m))
-aloud true s m = lit≤ tt
-aloud false s m = go (eqb (m .type) typeRange)
+-- done, channel not allowed, or not while running: none is silent
+aloud : (shut wait : Bool) (s : Settings) (m : Message) → 1 ≤ length (boxWrites (pick shut 15 (pick wait 17 1)) (replyDue s m))
+aloud true wait s m = lit≤ tt
+aloud false true s m = lit≤ tt
+aloud false false s m = go (eqb (m .type) typeRange)
   where
     go : (range : Bool)
         → 1
@@ -81,10 +82,10 @@ understood-in-pieces w s pieces ranged enough same u =
     some : 1 ≤ length (feedingOf (resting s) (messageOf w) 64 .bytes)
     some =
         rw (feeds-by-the-table (resting s) (messageOf w) 64 .bytes, u .code)
-        (aloud (notNow w s) s (messageIn (callTakes between (messageOf w) .store)))
+        (aloud (closedNow w s) (notNow w s) s (messageIn (callTakes between (messageOf w) .store)))
 
 pub what-is-asked-is-understood-in-pieces : WhatIsAskedIsUnderstoodInPieces
 what-is-asked-is-understood-in-pieces w buffer e s ranged pieces enough same =
     let written = message-written w buffer e in
     understood-in-pieces w s pieces ranged enough (same ∙ written)
-    (understood-in-64 w s (accepted w buffer e) ranged)
+    (understood-in-64 w s (opened w buffer e) (accepted w buffer e) ranged)

@@ -21,7 +21,7 @@ use Rattle.items.specs.Settings.{isSerial, freshOf}
 use Rattle.framing.specs.Framing.{callTakes, finished}
 use Rattle.framing.proofs.Cutting.{finished-taking}
 use Rattle.station.specs.declared.Station.{Station}
-use Rattle.station.specs.Station.{valid, freshBox}
+use Rattle.station.specs.Station.{valid, freshBox, wordCode}
 use Rattle.station.proofs.Valid.{comes-below, feeding-by, feeding-waiting, feeding-answered, each-way}
 use Rattle.station.specs.Feeding.{Feeding, refused, comesTo, feedChecks, feedCode, feedingOf}
 use Rattle.cutting.specs.Cutting.{cutCode}
@@ -258,7 +258,7 @@ module _ (s : List ℕ) where
       later (headReadChecks s) (movedChecks v (headIn s) room) 1 refl refl refl (refl, (refl, (refl, (refl, (refl, tt)))))
 
 pub codes-given-exactly : GivenExactly
-unfolding cutCode readingCode unpackCode headWriteCode wishCode replyCode
+unfolding cutCode wordCode readingCode unpackCode headWriteCode wishCode replyCode
 codes-given-exactly =
     record {
       fresh = fresh-each;
@@ -269,6 +269,7 @@ codes-given-exactly =
       answered = answered-each;
       message = message-each;
       cutting = λ s samples room. each _ 1 refl refl;
+      word = λ s channel. each _ 1 refl refl;
       reading = λ r packet. each _ 1 refl refl;
       unpacking = λ packet room. each _ 1 refl refl;
       headWritten = λ h room. each _ 1 refl refl;

@@ -9,6 +9,7 @@ pub mod Word
 pub mod Shown
 pub mod ShownFed
 pub mod ShownInPieces
+pub mod Channels
 pub mod Refused
 pub mod Written
 pub mod Given

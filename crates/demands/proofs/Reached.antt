@@ -7,10 +7,10 @@ use mathlib.Core.List.{List}
 use lib.ListN.{replicate}
 use Rattle.framing.specs.Framing.{between}
 use Rattle.tuning.specs.Word.{wordOf}
-use Rattle.items.specs.Settings.{freshOf, isSerial}
+use Rattle.items.specs.Settings.{freshChannel, freshOf, isSerial}
 use Rattle.station.specs.Station.{valid, freshStation, freshBox}
 use Rattle.station.proofs.Calls.{feeding-keeps}
-use Rattle.station.proofs.Kept.{in-range}
+use Rattle.station.proofs.Kept.{Channels, in-range}
 use Rattle.framing.proofs.Leaving.{between-left}
 use Rattle.station.proofs.Valid.{valid-both}
 use Rattle.cutting.proofs.Ways.{cutting-keeps}
@@ -21,6 +21,10 @@ pub fresh-word : 536_870_912 ≡ wordOf 10_000_000 80_000_000
 unfolding wordOf
 fresh-word = refl
 
+-- either channel of a fresh box
+fresh-channel : Channels 80_000_000 freshChannel
+fresh-channel = record { frequency = refl; word = fresh-word; gain = refl }
+
 -- a fresh box is valid
 pub fresh-valid : (serial : List ℕ) → isSerial serial ≡ true → valid (freshStation serial) ≡ true
 fresh-valid serial h =
@@ -28,10 +32,12 @@ fresh-valid serial h =
     (in-range (freshOf serial)
     (record {
       clock = refl;
-      first = record { frequency = refl; word = fresh-word; gain = refl };
+      first = fresh-channel;
+      second = fresh-channel;
       count = refl;
       divisor = refl;
       size = refl;
+      setup = refl;
       mode = refl;
       serial = h;
     }))

@@ -4,14 +4,14 @@
 use Prim.Native.Nat.{ℕ, _+_, _%_, _≤_, _<_}
 use native.Mathlib.Omega.{arith}
 use mathlib.Core.Path.{_≡_, refl, sym, ap, _∙_}
-use mathlib.Core.Bool.{true, false, _&&_}
+use mathlib.Core.Bool.{Bool, true, false, _&&_, _||_, or-false}
 use mathlib.Core.List.{List, [], _∷_}
 use lib.Dec.{eqb}
 use lib.ListN.{length, getD, take, drop, length-drop}
 use lib.Seq.{drop-cons, length-take-le}
-use borrow.Author.Tests.{eqb-true, eq-eqb, not-false}
+use borrow.Author.Tests.{eqb-true, eq-eqb, ne-eqb, not-false}
 use Rattle.wire.specs.Choice.{pick}
-use Rattle.wire.proofs.Laws.{true-not-false, never, and-left, and-both, and-not-right}
+use Rattle.wire.proofs.Laws.{true-not-false, never, and-left, and-right, and-both, and-not-right, by-test}
 use Rattle.wire.specs.Number.{bytes, field}
 use Rattle.wire.specs.Header.{typeSet, typeRequest, typeRange}
 use Rattle.wire.proofs.Numbers.{bytes-number}
@@ -19,16 +19,20 @@ use Rattle.rates.proofs.Rates.{nearest-d}
 use Rattle.wire.specs.Lists.{allBytes}
 use Rattle.wire.proofs.Lists.{bytes-take, bytes-drop, byte-at}
 use Rattle.items.specs.declared.Settings.{Settings}
-use Rattle.items.specs.Settings.{withRunning, withCount, withMode, isMode}
+use Rattle.items.specs.declared.Channel.{Channel}
+use Rattle.items.specs.Settings.{withRunning, withCount, withMode, isMode, tunedTo, gainedTo}
+use Rattle.items.specs.Items.{Echoed, noByte, anId, anyChannel, aChannel, channelSetup}
 use Rattle.items.specs.Items.{stateBytes, Item, items, rowOf, runByte, modeByte, idle, run, frequency, gain}
 use Rattle.items.specs.Items.{clock, rate, packetSize, state, status}
 use Rattle.items.specs.Table.{isTotal}
-use Rattle.items.specs.Answer.{Message, itemIn, row, parameters, codeOf, settingsAfter, replyOf}
-use Rattle.items.proofs.Judging.{is-listed, has-length, has-value, is-free, after-ways}
+use Rattle.items.specs.Answer.{Message, itemIn, row, parameters, channelAllowed, coversAsked, codeOf, settingsAfter, replyOf}
+use Rattle.items.proofs.Judging.{is-listed, has-length, has-channel, has-value, is-free, after-ways}
+use Rattle.items.proofs.Channels.{channel-covered, channel-left, channel-keeps, clock-keeps, open-alike, covers-own}
 use Rattle.items.proofs.States.{state-ways}
 use Rattle.items.proofs.Rows.{Each, _then_, found-at, row-code}
 use Rattle.station.proofs.Kept.{left-alone, accepted-set}
-use Rattle.demands.specs.Shown.{OthersUnchanged, shownBy, valueSet, HeldWhole, showing, touches, changes, afterAll, noneChanges}
+use Rattle.demands.specs.Shown.{OthersUnchanged, AskedAlike, shownBy, valueSet, HeldWhole, showing, Named, naming, named, covering}
+use Rattle.demands.specs.Shown.{touches, ofChannels, asksSecond, changes, afterAll, noneChanges}
 
 -- ---- every other item is as it was
 
@@ -36,52 +40,88 @@ use Rattle.demands.specs.Shown.{OthersUnchanged, shownBy, valueSet, Held
 no-such : {X : Type 0} (x y : X) → true ≡ false → x ≡ y
 no-such x y e = absurd (true-not-false e)
 
--- what an item shows is the same in both settings
-abbrev pub Same : Item → Settings → Settings → Type 0
-Same b s t = (q : List ℕ) → b .rule .value t q ≡ b .rule .value s q
+-- of two tests that both fail the first
+or-none : {a : Bool} → a || false ≡ false → a ≡ false
+or-none {a} t = sym (or-false a) ∙ t
 
--- a set of the item `a`, whose code is `i`, leaves what every item shows that it does not touch
+-- what an item shows beside these parameters is the same in both settings
+abbrev pub Same : Item → List ℕ → Settings → Settings → Type 0
+Same b q s t = b .rule .value t q ≡ b .rule .value s q
+
+-- a set of the item `a`, whose code is `i`, leaves what the item `b`, whose code is `j`, shows, where it does not touch it
+abbrev Leave : ℕ → Item → ℕ → Item → Type 0
+Leave i a j b = (s : Settings) (p q : List ℕ) → touches (s .setup) (naming i p) (naming j q) ≡ false → Same b q s (a .rule .stored s p)
+
 abbrev Leaves : ℕ → Item → Type 0
-Leaves i a = (j : ℕ) → touches i j ≡ false → (s : Settings) (p : List ℕ) → Same (rowOf j) s (a .rule .stored s p)
+Leaves i a = (j : ℕ) → Leave i a j (rowOf j)
 
--- so it does if it leaves each line of the table that it does not touch
-leaves-each : (i : ℕ) (a : Item)
-    → Each (λ j b. touches i j ≡ false → (s : Settings) (p : List ℕ) → Same b s (a .rule .stored s p)) items → Leaves i a
-leaves-each i a = found-at (λ j b. touches i j ≡ false → (s : Settings) (p : List ℕ) → Same b s (a .rule .stored s p)) (λ j t s p q. refl)
+-- so it does if it leaves each line of the table
+leaves-each : (i : ℕ) (a : Item) → Each (Leave i a) items → Leaves i a
+leaves-each i a = found-at (Leave i a) (λ j s p q t. refl)
 
 -- The state: an item that shows the same once the box is idle and once it runs, whatever the mode and the count.
 abbrev Steady : Item → Type 0
 Steady b =
-    ((s : Settings) → Same b s (withRunning false s))
-    × ((s : Settings) (mode : ℕ) → Same b s (withCount 0 (withMode mode (withRunning true s))))
+    ((s : Settings) (q : List ℕ) → Same b q s (withRunning false s))
+    × ((s : Settings) (mode : ℕ) (q : List ℕ) → Same b q s (withCount 0 (withMode mode (withRunning true s))))
 
-steady : (j : ℕ) → touches 0x0018 j ≡ false → Steady (rowOf j)
-steady = found-at (λ j b. touches 0x0018 j ≡ false → Steady b) (λ j t. ((λ s q. refl), (λ s mode q. refl))) (search no-such depth 30)
+steady : (j : ℕ) → (eqb 0x0018 j && true) || (true && eqb j 0x0005) ≡ false → Steady (rowOf j)
+steady =
+    found-at (λ j b. (eqb 0x0018 j && true) || (true && eqb j 0x0005) ≡ false → Steady b)
+    (λ j t. ((λ s q. refl), (λ s mode q. refl))) (search no-such depth 30)
 
 state-leaves : Leaves 0x0018 state
-state-leaves j t s p =
+unfolding rowOf
+state-leaves j s p q t =
     let h = steady j t in
-    state-ways (Same (rowOf j) s) (runByte p) (modeByte p) s (λ i. h .0 s) (λ i w q. refl) (λ i w. h .1 s (modeByte p))
+    state-ways (Same (rowOf j) q s) (runByte p) (modeByte p) s (λ i. h .0 s q) (λ i w. refl) (λ i w. h .1 s (modeByte p) q)
+
+-- Frequency and gain: neither changes the other, and neither the channel that it does not cover. A clock changes neither.
+frequency-leaves-its-own : Leave 0x0020 frequency 0x0020 frequency
+unfolding rowOf
+frequency-leaves-its-own s p q t =
+    ap (λ (c : Channel). bytes 5 (c .frequency)) (channel-left s (getD p 0 0) (getD q 0 0) (tunedTo (field 1 5 p) (s .clock)) (or-none t))
+
+frequency-leaves-the-gain : Leave 0x0020 frequency 0x0038 gain
+frequency-leaves-the-gain s p q t =
+    ap (bytes 1) (channel-keeps s (getD p 0 0) (getD q 0 0) (tunedTo (field 1 5 p) (s .clock)) (λ c. c .gain) (λ c. refl))
+
+gain-leaves-its-own : Leave 0x0038 gain 0x0038 gain
+unfolding rowOf
+gain-leaves-its-own s p q t =
+    ap (λ (c : Channel). bytes 1 (c .gain)) (channel-left s (getD p 0 0) (getD q 0 0) (gainedTo (getD p 1 0)) (or-none t))
+
+gain-leaves-the-frequency : Leave 0x0038 gain 0x0020 frequency
+gain-leaves-the-frequency s p q t =
+    ap (bytes 5) (channel-keeps s (getD p 0 0) (getD q 0 0) (gainedTo (getD p 1 0)) (λ c. c .frequency) (λ c. refl))
+
+clock-leaves-the-frequency : Leave 0x00B0 clock 0x0020 frequency
+clock-leaves-the-frequency s p q t = ap (bytes 5) (clock-keeps s (getD q 0 0) (field 1 4 p) (λ c. c .frequency) (λ c. refl))
+
+clock-leaves-the-gain : Leave 0x00B0 clock 0x0038 gain
+clock-leaves-the-gain s p q t = ap (bytes 1) (clock-keeps s (getD q 0 0) (field 1 4 p) (λ c. c .gain) (λ c. refl))
 
 -- The table of pairs: what an item that is not touched shows of the settings stored computes to what it shows of those
 -- before. The first five items are never set.
 leave : Each Leaves items
+unfolding rowOf
 leave =
-    (λ j t s p q. refl)
-    then (λ j t s p q. refl)
-    then (λ j t s p q. refl)
-    then (λ j t s p q. refl)
-    then (λ j t s p q. refl)
+    (λ j s p q t. refl)
+    then (λ j s p q t. refl)
+    then (λ j s p q t. refl)
+    then (λ j s p q t. refl)
+    then (λ j s p q t. refl)
     then state-leaves
-    then (leaves-each 0x0020 frequency (search no-such depth 30))
-    then (leaves-each 0x0038 gain (search no-such depth 30))
-    then (leaves-each 0x00B0 clock (search no-such depth 30))
+    then (leaves-each 0x0019 channelSetup (search no-such depth 30))
+    then (leaves-each 0x0020 frequency (search (no-such, frequency-leaves-its-own, frequency-leaves-the-gain) depth 30))
+    then (leaves-each 0x0038 gain (search (no-such, gain-leaves-its-own, gain-leaves-the-frequency) depth 30))
+    then (leaves-each 0x00B0 clock (search (no-such, clock-leaves-the-frequency, clock-leaves-the-gain) depth 30))
     then (leaves-each 0x00B8 rate (search no-such depth 30))
     then (leaves-each 0x00C4 packetSize (search no-such depth 30))
     then tt
 
 pub others-unchanged : OthersUnchanged
-others-unchanged a b t s p q = found-at Leaves (λ i j t s p q. refl) leave a b t s p q
+others-unchanged a b s p q t = found-at Leaves (λ i j s p q t. refl) leave a b s p q t
 
 -- ---- a request shows the value set
 
@@ -96,16 +136,18 @@ byte-shown at p room h =
     let small : getD p at 0 % 256 ≡ getD p at 0 = omega (arith, byte-at p h at) in
     rw (drop-cons p at 0 room, small)
 
--- what an item shows after a set that was allowed
+-- what an item shows after a set that was allowed, beside a channel byte that the set covers
 abbrev Shows : ℕ → Item → Type 0
 Shows code i =
     (size : ℕ) → isTotal (i .onSet) size ≡ true → (s : Settings) (p : List ℕ) → size ≤ 4 + length p → allBytes p → i .rule .settable p ≡ true
-    → s .running && i .rule .locked s p ≡ false → (q : List ℕ) → i .rule .value (i .rule .stored s p) q ≡ shownBy code s p
+    → s .running && i .rule .locked s p ≡ false
+    → (q : List ℕ) → coversAsked (s .setup) (i .echoed) (getD p 0 0) (getD q 0 0) ≡ true
+    → i .rule .value (i .rule .stored s p) q ≡ shownBy code s p
 
 -- a run that is accepted while running has the mode that the box has
 state-shows : Shows 0x0018 state
 unfolding shownBy
-state-shows size long s p room b may free q =
+state-shows size long s p room b may free q covered =
     state-ways
     (λ (t : Settings).
     state .rule .value t q ≡ pick (eqb (runByte p) idle) (stateBytes idle (s .mode)) (stateBytes run (modeByte p)))
@@ -131,11 +173,16 @@ show =
     then (λ size long. never long)
     then (λ size long. never long)
     then state-shows
-    then (λ size long s p room b may free q. field-shown 1 5 p (omega (arith, eqb-true size 10 long)) b)
-    then (λ size long s p room b may free q. byte-shown 1 p (omega (arith, eqb-true size 6 long)) b)
-    then (λ size long s p room b may free q. field-shown 1 4 p (omega (arith, eqb-true size 9 long)) b)
-    then (λ size long s p room b may free q. rw (nearest-d (field 1 4 p) may) refl)
-    then (λ size long s p room b may free q. byte-shown 0 p (omega (arith, eqb-true size 5 long)) b)
+    then (λ size long s p room b may free q covered. byte-shown 0 p (omega (arith, eqb-true size 5 long)) b)
+    then (λ size long s p room b may free q covered.
+    ap (λ (c : Channel). bytes 5 (c .frequency)) (channel-covered s (getD p 0 0) (getD q 0 0) (tunedTo (field 1 5 p) (s .clock)) covered)
+    ∙ field-shown 1 5 p (omega (arith, eqb-true size 10 long)) b)
+    then (λ size long s p room b may free q covered.
+    ap (λ (c : Channel). bytes 1 (c .gain)) (channel-covered s (getD p 0 0) (getD q 0 0) (gainedTo (getD p 1 0)) covered)
+    ∙ byte-shown 1 p (omega (arith, eqb-true size 6 long)) b)
+    then (λ size long s p room b may free q covered. field-shown 1 4 p (omega (arith, eqb-true size 9 long)) b)
+    then (λ size long s p room b may free q covered. rw (nearest-d (field 1 4 p) may) refl)
+    then (λ size long s p room b may free q covered. byte-shown 0 p (omega (arith, eqb-true size 5 long)) b)
     then tt
 
 -- ---- replies
@@ -151,10 +198,23 @@ asked-leaves : (s : Settings) (q : Message) → q .type ≡ typeRequest → sett
 asked-leaves s q kind =
     left-alone s q (and-not-right (eqb (codeOf s q) 1) (eqb (q .type) typeSet) (ap (λ (k : ℕ). eqb k typeSet) kind))
 
--- its code is the same whatever the settings are
-pub asked-alike : (s t : Settings) (q : Message) → q .type ≡ typeRequest → codeOf t q ≡ codeOf s q
+-- of its channel byte 0019's value decides only where it is 02
+channel-alike : (e : Echoed) (kind setup other byte : ℕ) → (kind ≡ typeSet → ⊥) → (ofChannels e && eqb byte 0x02 ≡ true → other ≡ setup)
+    → channelAllowed other e kind byte ≡ channelAllowed setup e kind byte
+channel-alike noByte kind setup other byte asked same = refl
+channel-alike anId kind setup other byte asked same = refl
+channel-alike anyChannel kind setup other byte asked same = refl
+channel-alike aChannel kind setup other byte asked same =
+    rw (ne-eqb kind typeSet asked)
+    (by-test (eqb byte 0x02) (λ second. rw (same second) refl) (λ not-second. open-alike other setup byte not-second))
+
+pub asked-alike : AskedAlike
 unfolding codeOf
-asked-alike s t q kind = rw kind
+asked-alike s t q asked same =
+    rw (
+      channel-alike (row q .echoed) (q .type) (s .setup) (t .setup) (getD (parameters q) 0 0) asked same,
+      ne-eqb (q .type) typeSet asked,
+    ) refl
 
 -- and its reply shows the value that its item has
 pub asked-shows : (s : Settings) (q : Message) → q .type ≡ typeRequest → codeOf s q ≡ 1
@@ -164,51 +224,83 @@ asked-shows s q kind h =
 
 -- ---- messages
 
--- a message leaves what every item shows that it does not change
-pub message-leaves : (asked : ℕ) (s : Settings) (m : Message) → changes asked s m ≡ false → Same (rowOf asked) s (settingsAfter s m)
-message-leaves asked s m h =
-    after-ways (Same (rowOf asked) s) s m (λ e kind. others-unchanged (itemIn m) asked (rw (e, kind) at h) s (parameters m)) (λ q. refl)
+-- a message leaves what is shown of what it does not change
+pub message-leaves : (item : ℕ) (q : List ℕ) (s : Settings) (m : Message) → changes (naming item q) s m ≡ false
+    → Same (rowOf item) q s (settingsAfter s m)
+message-leaves item q s m h =
+    after-ways (Same (rowOf item) q s) s m (λ e kind. others-unchanged (itemIn m) item s (parameters m) q (rw (e, kind) at h)) refl
 
-messages-leave : (asked : ℕ) (s : Settings) (ms : List Message) → noneChanges asked s ms → Same (rowOf asked) s (afterAll s ms)
-messages-leave asked s [] h q = refl
-messages-leave asked s (m ∷ ms) h q = messages-leave asked (settingsAfter s m) ms (h .1) q ∙ message-leaves asked s m (h .0) q
+messages-leave : (item : ℕ) (q : List ℕ) (s : Settings) (ms : List Message) → noneChanges (naming item q) s ms
+    → Same (rowOf item) q s (afterAll s ms)
+messages-leave item q s [] h = refl
+messages-leave item q s (m ∷ ms) h = messages-leave item q (settingsAfter s m) ms (h .1) ∙ message-leaves item q s m (h .0)
 
 -- an accepted set stores
 stores : (s : Settings) (m : Message) → codeOf s m ≡ 1 → m .type ≡ typeSet → settingsAfter s m ≡ row m .rule .stored s (parameters m)
 stores s m h kind = accepted-set s m (and-both (eqb (codeOf s m) 1) (eqb (m .type) typeSet) (eq-eqb _ _ h) (eq-eqb _ _ kind))
 
--- after it, its item has the value set
+-- after it, its item has the value set, beside each channel byte that it covers
 pub has-value-set : (s : Settings) (m : Message) → codeOf s m ≡ 1 → m .type ≡ typeSet → HeldWhole m
-    → (q : List ℕ) → row m .rule .value (settingsAfter s m) q ≡ valueSet s m
-has-value-set s m h kind held q =
+    → (q : List ℕ) → coversAsked (s .setup) (row m .echoed) (getD (parameters m) 0 0) (getD q 0 0) ≡ true
+    → row m .rule .value (settingsAfter s m) q ≡ valueSet s m
+has-value-set s m h kind held q covered =
     rw (stores s m h kind)
     (found-at Shows (λ code size long. never long) show (itemIn m) (m .size) (rw kind at (has-length s m h)) s
     (parameters m) (rw length-drop (omega (arith, held .whole))) (bytes-drop 4 (m .bytes) (held .areBytes)) (rw kind at (has-value s m h))
-    (rw kind at (is-free s m h)) q)
+    (rw kind at (is-free s m h)) q covered)
+
+-- an accepted set covers what its own channel byte shows
+own-covered : (e : Echoed) (setup byte : ℕ) → channelAllowed setup e typeSet byte ≡ true → coversAsked setup e byte byte ≡ true
+own-covered noByte setup byte h = refl
+own-covered anId setup byte h = refl
+own-covered anyChannel setup byte h = refl
+own-covered aChannel setup byte h = covers-own setup byte h
 
 -- "is echoed": the reply to an accepted set has the value set
 pub set-replies : (s : Settings) (m : Message) → codeOf s m ≡ 1 → m .type ≡ typeSet → HeldWhole m
     → replyOf s m ≡ showing m (valueSet s m)
 set-replies s m h kind held =
-    answers s m h (rw kind refl) ∙ ap (showing m) (has-value-set s m h kind held (parameters m))
+    answers s m h (rw kind refl)
+    ∙ ap (showing m)
+    (has-value-set s m h kind held (parameters m)
+    (own-covered (row m .echoed) (s .setup) (getD (parameters m) 0 0) (rw kind at (has-channel s m h))))
 
--- "later requests show the setting": after an accepted set, and any messages that do not change what its item shows, an
--- accepted request of the item shows the value set
+-- what the set covers has its item
+pub covered-item : (setup : ℕ) (set asked : Named) → covering setup set asked ≡ true → asked .item ≡ set .item
+covered-item setup set asked h =
+    sym (eqb-true (set .item) (asked .item)
+    (and-left (eqb (set .item) (asked .item)) (coversAsked setup (rowOf (set .item) .echoed) (set .byte) (asked .byte)) h))
+
+pub covered-byte : (setup : ℕ) (set asked : Named) → covering setup set asked ≡ true
+    → coversAsked setup (rowOf (set .item) .echoed) (set .byte) (asked .byte) ≡ true
+covered-byte setup set asked h =
+    and-right (eqb (set .item) (asked .item)) (coversAsked setup (rowOf (set .item) .echoed) (set .byte) (asked .byte)) h
+
+-- "later requests show the setting": after an accepted set, and any messages that do not change what is shown of what it covers, an
+-- accepted request of that shows the value set
 pub set-shows-later : (s : Settings) (m : Message) (ms : List Message) (q : Message)
     → codeOf s m ≡ 1 → m .type ≡ typeSet → HeldWhole m
-    → noneChanges (itemIn m) (settingsAfter s m) ms
-    → q .type ≡ typeRequest → itemIn q ≡ itemIn m → codeOf (afterAll (settingsAfter s m) ms) q ≡ 1
+    → noneChanges (named q) (settingsAfter s m) ms
+    → q .type ≡ typeRequest → covering (s .setup) (named m) (named q) ≡ true → codeOf (afterAll (settingsAfter s m) ms) q ≡ 1
     → replyOf (afterAll (settingsAfter s m) ms) q ≡ showing q (valueSet s m)
-set-shows-later s m ms q h kind held none asked same answered =
+set-shows-later s m ms q h kind held none asked covered answered =
+    let same = covered-item (s .setup) (named m) (named q) covered in
+    let byte = covered-byte (s .setup) (named m) (named q) covered in
     asked-shows (afterAll (settingsAfter s m) ms) q asked answered
     ∙ ap (showing q)
-    (rw same (messages-leave (itemIn m) (settingsAfter s m) ms none (parameters q) ∙ has-value-set s m h kind held (parameters q)))
+    (messages-leave (itemIn q) (parameters q) (settingsAfter s m) ms none
+    ∙ ap (λ (code : ℕ). rowOf code .rule .value (settingsAfter s m) (parameters q)) same
+    ∙ has-value-set s m h kind held (parameters q) byte)
 
--- a request whose item shows the same is answered alike, accepted or not
-pub answered-alike : (s t : Settings) (q : Message) → q .type ≡ typeRequest → Same (row q) s t → replyOf t q ≡ replyOf s q
+not-set : {n : ℕ} → n ≡ typeRequest → n ≡ typeSet → ⊥
+not-set asked set = omega (arith, asked, set)
+
+-- a request that shows the same is answered alike, accepted or not
+pub answered-alike : (s t : Settings) (q : Message) → q .type ≡ typeRequest → (asksSecond (named q) ≡ true → t .setup ≡ s .setup)
+    → Same (row q) (parameters q) s t → replyOf t q ≡ replyOf s q
 unfolding replyOf
-answered-alike s t q asked same =
-    rw (asked-leaves t q asked, asked-leaves s q asked, asked-alike s t q asked, asked, same (parameters q))
+answered-alike s t q asked setup same =
+    rw (asked-leaves t q asked, asked-leaves s q asked, asked-alike s t q (not-set asked) setup, asked, same)
 
 -- The one exception: after an accepted set of the state, and any messages that do not change what the status shows, an
 -- accepted request of the status shows it, "0B idle, 0C running".
@@ -222,10 +314,11 @@ status-value s m h kind item q =
 
 pub status-shows : (s : Settings) (m : Message) (ms : List Message) (q : Message)
     → codeOf s m ≡ 1 → m .type ≡ typeSet → itemIn m ≡ state .code
-    → noneChanges (status .code) (settingsAfter s m) ms
+    → noneChanges (named q) (settingsAfter s m) ms
     → q .type ≡ typeRequest → itemIn q ≡ status .code → codeOf (afterAll (settingsAfter s m) ms) q ≡ 1
     → replyOf (afterAll (settingsAfter s m) ms) q ≡ showing q (pick (eqb (runByte (parameters m)) idle) 0x0B 0x0C ∷ [])
 status-shows s m ms q h kind item none asked same answered =
     asked-shows (afterAll (settingsAfter s m) ms) q asked answered
     ∙ ap (showing q)
-    (rw same (messages-leave (status .code) (settingsAfter s m) ms none (parameters q) ∙ status-value s m h kind item (parameters q)))
+    (messages-leave (itemIn q) (parameters q) (settingsAfter s m) ms none
+    ∙ rw same (status-value s m h kind item (parameters q)))

@@ -4,7 +4,7 @@
 use Prim.Native.Nat.{ℕ, _+_, _-_, _≤_, max}
 use native.Mathlib.Omega.{arith}
 use mathlib.Core.Path.{_≡_, refl, sym, ap, _∙_}
-use mathlib.Core.Bool.{true}
+use mathlib.Core.Bool.{Bool, true, false, _&&_, _||_, and-true}
 use mathlib.Core.List.{List, [], _∷_, _++_}
 use borrow.Author.Tests.{le-leb, lt-leb, ltb-false}
 use lib.Dec.{eqb, leb, ltb, lit≤}
@@ -14,7 +14,7 @@ use lib.Seq.{take-append-le}
 use Rattle.wire.specs.Choice.{pick}
 use Rattle.wire.specs.Number.{number}
 use Rattle.wire.specs.Header.{lengthIn, typeIn, typeSet, typeRequest}
-use Rattle.wire.proofs.Laws.{and-rest, never}
+use Rattle.wire.proofs.Laws.{and-rest, never, true-not-false}
 use Rattle.tuning.specs.Word.{wordOf}
 use Rattle.framing.specs.Framing.{between, taking, callTakes, couldBeLeft}
 use Rattle.wire.proofs.Lists.{bytes-append, bytes-zero}
@@ -22,22 +22,24 @@ use Rattle.items.proofs.Judging.{passed}
 use Rattle.items.proofs.Rows.{found-at}
 use Rattle.items.specs.declared.Settings.{Settings}
 use Rattle.items.specs.Settings.{inRange, freshOf, withCount}
-use Rattle.items.specs.Items.{status, idle, runByte, rowOf, listedItem}
+use Rattle.items.specs.Items.{status, channelSetup, idle, runByte, rowOf, listedItem}
 use Rattle.items.specs.Answer.{Message, itemIn, row, parameters, codeOf, settingsAfter, replyOf}
 use Rattle.station.specs.declared.Station.{Station}
 use Rattle.station.specs.Station.{valid}
 use Rattle.station.specs.Feeding.{messageIn, Feeding, feedingOf}
 use Rattle.station.proofs.Valid.{each-way}
+use Rattle.station.proofs.Setup.{setup-left}
 use Rattle.cutting.specs.Cutting.{cuttingOf}
 use Rattle.cutting.proofs.Ways.{each-cut, cutting-keeps}
 use Rattle.demands.proofs.OneMessage.{tookAll, one-message, whole-answered}
 use Rattle.station.proofs.Calls.{feeding-keeps}
 use Rattle.demands.specs.Shown.{shownBy, valueSet, HeldWhole, showing, OneMessage, messageOf, resting, hasRoom, repliesWith}
 use Rattle.demands.specs.Shown.{ShowsSets}
-use Rattle.demands.specs.Shown.{finishedBy, naksAll, echoesOnly, Undisturbed, still, fed, cut, FedSetShowsLater, FedSameAnswer}
-use Rattle.demands.specs.Shown.{FedStateShowsInStatus}
-use Rattle.demands.proofs.Shown.{Same, message-leaves, asked-alike, asked-shows, answered-alike, has-value-set, set-replies}
-use Rattle.demands.proofs.Shown.{status-value}
+use Rattle.demands.specs.Shown.{Named, naming, named, covering, touches, opens, asksSecond, changes}
+use Rattle.demands.specs.Shown.{finishedBy, naksAll, echoesOnly, SetTest, Undisturbed, still, fed, cut, touching, answering}
+use Rattle.demands.specs.Shown.{FedSetShowsLater, FedSameAnswer, FedStateShowsInStatus}
+use Rattle.demands.proofs.Shown.{Same, message-leaves, asked-shows, answered-alike, has-value-set, set-replies}
+use Rattle.demands.proofs.Shown.{covered-item, covered-byte, status-value}
 
 -- ---- one whole message, fed in one call to a box between messages
 
@@ -114,75 +116,103 @@ cutting-by : (P : Settings → Type 0) (s : Station) (samples : List ℤ) (room 
 cutting-by P s samples room before after = each-cut (λ c. P (c .cut .station .settings)) s samples room (λ e. after) (λ n. before)
 
 -- no item shows the count
-count-leaves : (asked : ℕ) (s : Settings) (n : ℕ) → Same (rowOf asked) s (withCount n s)
-count-leaves = found-at (λ code i. (s : Settings) (n : ℕ) → Same i s (withCount n s)) (λ code s n q. refl) (search depth 30)
+count-leaves : (asked : ℕ) (s : Settings) (n : ℕ) (q : List ℕ) → Same (rowOf asked) q s (withCount n s)
+count-leaves =
+    found-at (λ code i. (s : Settings) (n : ℕ) (q : List ℕ) → Same i q s (withCount n s)) (λ code s n q. refl) (search depth 30)
 
--- what the calls keep
-record Keeps (asked : ℕ) (s t : Station) : Type 0 where
-  same : Same (rowOf asked) (s .settings) (t .settings)
-  stays : valid s ≡ true → valid t ≡ true
+-- calls leave a valid box valid
+calls-keep : (test : SetTest) (s t : Station) → Undisturbed test s t → valid s ≡ true → valid t ≡ true
+calls-keep test s t (still u) v = v
+calls-keep test s t (fed b u host room rest calm) v = feeding-keeps u host room (calls-keep test b u rest v)
+calls-keep test s t (cut b u samples room rest) v = cutting-keeps u samples room (calls-keep test b u rest v)
 
-kept : (asked : ℕ) (s t : Station) → Undisturbed asked s t → Keeps asked s t
-kept asked s t (still u) = record { same = λ q. refl; stays = λ v. v }
-kept asked s t (fed b u host room rest calm) =
-    let k = kept asked b u rest in
-    record {
-      same = λ q. feeding-by (λ x. rowOf asked .rule .value x q ≡ rowOf asked .rule .value (u .settings) q) u host room refl
-          (λ code. message-leaves asked (u .settings) (finishedBy u host) (rw code at calm) q) ∙ k .same q;
-      stays = λ v. feeding-keeps u host room (k .stays v);
-    }
-kept asked s t (cut b u samples room rest) =
-    let k = kept asked b u rest in
-    record {
-      same = λ q. cutting-by (λ x. rowOf asked .rule .value x q ≡ rowOf asked .rule .value (u .settings) q) u samples room refl
-          (count-leaves asked (u .settings) (u .settings .count + 1) q) ∙ k .same q;
-      stays = λ v. cutting-keeps u samples room (k .stays v);
-    }
+-- What a set of which the test fails leaves, and a count, undisturbed calls leave.
+calls-leave : (test : SetTest) (P : Settings → Type 0)
+    → ((u : Settings) (m : Message) → eqb (codeOf u m) 1 && eqb (m .type) typeSet && test (u .setup) (named m) ≡ false
+    → P u → P (settingsAfter u m))
+    → ((u : Settings) (n : ℕ) → P u → P (withCount n u))
+    → (s t : Station) → Undisturbed test s t → P (s .settings) → P (t .settings)
+calls-leave test P sets counts s t (still u) h = h
+calls-leave test P sets counts s t (fed b u host room rest calm) h =
+    let before = calls-leave test P sets counts b u rest h in
+    feeding-by P u host room before (λ code. sets (u .settings) (finishedBy u host) (rw code at calm) before)
+calls-leave test P sets counts s t (cut b u samples room rest) h =
+    let before = calls-leave test P sets counts b u rest h in
+    cutting-by P u samples room before (counts (u .settings) (u .settings .count + 1) before)
 
--- a box of whose item every request shows the same; then calls that leave the item; then a whole request of it
-later-shows : (item : ℕ) (shown : List ℕ) (b : Station) → valid b ≡ true
-    → ((p : List ℕ) → rowOf item .rule .value (b .settings) p ≡ shown)
-    → (s t : Settings) (q : List ℕ) (later : ℕ) → Undisturbed item b (resting t) → hasRoom (feedingOf (resting t) q later)
-    → OneMessage q → messageOf q .type ≡ typeRequest → itemIn (messageOf q) ≡ item → codeOf s (messageOf q) ≡ 1
+-- what is shown of what they do not touch
+shown-left : (test : SetTest) (item : ℕ) (q : List ℕ)
+    → ((setup : ℕ) (set : Named) → test setup set ≡ false → touches setup set (naming item q) ≡ false)
+    → (s t : Station) → Undisturbed test s t → Same (rowOf item) q (s .settings) (t .settings)
+shown-left test item q finer s t calm =
+    calls-leave test (Same (rowOf item) q (s .settings))
+    (λ u m none before. message-leaves item q u m (finer-set u m none) ∙ before)
+    (λ u n before. count-leaves item u n q ∙ before)
+    s t calm refl
+  where
+    finer-set : (u : Settings) (m : Message) → eqb (codeOf u m) 1 && eqb (m .type) typeSet && test (u .setup) (named m) ≡ false
+        → changes (naming item q) u m ≡ false
+    finer-set u m = go (eqb (codeOf u m) 1 && eqb (m .type) typeSet)
+      where
+        go : (b : Bool) → b && test (u .setup) (named m) ≡ false → b && touches (u .setup) (named m) (naming item q) ≡ false
+        go true none = finer (u .setup) (named m) none
+        go false none = refl
+
+-- a box of which a request shows something; then calls that do not touch that; then the whole request, where it is accepted
+later-shows : (shown : List ℕ) (b : Station) (t : Settings) (q : List ℕ) (later : ℕ) → valid b ≡ true
+    → row (messageOf q) .rule .value (b .settings) (parameters (messageOf q)) ≡ shown
+    → Undisturbed (touching (named (messageOf q))) b (resting t) → hasRoom (feedingOf (resting t) q later)
+    → OneMessage q → messageOf q .type ≡ typeRequest → codeOf t (messageOf q) ≡ 1
     → repliesWith (feedingOf (resting t) q later) (showing (messageOf q) shown)
-later-shows item shown b v shows s t q later calm more one kind same answered =
-    let k = kept item b (resting t) calm in
-    let f = message-fed q one s (request-low kind) answered t later (k .stays v) more in
-    let now : codeOf t (messageOf q) ≡ 1 = asked-alike s t (messageOf q) kind ∙ answered in (
-      f .0 ∙ now,
+later-shows shown b t q later v shows calm more one kind answered =
+    let asked = messageOf q in
+    let test = touching (named asked) in
+    let f = message-fed q one t (request-low kind) answered t later (calls-keep test b (resting t) calm v) more in (
+      f .0 ∙ answered,
       f .2
-          ∙ asked-shows t (messageOf q) kind now
-          ∙ ap (showing (messageOf q))
-          (ap (λ (code : ℕ). rowOf code .rule .value t (parameters (messageOf q))) same
-          ∙ k .same (parameters (messageOf q))
-          ∙ shows (parameters (messageOf q))),
+          ∙ asked-shows t asked kind answered
+          ∙ ap (showing asked)
+          (shown-left test (itemIn asked) (parameters asked) (λ setup set none. none) b (resting t) calm ∙ shows),
     )
 
-pub fed-set-shows-later : FedSetShowsLater
-fed-set-shows-later s m room t q later v enough more one kind h calm two asked same answered =
+-- after a whole set that is accepted, what it covers has the value set
+set-fed-shows : (s : Settings) (m : List ℕ) (room : ℕ) (q : Message) → valid (resting s) ≡ true → hasRoom (feedingOf (resting s) m room)
+    → OneMessage m → messageOf m .type ≡ typeSet → codeOf s (messageOf m) ≡ 1
+    → covering (s .setup) (named (messageOf m)) (named q) ≡ true
+    → row q .rule .value (feedingOf (resting s) m room .fed .station .settings) (parameters q) ≡ valueSet s (messageOf m)
+set-fed-shows s m room q v enough one kind h covered =
     let f = message-fed m one s (set-low kind) h s room v enough in
-    later-shows (itemIn (messageOf m)) (valueSet s (messageOf m))
-    (feedingOf (resting s) m room .fed .station) (feeding-keeps (resting s) m room v)
-    (λ p. ap (λ (b : Station). row (messageOf m) .rule .value (b .settings) p) (f .1)
-    ∙ has-value-set s (messageOf m) h kind (held-whole m one s (set-low kind) h) p)
-    s t q later calm more two asked same answered
+    let set = named (messageOf m) in
+    ap (λ (b : Station). row q .rule .value (b .settings) (parameters q)) (f .1)
+    ∙ ap (λ (code : ℕ). rowOf code .rule .value (settingsAfter s (messageOf m)) (parameters q))
+    (covered-item (s .setup) set (named q) covered)
+    ∙ has-value-set s (messageOf m) h kind (held-whole m one s (set-low kind) h) (parameters q)
+    (covered-byte (s .setup) set (named q) covered)
+
+pub fed-set-shows-later : FedSetShowsLater
+fed-set-shows-later s m room t q later v enough more one kind h calm two asked covered answered =
+    later-shows (valueSet s (messageOf m)) (feedingOf (resting s) m room .fed .station) t q later (feeding-keeps (resting s) m room v)
+    (set-fed-shows s m room (messageOf q) v enough one kind h covered) calm more two asked answered
 
 pub fed-state-shows : FedStateShowsInStatus
 fed-state-shows s m room t q later v enough more one kind item h calm two asked same answered =
     let f = message-fed m one s (set-low kind) h s room v enough in
-    later-shows (status .code) (pick (eqb (runByte (parameters (messageOf m))) idle) 0x0B 0x0C ∷ [])
-    (feedingOf (resting s) m room .fed .station) (feeding-keeps (resting s) m room v)
-    (λ p. ap (λ (b : Station). rowOf (status .code) .rule .value (b .settings) p) (f .1) ∙ status-value s (messageOf m) h kind item p)
-    s t q later calm more two asked same answered
+    let p = parameters (messageOf q) in
+    later-shows (pick (eqb (runByte (parameters (messageOf m))) idle) 0x0B 0x0C ∷ [])
+    (feedingOf (resting s) m room .fed .station) t q later (feeding-keeps (resting s) m room v)
+    (ap (λ (code : ℕ). rowOf code .rule .value (feedingOf (resting s) m room .fed .station .settings) p) same
+    ∙ ap (λ (b : Station). rowOf (status .code) .rule .value (b .settings) p) (f .1)
+    ∙ status-value s (messageOf m) h kind item p)
+    calm more two asked answered
 
 -- The same at once: the whole set in one call, and the whole request in the next.
 pub fed-set-shows : ShowsSets feedingOf
-fed-set-shows s m room q later v enough more one kind h two asked same answered =
+fed-set-shows s m room q later v enough more one kind h two asked covered answered =
     let f = message-fed m one s (set-low kind) h s room v enough in (
       (f .0 ∙ h, f .2 ∙ set-replies s (messageOf m) h kind (held-whole m one s (set-low kind) h)),
       rw (f .1)
           (fed-set-shows-later s m room (settingsAfter s (messageOf m)) q later v enough (rw (f .1) at more) one kind h
-          (rw (f .1) (still (resting (settingsAfter s (messageOf m))))) two asked same answered),
+          (rw (f .1) (still (resting (settingsAfter s (messageOf m))))) two asked covered answered),
     )
 
 -- what a valid box that has room writes
@@ -194,12 +224,37 @@ bytes-fed s host room v =
     (resting s) host room (λ w some. never (sym w ∙ v)) (λ w some. absurd (some refl))
     (λ w waits some. rw waits refl) (λ w ends fits some. rw ends refl)
 
+-- calls of which none accepts a set of 0019 leave its value
+setup-kept : (test : SetTest) → ((setup : ℕ) (set : Named) → test setup set ≡ false → eqb (set .item) (channelSetup .code) ≡ false)
+    → (s t : Station) → Undisturbed test s t → t .settings .setup ≡ s .settings .setup
+setup-kept test finer s t calm =
+    calls-leave test (λ u. u .setup ≡ s .settings .setup)
+    (λ u m none before. setup-left u m (λ e kind. finer (u .setup) (named m) (rw (e, kind) at none)) ∙ before)
+    (λ u n before. before)
+    s t calm refl
+
+-- of two tests that both fail
+neither : (a b : Bool) → a || b ≡ false → (a ≡ false) × (b ≡ false)
+neither true b h = absurd (true-not-false h)
+neither false b h = (refl, h)
+
 pub fed-same-answer : FedSameAnswer
 fed-same-answer s t q room later v enough more asked calm =
-    let k = kept (itemIn (finishedBy (resting s) q)) (resting s) (resting t) calm in
-    bytes-fed t q later (k .stays v) more
-    ∙ ap (λ (reply : List ℕ). pick (callTakes between q .finished) reply []) (answered-alike s t (finishedBy (resting s) q) asked (k .same))
+    let m = finishedBy (resting s) q in
+    let test = answering (named m) in
+    let same =
+    shown-left test (itemIn m) (parameters m)
+    (λ setup set none. neither (touches setup set (named m)) (opens set (named m)) none .0) (resting s) (resting t) calm in
+    bytes-fed t q later (calls-keep test (resting s) (resting t) calm v) more
+    ∙ ap (λ (reply : List ℕ). pick (callTakes between q .finished) reply [])
+    (answered-alike s t m asked (λ second. setup-kept test (not-opened m second) (resting s) (resting t) calm) same)
     ∙ sym (bytes-fed s q room v enough)
+  where
+    not-opened : (m : Message) → asksSecond (named m) ≡ true → (setup : ℕ) (set : Named) → answering (named m) setup set ≡ false
+        → eqb (set .item) (channelSetup .code) ≡ false
+    not-opened m second setup set none =
+        let opened = neither (touches setup set (named m)) (opens set (named m)) none .1 in
+        sym (and-true (eqb (set .item) (channelSetup .code))) ∙ rw second at opened
 
 -- ---- two boxes that are none of ours
 

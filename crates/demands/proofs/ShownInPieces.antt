@@ -39,15 +39,16 @@ two-served s after m q v is took-m long-m took-q long-q =
     ∙ rw is (message-served after stays q (noting [] (feedingOf (resting s) m 64 .bytes)) [] took-q (omega arith))
 
 pub set-shows-later-in-pieces : SetShowsLaterInPieces
-set-shows-later-in-pieces s m q pieces v one kind h two asked same answered enough e =
+set-shows-later-in-pieces s m q pieces v one kind h two asked covered answered enough e =
+    let after = settingsAfter s (messageOf m) in
     let long-m = least m one s (set-low kind) h in
-    let long-q = least q two s (request-low asked) answered in
+    let long-q = least q two after (request-low asked) answered in
     let room = roomy-call (resting s) m v long-m in
     let later = roomy-call (feedingOf (resting s) m 64 .fed .station) q (feeding-keeps (resting s) m 64 v) long-q in
-    let shown = fed-set-shows s m 64 q 64 v room later one kind h two asked same answered in
+    let shown = fed-set-shows s m 64 q 64 v room later one kind h two asked covered answered in
     ap (λ (r : Served). r .replies)
     (pieces-served s v pieces (whole m ∷ whole q ∷ []) enough (λ n. le-refl 64, (λ n. le-refl 64, tt)) (rw append-nil e)
-    ∙ two-served s (settingsAfter s (messageOf m)) m q v (message-fed m one s (set-low kind) h s 64 v room .1)
-    (took m one s (set-low kind) h) long-m (took q two s (request-low asked) answered) long-q)
+    ∙ two-served s after m q v (message-fed m one s (set-low kind) h s 64 v room .1)
+    (took m one s (set-low kind) h) long-m (took q two after (request-low asked) answered) long-q)
     ∙ ap (noting (noting [] (feedingOf (resting s) m 64 .bytes))) (shown .1 .1)
     ∙ ap (λ (reply : List ℕ). noting (noting [] reply) (showing (messageOf q) (valueSet s (messageOf m)))) (shown .0 .1)

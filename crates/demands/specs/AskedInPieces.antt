@@ -10,17 +10,17 @@ use Rattle.items.specs.declared.Settings.{Settings}
 use Rattle.items.specs.Settings.{inRange}
 use Rattle.station.specs.Serving.{Piece, joined, roomy, unserved, serving}
 use Rattle.wishes.specs.declared.Wish.{Wish}
-use Rattle.wishes.specs.Wishes.{granted, notNow}
+use Rattle.wishes.specs.Wishes.{granted, refusedNow}
 use Rattle.wishes.specs.Writing.{wishCode, bytesWritten}
 use Rattle.replies.specs.Reading.{replySays, replyReaderSays}
 use Rattle.replies.specs.Saying.{saidBy}
 use Rattle.demands.specs.Shown.{resting}
 
 -- A wish and the pieces of its message, served by a valid box between messages: the box does what the wish means, unless
--- the wish has to wait; and it gives one reply, which is read back as what it then says (`Understands` has the same of
--- one call).
+-- its channel is closed or the wish has to wait; and it gives one reply, which is read back as what it then says (`Understands` has
+-- the same of one call).
 pub record UnderstandsInPieces (w : Wish) (pieces : List Piece) (s : Settings) : Type 0 where
-  pub does : serving (unserved (resting s)) pieces .station ≡ resting (pick (notNow w s) s (granted w s))
+  pub does : serving (unserved (resting s)) pieces .station ≡ resting (pick (refusedNow w s) s (granted w s))
   pub says : map (replyReaderSays w) (serving (unserved (resting s)) pieces .replies) ≡ replySays (saidBy w s) ∷ []
 
 -- every wish that the writer accepts, and any pieces of what it writes, whatever the buffer

@@ -13,7 +13,7 @@ use Rattle.items.specs.declared.Settings.{Settings}
 use Rattle.items.specs.Settings.{isSerial}
 use Rattle.items.specs.Answer.{Message, checks, codeOf, replyOf}
 use Rattle.station.specs.declared.Station.{Station}
-use Rattle.station.specs.Station.{valid, freshBox}
+use Rattle.station.specs.Station.{valid, freshBox, wordChecks, wordCode}
 use Rattle.framing.specs.Framing.{callTakes, finished}
 use Rattle.station.specs.Feeding.{feedChecks, feedingOf}
 use Rattle.cutting.specs.Cutting.{cutChecks, cutCode}
@@ -80,6 +80,7 @@ pub record GivenExactly : Type 0 where
       → EachWhere (Answers s host room) (checks (s .settings) (finishedBy s host)) (feedingOf s host room .fed .code)
   pub message : (s : Settings) (m : Message) → EachExactly (checks s m) (codeOf s m)
   pub cutting : (s : Station) (samples : List ℤ) (room : ℕ) → EachExactly (cutChecks s samples room) (cutCode s samples room)
+  pub word : (s : Station) (channel : ℕ) → EachExactly (wordChecks s channel) (wordCode s channel)
   pub reading : (r : Reader) (packet : List ℕ) → EachExactly (readingChecks r packet) (readingCode r packet)
   pub unpacking : (packet : List ℕ) (room : ℕ) → EachExactly (unpackChecks packet room) (unpackCode packet room)
   pub headWritten : (h : Head) (room : ℕ) → EachExactly (headWriteChecks h room) (headWriteCode h room)

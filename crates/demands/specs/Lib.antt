@@ -6,6 +6,7 @@ pub mod Reached
 pub mod Word
 pub mod Shown
 pub mod ShownInPieces
+pub mod Channels
 pub mod Refused
 pub mod Written
 pub mod Given

@@ -6,7 +6,7 @@ use mathlib.Core.Bool.{Bool, true, false, _&&_, _||_}
 use mathlib.Core.List.{List, [], _∷_, _++_}
 use lib.Dec.{eqb}
 use lib.IntN.{ℤ}
-use lib.ListN.{length, take, drop, replicate}
+use lib.ListN.{length, getD, take, drop, replicate}
 use Rattle.wire.specs.Choice.{pick, firstRow}
 use Rattle.wire.specs.Codes as Code
 use Rattle.wire.specs.Number.{bytes, field}
@@ -15,9 +15,10 @@ use Rattle.framing.specs.Framing.{between, callTakes, headerIn, announced}
 use Rattle.wire.specs.Lists.{allBytes}
 use Rattle.rates.specs.Rate.{nearestOf, rateOf}
 use Rattle.items.specs.declared.Settings.{Settings}
-use Rattle.items.specs.Items.{echoes, status, state, idle, run, runByte, modeByte, stateBytes, frequency, gain, clock, rate, packetSize}
-use Rattle.items.specs.Items.{rowOf}
-use Rattle.items.specs.Answer.{Message, itemIn, row, parameters, codeOf, settingsAfter, framed}
+use Rattle.items.specs.Items.{echoes, status, state, idle, run, runByte, modeByte, stateBytes}
+use Rattle.items.specs.Items.{channelSetup, frequency, gain, clock, rate, packetSize}
+use Rattle.items.specs.Items.{Echoed, noByte, anId, anyChannel, aChannel, rowOf}
+use Rattle.items.specs.Answer.{Message, itemIn, row, parameters, coversAsked, codeOf, settingsAfter, framed}
 use Rattle.station.specs.declared.Station.{Station}
 use Rattle.station.specs.Station.{valid}
 use Rattle.station.specs.Feeding.{Feeding, messageIn, feedingOf}
@@ -48,6 +49,7 @@ stateShown s p =
 abbrev pub lines : List Line
 lines =
     line (state .code) stateShown
+    ∷ line (channelSetup .code) (sent 0 1)
     ∷ line (frequency .code) (sent 1 5)
     ∷ line (gain .code) (sent 1 1)
     ∷ line (clock .code) (sent 1 4)
@@ -72,20 +74,50 @@ pub record HeldWhole (m : Message) : Type 0 where
 abbrev pub showing : Message → List ℕ → List ℕ
 showing q value = framed typeReply (bytes 2 (itemIn q) ++ take (echoes (row q .echoed)) (parameters q) ++ value)
 
--- A set of the first item can change what a request of the second shows: if it is the same item, and if it is the state,
--- which the status shows too ("0B idle, 0C running").
-abbrev pub touches : ℕ → ℕ → Bool
-touches set asked = eqb set asked || (eqb set (state .code) && eqb asked (status .code))
+-- What a message names: its item, and the byte behind the item's code, which is the channel byte where the item has one.
+pub record Named : Type 0 where
+  pub item : ℕ
+  pub byte : ℕ
 
--- the message is an accepted set, and of an item that can change what `asked` shows
-abbrev pub changes : ℕ → Settings → Message → Bool
-changes asked s m = eqb (codeOf s m) Code.done && eqb (m .type) typeSet && touches (itemIn m) asked
+abbrev pub naming : ℕ → List ℕ → Named
+naming item p = record { item = item; byte = getD p 0 0 }
 
--- Other items are unchanged: a set of one item, whatever its parameters, leaves the value of every other, but for the status
--- where the state is set.
+abbrev pub named : Message → Named
+named m = naming (itemIn m) (parameters m)
+
+-- A set covers what a request asks for, by 0019's value when the set comes: it is of the same item, and where that is a channel's, it
+-- covers the channel.
+abbrev pub covering : ℕ → Named → Named → Bool
+covering setup set asked =
+    eqb (set .item) (asked .item) && coversAsked setup (rowOf (set .item) .echoed) (set .byte) (asked .byte)
+
+-- It can change what the request shows: if it covers what is asked for, and if it is the state, which the status shows too ("0B idle, 0C
+-- running").
+abbrev pub touches : ℕ → Named → Named → Bool
+touches setup set asked = covering setup set asked || (eqb (set .item) (state .code) && eqb (asked .item) (status .code))
+
+-- A set of 0019 opens channel 02 or closes it: then a request that names it may be answered otherwise.
+abbrev pub ofChannels : Echoed → Bool
+ofChannels noByte = false
+ofChannels anId = false
+ofChannels anyChannel = false
+ofChannels aChannel = true
+
+abbrev pub asksSecond : Named → Bool
+asksSecond asked = ofChannels (rowOf (asked .item) .echoed) && eqb (asked .byte) 0x02
+
+abbrev pub opens : Named → Named → Bool
+opens set asked = eqb (set .item) (channelSetup .code) && asksSecond asked
+
+-- the message is an accepted set, and can change what `asked` shows
+abbrev pub changes : Named → Settings → Message → Bool
+changes asked s m = eqb (codeOf s m) Code.done && eqb (m .type) typeSet && touches (s .setup) (named m) asked
+
+-- What it does not touch is unchanged: a set of one item, whatever its parameters, leaves the value of every other, but for the status
+-- where the state is set, and that of every channel that it does not cover.
 abbrev pub OthersUnchanged : Type 0
 OthersUnchanged =
-    (a b : ℕ) → touches a b ≡ false → (s : Settings) (p q : List ℕ)
+    (a b : ℕ) (s : Settings) (p q : List ℕ) → touches (s .setup) (naming a p) (naming b q) ≡ false
     → rowOf b .rule .value (rowOf a .rule .stored s p) q ≡ rowOf b .rule .value s q
 
 -- the settings after one message after the other
@@ -94,7 +126,7 @@ afterAll s [] = s
 afterAll s (m ∷ ms) = afterAll (settingsAfter s m) ms
 
 -- no message changes what `asked` shows, each judged when it comes
-abbrev pub noneChanges : ℕ → Settings → List Message → Type 0
+abbrev pub noneChanges : Named → Settings → List Message → Type 0
 noneChanges asked s [] = Unit {0}
 noneChanges asked s (m ∷ ms) = (changes asked s m ≡ false) × noneChanges asked (settingsAfter s m) ms
 
@@ -122,15 +154,16 @@ hasRoom f = f .fed .code ≡ Code.noRoom → ⊥
 abbrev pub repliesWith : Feeding → List ℕ → Type 0
 repliesWith f reply = (f .fed .code ≡ Code.done) × (f .bytes ≡ reply)
 
--- Demand 2 of a way to feed a box, whichever it is: a whole set that is to be accepted is fed in one call, and a whole
--- request of the same item in the next, both with room for what the box writes. Both replies show the value set.
+-- Demand 2 of a way to feed a box, whichever it is: a whole set that is to be accepted is fed in one call, and in the next a whole
+-- request that it covers and that is to be accepted, both with room for what the box writes. Both replies show the value set.
 abbrev pub ShowsSets : (Station → List ℕ → ℕ → Feeding) → Type 0
 ShowsSets feed =
     (s : Settings) (m : List ℕ) (room : ℕ) (q : List ℕ) (later : ℕ)
     → valid (resting s) ≡ true
     → hasRoom (feedingOf (resting s) m room) → hasRoom (feedingOf (feedingOf (resting s) m room .fed .station) q later)
     → OneMessage m → messageOf m .type ≡ typeSet → codeOf s (messageOf m) ≡ Code.done
-    → OneMessage q → messageOf q .type ≡ typeRequest → itemIn (messageOf q) ≡ itemIn (messageOf m) → codeOf s (messageOf q) ≡ Code.done
+    → OneMessage q → messageOf q .type ≡ typeRequest → covering (s .setup) (named (messageOf m)) (named (messageOf q)) ≡ true
+    → codeOf (settingsAfter s (messageOf m)) (messageOf q) ≡ Code.done
     → repliesWith (feed (resting s) m room) (showing (messageOf m) (valueSet s (messageOf m)))
     × repliesWith (feed (feed (resting s) m room .fed .station) q later) (showing (messageOf q) (valueSet s (messageOf m)))
 
@@ -156,38 +189,58 @@ echoesOnly s host room =
 abbrev pub finishedBy : Station → List ℕ → Message
 finishedBy s host = messageIn (callTakes (s .store) host .store)
 
--- the call accepts a set, and of an item that can change what `asked` shows
-abbrev pub disturbs : ℕ → Station → List ℕ → ℕ → Bool
-disturbs asked s host room =
+-- what is asked of a set: 0019's value when it comes, and what it names
+abbrev pub SetTest : Type 0
+SetTest = ℕ → Named → Bool
+
+-- the call accepts a set of which the test holds
+abbrev pub disturbs : SetTest → Station → List ℕ → ℕ → Bool
+disturbs test s host room =
     eqb (feedingOf s host room .fed .code) Code.done
     && eqb (finishedBy s host .type) typeSet
-    && touches (itemIn (finishedBy s host)) asked
+    && test (s .settings .setup) (named (finishedBy s host))
 
--- From one box to another by any calls of feeding and cutting, each refused or not, of which none changes what `asked` shows.
-pub data Undisturbed (asked : ℕ) : Station → Station → Type 0 where
-  still : (s : Station) → Undisturbed asked s s
-  fed : (s t : Station) (host : List ℕ) (room : ℕ) → Undisturbed asked s t → disturbs asked t host room ≡ false
-      → Undisturbed asked s (feedingOf t host room .fed .station)
-  cut : (s t : Station) (samples : List ℤ) (room : ℕ) → Undisturbed asked s t → Undisturbed asked s (cuttingOf t samples room .cut .station)
+-- From one box to another by any calls of feeding and cutting, each refused or not, of which none accepts a set of which the test holds.
+pub data Undisturbed (test : SetTest) : Station → Station → Type 0 where
+  still : (s : Station) → Undisturbed test s s
+  fed : (s t : Station) (host : List ℕ) (room : ℕ) → Undisturbed test s t → disturbs test t host room ≡ false
+      → Undisturbed test s (feedingOf t host room .fed .station)
+  cut : (s t : Station) (samples : List ℤ) (room : ℕ) → Undisturbed test s t → Undisturbed test s (cuttingOf t samples room .cut .station)
 
--- Demand 2, of the box: a whole set that is accepted is fed in one call; then any calls of feeding and cutting, none of
--- which changes what its item shows; then, between messages, a whole request of it. The reply shows the value set.
+-- none changes what `asked` shows
+abbrev pub touching : Named → SetTest
+touching asked setup set = touches setup set asked
+
+-- and none opens or closes the channel that it names
+abbrev pub answering : Named → SetTest
+answering asked setup set = touches setup set asked || opens set asked
+
+-- Demand 2, of the box: a whole set that is accepted is fed in one call; then any calls of feeding and cutting; then, between messages, a
+-- whole request that the set covers, if none of the calls changed what it shows. Where it is accepted its reply shows the value set.
 abbrev pub FedSetShowsLater : Type 0
 FedSetShowsLater =
     (s : Settings) (m : List ℕ) (room : ℕ) (t : Settings) (q : List ℕ) (later : ℕ)
     → valid (resting s) ≡ true → hasRoom (feedingOf (resting s) m room) → hasRoom (feedingOf (resting t) q later)
     → OneMessage m → messageOf m .type ≡ typeSet → codeOf s (messageOf m) ≡ Code.done
-    → Undisturbed (itemIn (messageOf m)) (feedingOf (resting s) m room .fed .station) (resting t)
-    → OneMessage q → messageOf q .type ≡ typeRequest → itemIn (messageOf q) ≡ itemIn (messageOf m) → codeOf s (messageOf q) ≡ Code.done
+    → Undisturbed (touching (named (messageOf q))) (feedingOf (resting s) m room .fed .station) (resting t)
+    → OneMessage q → messageOf q .type ≡ typeRequest → covering (s .setup) (named (messageOf m)) (named (messageOf q)) ≡ true
+    → codeOf t (messageOf q) ≡ Code.done
     → repliesWith (feedingOf (resting t) q later) (showing (messageOf q) (valueSet s (messageOf m)))
 
--- And other items are unchanged: after any calls, none of which changes what it shows, a request is answered as before,
--- accepted or not and whatever its bytes are.
+-- The code of a request, of the value or of the range, looks at no setting but 0019's, and at that only where it names channel 02.
+abbrev pub AskedAlike : Type 0
+AskedAlike =
+    (s t : Settings) (q : Message) → (q .type ≡ typeSet → ⊥) → (asksSecond (named q) ≡ true → t .setup ≡ s .setup)
+    → codeOf t q ≡ codeOf s q
+
+-- And what is not touched is unchanged: after any calls, none of which changes what it shows or opens or closes the channel that it names,
+-- a request is answered as before, accepted or not and whatever its bytes are.
 abbrev pub FedSameAnswer : Type 0
 FedSameAnswer =
     (s t : Settings) (q : List ℕ) (room later : ℕ)
     → valid (resting s) ≡ true → hasRoom (feedingOf (resting s) q room) → hasRoom (feedingOf (resting t) q later)
-    → finishedBy (resting s) q .type ≡ typeRequest → Undisturbed (itemIn (finishedBy (resting s) q)) (resting s) (resting t)
+    → finishedBy (resting s) q .type ≡ typeRequest
+    → Undisturbed (answering (named (finishedBy (resting s) q))) (resting s) (resting t)
     → feedingOf (resting t) q later .bytes ≡ feedingOf (resting s) q room .bytes
 
 -- What a set changes of another item: after a whole set of the state that is accepted, and any calls of which none changes what the
@@ -197,7 +250,7 @@ FedStateShowsInStatus =
     (s : Settings) (m : List ℕ) (room : ℕ) (t : Settings) (q : List ℕ) (later : ℕ)
     → valid (resting s) ≡ true → hasRoom (feedingOf (resting s) m room) → hasRoom (feedingOf (resting t) q later)
     → OneMessage m → messageOf m .type ≡ typeSet → itemIn (messageOf m) ≡ state .code → codeOf s (messageOf m) ≡ Code.done
-    → Undisturbed (status .code) (feedingOf (resting s) m room .fed .station) (resting t)
-    → OneMessage q → messageOf q .type ≡ typeRequest → itemIn (messageOf q) ≡ status .code → codeOf s (messageOf q) ≡ Code.done
+    → Undisturbed (touching (named (messageOf q))) (feedingOf (resting s) m room .fed .station) (resting t)
+    → OneMessage q → messageOf q .type ≡ typeRequest → itemIn (messageOf q) ≡ status .code → codeOf t (messageOf q) ≡ Code.done
     → repliesWith (feedingOf (resting t) q later)
     (showing (messageOf q) (pick (eqb (runByte (parameters (messageOf m))) idle) 0x0B 0x0C ∷ []))

@@ -8,19 +8,20 @@ use mathlib.Core.List.{List, [], _∷_, _++_}
 use Rattle.wire.specs.Codes as Code
 use Rattle.wire.specs.Header.{typeSet, typeRequest}
 use Rattle.items.specs.declared.Settings.{Settings}
-use Rattle.items.specs.Answer.{itemIn, codeOf}
+use Rattle.items.specs.Answer.{codeOf, settingsAfter}
 use Rattle.station.specs.Station.{valid}
 use Rattle.station.specs.Serving.{Piece, joined, roomy, unserved, serving}
-use Rattle.demands.specs.Shown.{OneMessage, messageOf, resting, valueSet, showing}
+use Rattle.demands.specs.Shown.{OneMessage, messageOf, resting, named, covering, valueSet, showing}
 
--- A whole set that is to be accepted and a whole request of the same item, one after the other and in any pieces: the
--- replies are these two and no other, in this order, and both show the value set.
+-- A whole set that is to be accepted and a whole request that it covers and that is to be accepted then, one after the other and in any
+-- pieces: the replies are these two and no other, in this order, and both show the value set.
 abbrev pub SetShowsLaterInPieces : Type 0
 SetShowsLaterInPieces =
     (s : Settings) (m q : List ℕ) (pieces : List Piece)
     → valid (resting s) ≡ true
     → OneMessage m → messageOf m .type ≡ typeSet → codeOf s (messageOf m) ≡ Code.done
-    → OneMessage q → messageOf q .type ≡ typeRequest → itemIn (messageOf q) ≡ itemIn (messageOf m) → codeOf s (messageOf q) ≡ Code.done
+    → OneMessage q → messageOf q .type ≡ typeRequest → covering (s .setup) (named (messageOf m)) (named (messageOf q)) ≡ true
+    → codeOf (settingsAfter s (messageOf m)) (messageOf q) ≡ Code.done
     → roomy pieces → joined pieces ≡ m ++ q
     → serving (unserved (resting s)) pieces .replies
     ≡ showing (messageOf m) (valueSet s (messageOf m)) ∷ showing (messageOf q) (valueSet s (messageOf m)) ∷ []

@@ -48,6 +48,18 @@ pub(crate) fn forms() {
     let small_16 = made(true, 0x00, 1, 1);
     cut(b"16 bits, small, of -257", small_16, 256, -257, 516);
     cut(b"in 515 bytes", small_16, 256, -257, 515);
+    let mut two = small;
+    two.settings.setup = 4;
+    cut(
+        b"two channels, 24 bits, small, of -257",
+        two,
+        128,
+        -257,
+        388,
+    );
+    cut(b"two channels, from 64 numbers", two, 64, -257, 388);
+    two.settings.setup = 5;
+    cut(b"channel setup 5", two, 128, -257, 388);
 }
 
 // 24 bits, small: 64 pairs, so 128 numbers, in 388 bytes.
@@ -136,18 +148,21 @@ fn wide(word: u32) -> u64 {
     word as u64
 }
 
-// What asking for the word answers.
-fn say_answer(t: Tuning) {
+// What asking for the word of a channel answers.
+fn say_answer(s: Station, channel: u8) {
+    say(b"; ");
+    let t = station::tuning_word(s, channel);
     match t {
         Tuning::Word(w) => {
             say(b"1");
             say_number(wide(w));
         }
+        Tuning::NotAllowed => say(b"15"),
         Tuning::Broken => say(b"21"),
     }
 }
 
-// Feeds a message to a box, and tells its code, the word that the box keeps then, and what asking for the word answers.
+// Feeds a message to a box, and tells its code, the words that the box keeps then, and what asking for each answers.
 fn tuned(words: &[u8], s: Station, message: &[u8]) -> Station {
     let mut reply = [0u8; 64];
     let fed = station::feed(s, message, &mut reply);
@@ -155,8 +170,9 @@ fn tuned(words: &[u8], s: Station, message: &[u8]) -> Station {
     name(words);
     say_code(fed.code);
     say_number(wide(after.settings.first.word));
-    say(b"; ");
-    say_answer(station::tuning_word(after));
+    say_number(wide(after.settings.second.word));
+    say_answer(after, 0x00);
+    say_answer(after, 0x02);
     say(b"\n");
     after
 }
@@ -202,4 +218,71 @@ pub(crate) fn words() {
     s.settings.first.word = 536_817_229;
     s = tuned(b"another word", s, b"\x04\x20\x01\x00");
     cut(b"cut with another word", s, 480, 0, 1444);
+}
+
+// The same with two channels. "FF sets both"; "with 0, FF sets channel 00 only and channel 02 retains its values".
+pub(crate) fn two_words() {
+    let mut s = made(false, 0x80, 0, 0);
+    s = tuned(
+        b"14010000 on 02",
+        s,
+        b"\x0A\x00\x20\x00\x02\x90\xC6\xD5\x00\x00",
+    );
+    s = tuned(b"channel setup 4", s, b"\x05\x00\x19\x00\x04");
+    s = tuned(
+        b"14010000 on 02",
+        s,
+        b"\x0A\x00\x20\x00\x02\x90\xC6\xD5\x00\x00",
+    );
+    s = tuned(
+        b"20000000 on 00",
+        s,
+        b"\x0A\x00\x20\x00\x00\x00\x2D\x31\x01\x00",
+    );
+    s = tuned(b"gain -20 on FF", s, b"\x06\x00\x38\x00\xFF\xEC");
+    s = tuned(
+        b"clock 80000123",
+        s,
+        b"\x09\x00\xB0\x00\x00\x7B\xB4\xC4\x04",
+    );
+    s = tuned(
+        b"34000001 on FF",
+        s,
+        b"\x0A\x00\x20\x00\xFF\x81\xCC\x06\x02\x00",
+    );
+    s = tuned(
+        b"10000000 on FF",
+        s,
+        b"\x0A\x00\x20\x00\xFF\x80\x96\x98\x00\x00",
+    );
+    s = tuned(
+        b"14010000 on 01",
+        s,
+        b"\x0A\x00\x20\x00\x01\x90\xC6\xD5\x00\x00",
+    );
+    s = tuned(b"channel setup 0", s, b"\x05\x00\x19\x00\x00");
+    s = tuned(
+        b"14010000 on FF",
+        s,
+        b"\x0A\x00\x20\x00\xFF\x90\xC6\xD5\x00\x00",
+    );
+    s = tuned(
+        b"clock 79992000",
+        s,
+        b"\x09\x00\xB0\x00\x02\xC0\x94\xC4\x04",
+    );
+    s = tuned(b"channel setup 4 again", s, b"\x05\x00\x19\x00\x04");
+    s.settings.second.word = 536_924_603;
+    s = tuned(b"another word of 02", s, b"\x04\x20\x01\x00");
+    cut(b"cut with another word of 02", s, 480, 0, 1444);
+    s = made(false, 0x80, 0, 0);
+    s.settings.second.word = 536_870_911;
+    s = tuned(
+        b"another word of 02 that is not open",
+        s,
+        b"\x04\x20\x01\x00",
+    );
+    s = made(false, 0x80, 0, 0);
+    s.settings.setup = 5;
+    tuned(b"channel setup 5 in the box", s, b"\x04\x20\x01\x00");
 }

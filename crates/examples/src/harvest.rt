@@ -23,6 +23,7 @@ const SMALL_16: u64 = 0x8204;
 fn after(position: u64, total: u64) -> Reader {
     Reader {
         heard: true,
+        channels: 1,
         position,
         total,
         form: packets::form_for(0x80, 1),
@@ -69,7 +70,7 @@ fn unpack(words: &[u8], n: usize, room: usize) {
 
 // How much was lost, and totals that no steps give.
 fn totals_read() {
-    let mut silent = reader::silent();
+    let mut silent = reader::silent(1);
     read(b"0 at the start", after(7, 6), SMALL_24, 0, 388);
     read(b"none missed", after(1, 0), SMALL_24, 2, 388);
     read(b"two missed", after(1, 0), SMALL_24, 4, 388);
@@ -102,7 +103,7 @@ fn totals_read() {
 pub(crate) fn packets_read() {
     read(b"387 bytes", heard(0), SMALL_24, 1, 387);
     read(b"388 bytes", heard(0), SMALL_24, 1, 388);
-    read(b"number 1 first", reader::silent(), SMALL_24, 1, 388);
+    read(b"number 1 first", reader::silent(1), SMALL_24, 1, 388);
     read(b"another form", heard(0), SMALL_16, 1, 516);
     read(b"to 3999999999", heard(3_999_999_998), SMALL_24, 5739, 388);
     read(b"to 4000000000", heard(3_999_999_999), SMALL_24, 5740, 388);
@@ -125,6 +126,7 @@ fn write(words: &[u8], w: Wish, room: usize) {
     name(words);
     match written {
         wishes::Written::Message(n) => tell(codes::DONE, first(part, n)),
+        wishes::Written::ChannelNotAllowed => tell(codes::CHANNEL_NOT_ALLOWED, b""),
         wishes::Written::NotAllowed => tell(codes::VALUE_NOT_ALLOWED, b""),
         wishes::Written::NoRoom => tell(codes::NO_ROOM, b""),
     }
@@ -134,8 +136,8 @@ pub(crate) fn wishes_written() {
     write(b"AskName in 15 bytes", Wish::AskName, 15);
     write(b"AskName in 16 bytes", Wish::AskName, 16);
     write(b"16 before 20", Wish::AskVersion(4), 15);
-    write(b"SetGain -30", Wish::SetGain(-30), 16);
-    write(b"SetGain -31", Wish::SetGain(-31), 16);
+    write(b"SetGain -30", Wish::SetGain(0, -30), 16);
+    write(b"SetGain -31", Wish::SetGain(0, -31), 16);
     write(b"idle", Wish::SetState(StateFields { run: 1, mode: 1 }), 16);
     write(b"run", Wish::SetState(StateFields { run: 2, mode: 0 }), 16);
     write(
@@ -143,12 +145,28 @@ pub(crate) fn wishes_written() {
         Wish::SetState(StateFields { run: 3, mode: 0 }),
         16,
     );
+    channels_written();
+}
+
+// 02, No. 7: the channel byte is checked first, and what any box allows is written.
+fn channels_written() {
+    write(b"15 before 16", Wish::SetFrequency(1, 34_000_001), 16);
+    write(b"15 before 20", Wish::AskGain(0xFF), 15);
+    write(b"past the band", Wish::SetFrequency(2, 34_000_001), 16);
+    write(b"SetFrequency 02", Wish::SetFrequency(2, 14_010_000), 16);
+    write(b"SetGain FF", Wish::SetGain(0xFF, -20), 16);
+    write(b"AskFrequency FF", Wish::AskFrequency(0xFF), 16);
+    write(b"AskFrequencyRange 02", Wish::AskFrequencyRange(2), 16);
+    write(b"AskRate 77", Wish::AskRate(0x77), 16);
+    write(b"SetChannelSetup 4", Wish::SetChannelSetup(4), 16);
+    write(b"SetChannelSetup 5", Wish::SetChannelSetup(5), 16);
 }
 
 // Reads bytes as the reply to a wish.
 fn hear(words: &[u8], w: Wish, bytes: &[u8]) {
     name(words);
     match replies::read(w, bytes) {
+        Reply::ChannelNotAllowed => tell(codes::CHANNEL_NOT_ALLOWED, b""),
         Reply::NotAllowed => tell(codes::VALUE_NOT_ALLOWED, b""),
         Reply::NotAReply => tell(codes::NOT_A_REPLY, b""),
         _ => tell(codes::DONE, b""),
@@ -156,17 +174,17 @@ fn hear(words: &[u8], w: Wish, bytes: &[u8]) {
 }
 
 pub(crate) fn replies_read() {
-    hear(b"NAK to AskRate", Wish::AskRate, b"\x02\x00");
+    hear(b"NAK to AskRate", Wish::AskRate(0), b"\x02\x00");
     hear(b"NAK to AskVersion 4", Wish::AskVersion(4), b"\x02\x00");
-    hear(b"nothing to AskRate", Wish::AskRate, b"");
+    hear(b"nothing to AskRate", Wish::AskRate(0), b"");
     hear(
         b"rate 200000",
-        Wish::AskRate,
+        Wish::AskRate(0),
         b"\x09\x00\xB8\x00\x00\x40\x0D\x03\x00",
     );
     hear(
         b"rate 200001",
-        Wish::AskRate,
+        Wish::AskRate(0),
         b"\x09\x00\xB8\x00\x00\x41\x0D\x03\x00",
     );
     hear(b"status 0C", Wish::AskStatus, b"\x05\x00\x05\x00\x0C");
@@ -181,6 +199,22 @@ pub(crate) fn replies_read() {
         Wish::AskSerial,
         b"\x0D\x00\x02\x00ZZZZZZZ[\x00",
     );
+    channels_read();
+}
+
+// 02, No. 7: a reply echoes the wish's channel byte; 15 before 16.
+fn channels_read() {
+    let second = b"\x0A\x00\x20\x00\x02\x90\xC6\xD5\x00\x00";
+    hear(b"frequency of 02", Wish::AskFrequency(2), second);
+    hear(b"the other channel's", Wish::AskFrequency(0), second);
+    hear(
+        b"NAK to AskFrequency FF",
+        Wish::AskFrequency(0xFF),
+        b"\x02\x00",
+    );
+    hear(b"15 before 16", Wish::SetGain(1, -31), b"\x02\x00");
+    hear(b"setup 4", Wish::AskChannelSetup, b"\x05\x00\x19\x00\x04");
+    hear(b"setup 5", Wish::AskChannelSetup, b"\x05\x00\x19\x00\x05");
 }
 
 // 01: "SPN".

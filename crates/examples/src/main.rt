@@ -35,6 +35,10 @@ fn main() {
     harvest::heads_moved();
     telling::say(b"\n# Packets of 16 bits: code, and the packet's first ten bytes\n");
     boxes::sixteen_bits();
-    telling::say(b"\n# The tuning word: code, the word kept; what asking for it answers\n");
+    telling::say(
+        b"\n# The tuning words: code, the words kept of channels 00 and 02; what asking for each answers\n",
+    );
     boxes::words();
+    telling::say(b"\n# The same with two channels\n");
+    boxes::two_words();
 }

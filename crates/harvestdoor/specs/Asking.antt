@@ -17,12 +17,14 @@ abbrev pub noWish : Wish
 noWish = AskVersion 255
 
 -- the wishes in the table's order, with these fields
-unfoldable pub wishTable : ℕ → ℕ → ℤ → ℕ → ℕ → List Wish
-wishTable byte mode gain word hertz =
+unfoldable pub wishTable : ℕ → ℕ → ℤ → ℕ → ℕ → ℕ → List Wish
+wishTable byte mode gain word hertz channel =
     eachWish
     (record {
       id = byte;
       state = record { run = byte; mode = mode };
+      setup = byte;
+      channel = channel;
       frequency = hertz;
       gain = gain;
       clock = word;
@@ -30,8 +32,8 @@ wishTable byte mode gain word hertz =
       size = byte;
     })
 
-abbrev pub wishOf : ℕ → ℕ → ℕ → ℤ → ℕ → ℕ → Wish
-wishOf which byte mode gain word hertz = getD (wishTable byte mode gain word hertz) which noWish
+abbrev pub wishOf : ℕ → ℕ → ℕ → ℤ → ℕ → ℕ → ℕ → Wish
+wishOf which byte mode gain word hertz channel = getD (wishTable byte mode gain word hertz channel) which noWish
 
 -- What a reply says, as numbers: the code, the item's code, how many values there are, the first two of them, and a gain,
 -- which is signed, in a place of its own. Where there is none of these, 0.

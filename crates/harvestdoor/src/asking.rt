@@ -15,8 +15,8 @@ ghost use Rattle.wishes.specs.Writing.{writtenSays, writingOf, bytesWritten};
 ghost use Rattle.harvestdoor.specs.Asking.{wishOf, shown as shownOf, asShown, saidOf, refusedBy};
 
 // The wish of a number, with the fields of every case; a wish that no box grants where the number names none.
-fn wish_of(which: u8, byte: u8, mode: u8, gain: i8, word: u32, hertz: u64) -> Wish
-    ensures { λ r. ⌜ r ≡ wishOf which byte mode gain word hertz ⌝ }
+fn wish_of(which: u8, byte: u8, mode: u8, gain: i8, word: u32, hertz: u64, channel: u8) -> Wish
+    ensures { λ r. ⌜ r ≡ wishOf which byte mode gain word hertz channel ⌝ }
 {
     match which {
         0 => Wish::AskName,
@@ -29,17 +29,19 @@ fn wish_of(which: u8, byte: u8, mode: u8, gain: i8, word: u32, hertz: u64) -> Wi
             mode: mode,
         }),
         6 => Wish::AskState,
-        7 => Wish::SetFrequency(hertz),
-        8 => Wish::AskFrequency,
-        9 => Wish::AskFrequencyRange,
-        10 => Wish::SetGain(gain),
-        11 => Wish::AskGain,
-        12 => Wish::SetClock(word),
-        13 => Wish::AskClock,
-        14 => Wish::SetRate(word),
-        15 => Wish::AskRate,
-        16 => Wish::SetPacketSize(byte),
-        17 => Wish::AskPacketSize,
+        7 => Wish::SetChannelSetup(byte),
+        8 => Wish::AskChannelSetup,
+        9 => Wish::SetFrequency(channel, hertz),
+        10 => Wish::AskFrequency(channel),
+        11 => Wish::AskFrequencyRange(channel),
+        12 => Wish::SetGain(channel, gain),
+        13 => Wish::AskGain(channel),
+        14 => Wish::SetClock(channel, word),
+        15 => Wish::AskClock(channel),
+        16 => Wish::SetRate(channel, word),
+        17 => Wish::AskRate(channel),
+        18 => Wish::SetPacketSize(byte),
+        19 => Wish::AskPacketSize,
         _ => Wish::AskVersion(255),
     }
 }
@@ -57,6 +59,10 @@ fn wrote_by(w: Written) -> Wrote
         Written::Message(n) => Wrote {
             code: codes::DONE,
             wrote: n,
+        },
+        Written::ChannelNotAllowed => Wrote {
+            code: codes::CHANNEL_NOT_ALLOWED,
+            wrote: 0,
         },
         Written::NotAllowed => Wrote {
             code: codes::VALUE_NOT_ALLOWED,
@@ -78,16 +84,20 @@ pub extern "C" fn skvornela_wish(
     gain: i8,
     word: u32,
     hertz: u64,
+    channel: u8,
     buffer: &mut [u8],
     wrote: &mut usize,
 ) -> u8
     ensures { λ r.
         ⌜ (record { code = r; wrote = now (wrote .exit) }
-        ≡ writingOf (wishOf which byte mode gain word hertz) (length (now (buffer .entry))))
+        ≡ writingOf (wishOf which byte mode gain word hertz channel) (length (now (buffer .entry))))
         × (now (buffer .exit)
-        ≡ sets (now (buffer .entry)) 0 (bytesWritten (wishOf which byte mode gain word hertz) (length (now (buffer .entry))))) ⌝ }
+        ≡ sets (now (buffer .entry)) 0 (bytesWritten (wishOf which byte mode gain word hertz channel) (length (now (buffer .entry))))) ⌝ }
 {
-    let answer = wrote_by(wishes::write(wish_of(which, byte, mode, gain, word, hertz), buffer));
+    let answer = wrote_by(wishes::write(
+        wish_of(which, byte, mode, gain, word, hertz, channel),
+        buffer,
+    ));
     *wrote = answer.wrote;
     answer.code
 }
@@ -156,6 +166,7 @@ fn shown_by(reply: Reply) -> Shown
         Reply::Version(id, n) => saying(table::VERSIONS, 2, id as u64, n as u64),
         Reply::Status(running) => saying(table::STATUS, 1, status_byte(running), 0),
         Reply::State(fields) => saying(table::STATE, 2, fields.run as u64, fields.mode as u64),
+        Reply::ChannelSetup(n) => saying(table::CHANNEL_SETUP, 1, n as u64, 0),
         Reply::Frequency(hz) => saying(table::FREQUENCY, 1, hz, 0),
         // minimum, maximum and oscillator of each band; the first two are those of the first band
         Reply::FrequencyRange => saying(
@@ -175,6 +186,7 @@ fn shown_by(reply: Reply) -> Shown
         Reply::Clock(hz) => saying(table::CLOCK, 1, hz as u64, 0),
         Reply::Rate(hz) => saying(table::RATE, 1, hz as u64, 0),
         Reply::PacketSize(n) => saying(table::PACKET_SIZE, 1, n as u64, 0),
+        Reply::ChannelNotAllowed => refusing(codes::CHANNEL_NOT_ALLOWED),
         Reply::NotAllowed => refusing(codes::VALUE_NOT_ALLOWED),
         Reply::NotAReply => refusing(codes::NOT_A_REPLY),
     }
@@ -189,6 +201,7 @@ pub extern "C" fn skvornela_reply(
     gain: i8,
     word: u32,
     hertz: u64,
+    channel: u8,
     bytes: &[u8],
     item: &mut u16,
     count: &mut usize,
@@ -198,9 +211,12 @@ pub extern "C" fn skvornela_reply(
 ) -> u8
     ensures { λ r.
         ⌜ asShown r (now (item .exit)) (now (count .exit)) (now (first .exit)) (now (second .exit)) (now (level .exit))
-        ≡ shownOf (replyReaderSays (wishOf which byte mode gain word hertz) (now (bytes .entry))) ⌝ }
+        ≡ shownOf (replyReaderSays (wishOf which byte mode gain word hertz channel) (now (bytes .entry))) ⌝ }
 {
-    let s = shown_by(replies::read(wish_of(which, byte, mode, gain, word, hertz), bytes));
+    let s = shown_by(replies::read(
+        wish_of(which, byte, mode, gain, word, hertz, channel),
+        bytes,
+    ));
     *item = s.item;
     *count = s.count;
     *first = s.first;

@@ -1,12 +1,28 @@
-// Reading packets.
+// Making a reader, and reading packets.
 ghost use mathlib.Core.Path.{_≡_};
 ghost use lib.ListN.{length};
 ghost use lib.Seq.{sets};
 ghost use Rattle.reader.specs.Reading.{sampleBytesOf, unpackingOf, numbersWritten};
-ghost use Rattle.harvestdoor.specs.Reading.{readOver, sampleByteAt};
+ghost use Rattle.harvestdoor.specs.Reading.{silentOver, readOver, sampleByteAt};
 use wire::codes;
 
-// Reads one packet with a reader of 33 bytes. Answers the code, and leaves the packet's position and that of its first
+// Makes a reader that has heard nothing, of packets of so many channels, in 34 bytes. Answers 1; or 21, and leaves the bytes as they
+// came, where they are not 34 or the count is neither 1 nor 2.
+#[no_mangle]
+pub extern "C" fn skvornela_silent(channels: u8, state: &mut [u8]) -> u8
+    ensures { λ r. ⌜ record { code = r; state = now (state .exit) } ≡ silentOver channels (now (state .entry)) ⌝ }
+{
+    if state.len() != crate::states::LENGTH {
+        return codes::BROKEN;
+    }
+    if !packets::is_count(channels) {
+        return codes::BROKEN;
+    }
+    crate::states::put_reader(state, reader::silent(channels));
+    codes::DONE
+}
+
+// Reads one packet with a reader of 34 bytes. Answers the code, and leaves the packet's position, in each channel that of its first
 // sample, and how many packets were missed just before it and in the capture so far; all four are 0 where the packet is
 // refused, and the reader's bytes are then as they came.
 #[no_mangle]

@@ -1,5 +1,5 @@
-// Writes a capture head to standard output from the words of its command: of version 1 from four, of version 2 from six. A word that
-// is none of those allowed is named on standard error, and nothing is written.
+// Writes a capture head to standard output from the words of its command: of version 1 from four, of version 2 from six. BITS is 2x24
+// or 2x16 where there are two channels. A word that is none of those allowed is named on standard error, and nothing is written.
 use heads::Head;
 use heads::Written;
 use headwords::Worded;
@@ -68,7 +68,9 @@ fn answer(
         Worded::BadFrequency => say(
             b"head: HZ is a whole number from 100000 to 34000000 or from 140000000 to 150000000\n",
         ),
-        Worded::BadBits => say(b"head: BITS is 24 or 16\n"),
+        Worded::BadBits => say(
+            b"head: BITS is 24 or 16, or 2x24 or 2x16 where there are two channels\n",
+        ),
         Worded::BadSize => say(b"head: SIZE is large or small\n"),
         Worded::BadSerial => {
             say(b"head: SERIAL is eight of A-Z, 0-9, or - where it is not known\n")

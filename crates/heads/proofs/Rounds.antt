@@ -17,7 +17,7 @@ use Rattle.wire.proofs.Lists.{bytes-take, bytes-drop, byte-at}
 use Rattle.wire.proofs.Numbers.{number-bytes, bytes-number}
 use Rattle.heads.specs.declared.Head.{Head}
 use Rattle.heads.specs.Head.{mark, isHeadVersion, fieldsOf, fieldBytes, headBytes, headLength, headLengthIn, versionIn, headIn}
-use Rattle.heads.specs.Head.{unknown, nominal, allowedHead, headReadChecks, headReadCode, headReadingOf}
+use Rattle.heads.specs.Head.{unknown, nominal, boxMode, allowedHead, headReadChecks, headReadCode, headReadingOf}
 use Rattle.heads.specs.Head.{AsLongAsItsVersion, ReadAsWritten, WrittenAsRead}
 use Rattle.heads.proofs.Codes.{code-by, reading-by, by-version, least-long, more, bytes-old, bytes-new}
 use Rattle.heads.proofs.Values.{is-version, divisor-small, frequency-small, form-listed, mode-small, size-small}
@@ -65,7 +65,7 @@ module _ (h : Head) (a : allowedHead h ≡ true) (after : List ℕ) where
       mode = number-bytes 1 (h .mode) (omega (arith, mode-small (h .mode) (h .size) (form-listed h a)))
 
       size : field 13 1 (begun h after) ≡ h .size
-      size = number-bytes 1 (h .size) (omega (arith, size-small (h .mode) (h .size) (form-listed h a)))
+      size = number-bytes 1 (h .size) (omega (arith, size-small (boxMode (h .mode)) (h .size) (form-listed h a)))
 
       holds : headIn (begun h after) ≡ h
       holds = rw (version-back, divisor, frequency, mode, size, serial, clock)

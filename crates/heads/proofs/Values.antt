@@ -13,9 +13,12 @@ use Rattle.tuning.specs.Bands.{inBands}
 use Rattle.tuning.proofs.Covered.{bands-high}
 use Rattle.tuning.specs.Word.{isClock}
 use Rattle.packets.specs.Forms.{formFor, listedForm}
+use Rattle.packets.proofs.Forms.{is-listed-form}
+use Rattle.packets.proofs.Channels.{each-fewer}
 use Rattle.items.specs.Settings.{isSerial}
 use Rattle.heads.specs.declared.Head.{Head}
-use Rattle.heads.specs.Head.{isHeadVersion, unknown, nominal, formIn, headSerial, bare, namingOk, allowedHead}
+use Rattle.heads.specs.Head.{isHeadVersion, unknown, nominal, headSerial, bare, namingOk, allowedHead}
+use Rattle.heads.specs.Head.{channelsIn, boxMode, formIn, eachIn}
 use Rattle.heads.proofs.Codes.{allowed-by}
 
 -- a serial has eight bytes at most
@@ -64,6 +67,10 @@ module _ (h : Head) (a : allowedHead h ≡ true) where
   pub form-listed : formOk ≡ true
   form-listed = and-right (versionOk && divisorOk && bandsOk) formOk first-four
 
+  -- a channel has at most 256 pairs in a packet
+  pub few-each : eachIn h .pairs ≤ 256
+  few-each = omega (arith, each-fewer (channelsIn h) (formIn h), is-listed-form (formIn h) form-listed .few)
+
   first-three : versionOk && divisorOk && bandsOk ≡ true
   first-three = and-left (versionOk && divisorOk && bandsOk) formOk first-four
 
@@ -111,11 +118,14 @@ module _ (h : Head) (a : allowedHead h ≡ true) where
   clock-most = within-high 79_992_000 80_008_000 (h .clock) clock-ok
 
 -- a mode or a size that is no byte has no form
-pub mode-small : (mode size : ℕ) → listedForm (formFor mode size) ≡ true → mode < 256
-mode-small mode size l = elim (decLt mode 256) [ yes m ↦ m | no m ↦ never (none (omega arith)) ]
+mode-byte : (mode size : ℕ) → listedForm (formFor mode size) ≡ true → mode < 256
+mode-byte mode size l = elim (decLt mode 256) [ yes m ↦ m | no m ↦ never (none (omega arith)) ]
   where
     none : 256 ≤ mode → false ≡ true
     none m = rw (ne-eqb 0x80 mode (λ e. omega arith), ne-eqb 0x00 mode (λ e. omega arith)) at l
+
+pub mode-small : (mode size : ℕ) → listedForm (formFor (boxMode mode) size) ≡ true → mode < 256
+mode-small mode size l = omega (arith, mode-byte (boxMode mode) size l)
 
 pub size-small : (mode size : ℕ) → listedForm (formFor mode size) ≡ true → size < 256
 size-small mode size l =

@@ -8,12 +8,14 @@ use lib.ListN.{take, replicate}
 use Rattle.wire.specs.Codes as Code
 use Rattle.wire.specs.Lists.{same}
 use Rattle.heads.specs.declared.Head.{Head}
-use Rattle.heads.specs.Head.{unknown, nominal, headIn, headReadCode, headWriteCode, writtenBytes}
+use Rattle.heads.specs.Head.{unknown, nominal, headIn, channelsIn, eachIn, headReadCode, headWriteCode, writtenBytes}
 use Rattle.heads.specs.Moving.{movingCode, moveWrites}
 
 pub data HeadExample : Type 0 where
   -- bytes are read as a head
   readAs : List ℕ → Head → HeadExample
+  -- bytes are read as the head of a capture of so many channels, with bits and pairs of each
+  announces : List ℕ → ℕ → ℕ → ℕ → HeadExample
   -- bytes are not read, with a code
   notRead : List ℕ → ℕ → HeadExample
   -- a head is written, in so much room, as these bytes
@@ -30,6 +32,9 @@ values h = h .version ∷ h .divisor ∷ h .frequency ∷ h .mode ∷ h .size �
 
 abbrev pub isSo : HeadExample → Bool
 isSo (readAs s h) = eqb (headReadCode s) Code.done && same (values (headIn s)) (values h)
+isSo (announces s channels bits pairs) =
+    eqb (headReadCode s) Code.done
+    && same (channelsIn (headIn s) ∷ eachIn (headIn s) .bits ∷ eachIn (headIn s) .pairs ∷ []) (channels ∷ bits ∷ pairs ∷ [])
 isSo (notRead s code) = eqb (headReadCode s) code
 isSo (writtenAs h room t) = eqb (headWriteCode h room) Code.done && same (writtenBytes h room) t
 isSo (notWritten h room code) = eqb (headWriteCode h room) code && same (writtenBytes h room) []
@@ -40,12 +45,15 @@ abbrev pub allSo : List HeadExample → Bool
 allSo [] = true
 allSo (e ∷ es) = isSo e && allSo es
 
--- ---- the heads: 24 bits, small packets, 14,010,000 Hz
+-- ---- the heads: 14,010,000 Hz; 24 bits, small packets, one channel, where nothing else is said
 
--- 14 bytes with a last byte of the mark, a version and a D
+-- 14 bytes with a last byte of the mark, a version, a D, a mode and a size
+abbrev firstOf : ℕ → ℕ → ℕ → ℕ → ℕ → List ℕ
+firstOf letter version d mode size =
+    0x53 ∷ 0x50 ∷ letter ∷ version ∷ 0x00 ∷ d ∷ 0x00 ∷ 0x90 ∷ 0xC6 ∷ 0xD5 ∷ 0x00 ∷ 0x00 ∷ mode ∷ size ∷ []
+
 abbrev first : ℕ → ℕ → ℕ → List ℕ
-first letter version d =
-    0x53 ∷ 0x50 ∷ letter ∷ version ∷ 0x00 ∷ d ∷ 0x00 ∷ 0x90 ∷ 0xC6 ∷ 0xD5 ∷ 0x00 ∷ 0x00 ∷ 0x80 ∷ 0x01 ∷ []
+first letter version d = firstOf letter version d 0x80 1
 
 -- of a version at D = 100
 abbrev start : ℕ → List ℕ
@@ -80,18 +88,31 @@ bareNew = new noSerial 0x00 0xB4
 abbrev named : List ℕ
 named = new serial 0xF6 0xB3
 
--- the values: of a version at a D, a serial and a clock
-abbrev head : ℕ → ℕ → ℕ → ℕ → Head
-head version d serial clock =
+-- of a mode and a size, in both versions
+abbrev oldOf : ℕ → ℕ → List ℕ
+oldOf mode size = firstOf 0x4E 1 100 mode size
+
+abbrev newOf : ℕ → ℕ → List ℕ
+newOf mode size = firstOf 0x4E 2 100 mode size ++ after serial 0xF6 0xB3
+
+abbrev bareNewOf : ℕ → ℕ → List ℕ
+bareNewOf mode size = firstOf 0x4E 2 100 mode size ++ after noSerial 0x00 0xB4
+
+-- the values: of a version at a D, a mode, a serial and a clock
+abbrev headOf : ℕ → ℕ → ℕ → ℕ → ℕ → Head
+headOf version d mode serial clock =
     record {
       version = version;
       divisor = d;
       frequency = 14_010_000;
-      mode = 0x80;
+      mode = mode;
       size = 1;
       serial = serial;
       clock = clock;
     }
+
+abbrev head : ℕ → ℕ → ℕ → ℕ → Head
+head version d serial clock = headOf version d 0x80 serial clock
 
 abbrev mt123456 : ℕ
 mt123456 = 0x3635_3433_3231_544D
@@ -148,4 +169,35 @@ examples =
     ∷ notWritten (head 2 100 mt123456 80_008_001) 26 Code.valueNotAllowed
     ∷ notWritten (head 2 9 mt123456 nominal) 26 Code.valueNotAllowed
     ∷ notWritten (head 3 100 unknown nominal) 26 Code.valueNotAllowed
+    -- "mode byte bit 6 set for two channels": the four mode bytes with both sizes, and "pairs per channel are 120, 32, 128 and 64"
+    ∷ announces (oldOf 0x80 0) 1 24 240
+    ∷ announces (oldOf 0x80 1) 1 24 64
+    ∷ announces (oldOf 0x00 0) 1 16 256
+    ∷ announces (oldOf 0x00 1) 1 16 128
+    ∷ announces (oldOf 0xC0 0) 2 24 120
+    ∷ announces (oldOf 0xC0 1) 2 24 32
+    ∷ announces (oldOf 0x40 0) 2 16 128
+    ∷ announces (oldOf 0x40 1) 2 16 64
+    ∷ announces (newOf 0xC0 1) 2 24 32
+    ∷ announces (newOf 0x40 1) 2 16 64
+    -- and no other
+    ∷ notRead (oldOf 0x20 1) Code.notAHead
+    ∷ notRead (oldOf 0xC1 1) Code.notAHead
+    ∷ notRead (oldOf 0x60 1) Code.notAHead
+    ∷ notRead (oldOf 0xC0 2) Code.notAHead
+    ∷ notRead (newOf 0x60 1) Code.notAHead
+    -- a head of two channels is written, read and moved as one of one channel
+    ∷ readAs (oldOf 0xC0 1) (headOf 1 100 0xC0 unknown nominal)
+    ∷ readAs (newOf 0x40 1) (headOf 2 100 0x40 mt123456 79_999_990)
+    ∷ writtenAs (headOf 1 100 0xC0 unknown nominal) 14 (oldOf 0xC0 1)
+    ∷ writtenAs (headOf 1 100 0x40 unknown nominal) 14 (oldOf 0x40 1)
+    ∷ writtenAs (headOf 2 100 0xC0 mt123456 79_999_990) 26 (newOf 0xC0 1)
+    ∷ notWritten (headOf 1 100 0x20 unknown nominal) 14 Code.valueNotAllowed
+    ∷ notWritten (headOf 1 100 0xC1 unknown nominal) 14 Code.valueNotAllowed
+    ∷ notWritten (headOf 2 100 0x60 mt123456 79_999_990) 26 Code.valueNotAllowed
+    ∷ movedAs 2 (oldOf 0xC0 1) 26 (bareNewOf 0xC0 1)
+    ∷ movedAs 1 (bareNewOf 0xC0 1) 14 (oldOf 0xC0 1)
+    ∷ movedAs 2 (newOf 0x40 0) 26 (newOf 0x40 0)
+    ∷ notMoved 1 (newOf 0xC0 1) 14 Code.wouldLose
+    ∷ notMoved 2 (oldOf 0x60 1) 26 Code.notAHead
     ∷ []

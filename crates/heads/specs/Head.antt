@@ -1,7 +1,7 @@
 -- Capture heads. 01: "Head, 14 bytes: SPN, 16-bit version 1, 16-bit D, five-byte frequency, mode byte, size byte." 02, No. 9: "Version
 -- 2 of the head adds the serial (eight bytes, all zero for unknown) and the clock (four bytes, the 01 range) after the size byte, 26
--- bytes in all."
-use Prim.Native.Nat.{ℕ}
+-- bytes in all." No. 7: "the capture head (mode byte bit 6 set for two channels)".
+use Prim.Native.Nat.{ℕ, _+_, _*_, _/_, _%_}
 use mathlib.Core.Path.{_≡_}
 use mathlib.Core.Bool.{Bool, true, _&&_, _||_, not}
 use mathlib.Core.List.{List, [], _∷_, _++_}
@@ -17,7 +17,8 @@ use Rattle.tuning.specs.Bands.{inBands}
 use Rattle.tuning.specs.Word.{isClock}
 use Rattle.packets.specs.declared.Form.{Form}
 use Rattle.packets.specs.Forms.{formFor, listedForm}
-use Rattle.items.specs.Settings.{holdsSerial}
+use Rattle.packets.specs.Channels.{isCount, eachOf}
+use Rattle.items.specs.Settings.{isSize, holdsSerial}
 use Rattle.heads.specs.declared.Head.{Head}
 use Rattle.heads.specs.declared.Written.{Written}
 use Rattle.heads.specs.declared.Written.the-variants.{Whole, NotAllowed, NoRoom}
@@ -103,9 +104,21 @@ headIn s =
 
 -- ---- the values that are allowed
 
+-- how many channels the capture's packets hold: "mode byte bit 6 set for two channels", in both versions
+abbrev pub channelsIn : Head → ℕ
+channelsIn h = 1 + h .mode / 0x40 % 2
+
+-- the mode byte without bit 6, as the box has it: 80 or 00
+abbrev pub boxMode : ℕ → ℕ
+boxMode mode = 0x80 * (mode / 0x80) + mode % 0x40
+
 -- the packet form that a head announces
 abbrev pub formIn : Head → Form
-formIn h = formFor (h .mode) (h .size)
+formIn h = formFor (boxMode (h .mode)) (h .size)
+
+-- the form as each channel has it
+abbrev pub eachIn : Head → Form
+eachIn h = eachOf (channelsIn h) (formIn h)
 
 -- "eight bytes, all zero for unknown": eight of A-Z, 0-9, or none
 abbrev pub headSerial : ℕ → Bool
@@ -175,7 +188,12 @@ openedSays OtherVersion = record { code = Code.otherVersion; heads = [] }
 unfoldable pub headReadingOf : List ℕ → HeadReading
 headReadingOf s = record { code = headReadCode s; heads = pick (eqb (headReadCode s) Code.done) (headIn s ∷ []) [] }
 
--- ---- what is proved of it, of both versions at once: proofs/Rounds
+-- ---- what is proved of it, of both versions at once: proofs/Listed, proofs/Rounds
+
+-- A mode byte that a head may have is one of four, with a size byte of 01. Each says 1 or 2 channels.
+pub record FourModes : Type 0 where
+  pub exactly : (h : Head) → listedForm (formIn h) ≡ oneOf (h .mode) (0x80 ∷ 0x00 ∷ 0xC0 ∷ 0x40 ∷ []) && isSize (h .size)
+  pub channels : (h : Head) → isCount (channelsIn h) ≡ true
 
 -- "14 bytes", "26 bytes in all"
 abbrev pub AsLongAsItsVersion : Type 0

@@ -10,7 +10,7 @@ use Rattle.heads.specs.declared.Head.{Head}
 use Rattle.rates.specs.Rate.{isD}
 use Rattle.tuning.specs.Bands.{inBands}
 use Rattle.packets.specs.Forms.{formFor, listedForm}
-use Rattle.heads.specs.Head.{isHeadVersion, headBytes}
+use Rattle.heads.specs.Head.{isHeadVersion, boxMode, headBytes}
 use Rattle.heads.specs.Moving.{movedTo, movedChecks}
 
 -- a head by the first eight and the last eight of its first 14 bytes, each as one number
@@ -29,7 +29,7 @@ headByWords low high serial clock =
 -- the values that both versions have are allowed
 abbrev pub firstAllowed : ℕ → ℕ → ℕ → ℕ → ℕ → Bool
 firstAllowed version divisor frequency mode size =
-    isHeadVersion version && isD divisor && inBands frequency && listedForm (formFor mode size)
+    isHeadVersion version && isD divisor && inBands frequency && listedForm (formFor (boxMode mode) size)
 
 unfoldable pub putCode : ℕ → Head → ℕ → ℕ
 putCode v h room = firstOf (movedChecks v h room) Code.done

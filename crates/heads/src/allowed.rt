@@ -2,7 +2,8 @@
 ghost use mathlib.Core.Path.{_≡_};
 ghost use mathlib.Core.Bool.{_&&_};
 ghost use Rattle.tuning.specs.Word.{isClock};
-ghost use Rattle.heads.specs.Head.{isHeadVersion, headLength, formIn, headSerial, bare, allowedHead};
+ghost use Rattle.heads.specs.Head.{isHeadVersion, headLength, channelsIn, boxMode, formIn};
+ghost use Rattle.heads.specs.Head.{headSerial, bare, allowedHead};
 ghost use Rattle.heads.specs.Inside.{firstAllowed};
 use crate::Head;
 use packets::Form;
@@ -26,11 +27,25 @@ pub fn head_length(version: u32) -> usize
     14
 }
 
+// How many channels a capture's packets hold, by its head: bit 6 of the mode byte is set for two.
+pub fn channels_in(h: Head) -> u8
+    ensures { λ r. ⌜ r ≡ channelsIn h ⌝ }
+{
+    1 + h.mode / 0x40 % 2
+}
+
+// The mode byte without bit 6.
+fn box_mode(mode: u8) -> u8
+    ensures { λ r. ⌜ r ≡ boxMode mode ⌝ }
+{
+    0x80 * (mode / 0x80) + mode % 0x40
+}
+
 // The packet form that a head announces; no form where its mode or its size is none of the table's.
 pub fn form_in(h: Head) -> Form
     ensures { λ r. ⌜ r ≡ formIn h ⌝ }
 {
-    packets::form_for(h.mode, h.size)
+    packets::form_for(box_mode(h.mode), h.size)
 }
 
 // A serial that a head may have: eight of A-Z, 0-9, or none.
@@ -50,15 +65,15 @@ pub(crate) fn is_bare(h: Head) -> bool
     (h.serial == 0) & (h.clock == NOMINAL)
 }
 
-// Whether the values are allowed that both versions have: mode and size are those of a listed form. They come one by one, and not
-// as a head, since a struct goes through memory.
+// Whether the values are allowed that both versions have: mode and size are those of a listed form, whatever bit 6 is. They come one by
+// one, and not as a head, since a struct goes through memory.
 pub(crate) fn first_allowed(version: u32, divisor: u32, frequency: u64, mode: u8, size: u8) -> bool
     ensures { λ r. ⌜ r ≡ firstAllowed version divisor frequency mode size ⌝ }
 {
     is_head_version(version)
         & rates::is_d(divisor)
         & tuning::in_bands(frequency)
-        & items::ranges::is_mode(mode)
+        & items::ranges::is_mode(box_mode(mode))
         & items::ranges::is_size(size as u32)
 }
 

@@ -10,19 +10,20 @@ use borrow.Author.Tests.{eqb-true}
 use Rattle.wire.specs.Choice.{pick}
 use Rattle.wire.specs.Lists.{same}
 use Rattle.wire.specs.Number.{field}
-use Rattle.wire.proofs.Laws.{never, and-left, or-rest, or-right}
+use Rattle.wire.proofs.Laws.{never, and-left, or-rest, or-right, pick-keeps}
 use Rattle.rates.specs.Rate.{isD}
 use Rattle.tuning.specs.Bands.{inBands}
 use Rattle.tuning.specs.Word.{isClock}
 use Rattle.packets.specs.Forms.{formFor, listedForm}
 use Rattle.items.specs.Settings.{isSerial, allSerial, holdsSerial}
 use Rattle.heads.specs.declared.Head.{Head}
-use Rattle.heads.specs.Head.{unknown, nominal, isHeadVersion, headSerial, namingOk, formIn, allowedHead}
+use Rattle.heads.specs.Head.{unknown, nominal, isHeadVersion, headSerial, namingOk, boxMode, formIn, allowedHead}
 use Rattle.heads.proofs.Codes.{allowed-by}
 use Rattle.headwords.specs.declared.Worded.{Worded}
 use Rattle.headwords.specs.declared.Worded.the-variants.{Head as Found, BadDivisor, BadFrequency, BadBits, BadSize}
 use Rattle.headwords.specs.declared.Worded.the-variants.{BadSerial, BadClock}
-use Rattle.headwords.specs.Words.{numberOf, word24, word16, modeOf, large, small, sizeOf, dash, serialWord, serialOf}
+use Rattle.headwords.specs.Words.{numberOf, word24, word16, twice24, bitsWord, modeOf, large, small, sizeOf}
+use Rattle.headwords.specs.Words.{dash, serialWord, serialOf}
 use Rattle.headwords.specs.Words.{plainOf, namesOf, Fit}
 use Rattle.headwords.proofs.Words.{holds-there}
 
@@ -39,24 +40,28 @@ plainBy d hz bits size h =
     pick (not d) BadDivisor (pick (not hz) BadFrequency (pick (not bits) BadBits (pick (not size) BadSize (Found h))))
 
 module _ (d hz bits size : List ℕ) where
-  pub plain-by : {p q s t : Bool} → isD (numberOf d) ≡ p → inBands (numberOf hz) ≡ q → (same bits word24 || same bits word16) ≡ s
+  pub plain-by : {p q s t : Bool} → isD (numberOf d) ≡ p → inBands (numberOf hz) ≡ q → bitsWord bits ≡ s
       → (same size large || same size small) ≡ t → plainOf d hz bits size ≡ plainBy p q s t (plainHead d hz bits size)
   unfolding plainOf
   plain-by e f g h = rw (e, f, g, h)
 
-  -- each of the four forms is one of the table
+  -- each of the four forms is one of the table, of one channel and of two
   formed : listedForm (formIn (plainHead d hz bits size)) ≡ true
-  formed = by (same bits word24) (same size large)
+  formed =
+      pick-keeps Formed (same bits word24 || same bits word16) (pick (same bits word24) 0x80 0x00) (pick (same bits twice24) 0xC0 0x40)
+      (λ one. pick-keeps Formed (same bits word24) 0x80 0x00 (λ e. by 0x80 refl refl) (λ e. by 0x00 refl refl))
+      (λ two. pick-keeps Formed (same bits twice24) 0xC0 0x40 (λ e. by 0xC0 refl refl) (λ e. by 0x40 refl refl))
     where
-      by : (deep big : Bool) → listedForm (formFor (pick deep 0x80 0x00) (pick big 0 1)) ≡ true
-      by true true = refl
-      by true false = refl
-      by false true = refl
-      by false false = refl
+      Formed : ℕ → Type 0
+      Formed mode = listedForm (formFor (boxMode mode) (sizeOf size)) ≡ true
+
+      by : (mode : ℕ) → listedForm (formFor (boxMode mode) 0) ≡ true → listedForm (formFor (boxMode mode) 1) ≡ true → Formed mode
+      by mode big little =
+          pick-keeps (λ (z : ℕ). listedForm (formFor (boxMode mode) z) ≡ true) (same size large) 0 1 (λ e. big) (λ e. little)
 
   pub plain-fit : Fit (plainOf d hz bits size)
   plain-fit =
-      let bits-ok : Bool = same bits word24 || same bits word16 in
+      let bits-ok : Bool = bitsWord bits in
       let size-ok : Bool = same size large || same size small in
       subst Fit (sym (plain-by refl refl refl refl)) (go (isD (numberOf d)) (inBands (numberOf hz)) bits-ok size-ok refl refl)
     where

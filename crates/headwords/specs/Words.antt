@@ -1,4 +1,5 @@
--- The words of the program head: `D HZ BITS SIZE`, of a head of version 1, and `SERIAL CLOCK` more, of version 2 (02, No. 9).
+-- The words of the program head: `D HZ BITS SIZE`, of a head of version 1, and `SERIAL CLOCK` more, of version 2 (02, No. 9). BITS also
+-- says how many channels there are (02, No. 7).
 use Prim.Native.Nat.{ℕ, _+_, _-_, _*_}
 use mathlib.Core.Path.{_≡_}
 use mathlib.Core.Bool.{Bool, true, _&&_, _||_, not}
@@ -37,15 +38,27 @@ valueBehind n (b ∷ bs) = valueBehind (n * 10 + (b - 0x30)) bs
 unfoldable pub numberOf : List ℕ → ℕ
 numberOf word = pick (leb (length word) 9 && allDigits word) (valueBehind 0 word) 0
 
--- `24` and `16`: the mode byte of so many bits
+-- `24` and `16`, of one channel
 abbrev pub word24 : List ℕ
 word24 = 0x32 ∷ 0x34 ∷ []
 
 abbrev pub word16 : List ℕ
 word16 = 0x31 ∷ 0x36 ∷ []
 
+-- `2x24` and `2x16`, of two
+abbrev pub twice24 : List ℕ
+twice24 = 0x32 ∷ 0x78 ∷ word24
+
+abbrev pub twice16 : List ℕ
+twice16 = 0x32 ∷ 0x78 ∷ word16
+
+abbrev pub bitsWord : List ℕ → Bool
+bitsWord word = (same word word24 || same word word16) || (same word twice24 || same word twice16)
+
+-- the mode byte: 80 or 00 by the bits, and "bit 6 set for two channels"
 abbrev pub modeOf : List ℕ → ℕ
-modeOf bits = pick (same bits word24) 0x80 0x00
+modeOf bits =
+    pick (same bits word24 || same bits word16) (pick (same bits word24) 0x80 0x00) (pick (same bits twice24) 0xC0 0x40)
 
 -- `large` and `small`: the size byte
 abbrev pub large : List ℕ
@@ -74,7 +87,7 @@ unfoldable pub plainOf : List ℕ → List ℕ → List ℕ → List ℕ → Wor
 plainOf d hz bits size =
     pick (not (isD (numberOf d))) BadDivisor
     (pick (not (inBands (numberOf hz))) BadFrequency
-    (pick (not (same bits word24 || same bits word16)) BadBits
+    (pick (not (bitsWord bits)) BadBits
     (pick (not (same size large || same size small)) BadSize
     (Found
     (record {

@@ -4,7 +4,13 @@ ghost use mathlib.Core.Path.{_≡_};
 ghost use mathlib.Core.Bool.{_||_};
 ghost use Rattle.wire.specs.Lists.{same};
 ghost use Rattle.wire.specs.Choice.{pick};
-ghost use Rattle.headwords.specs.Words.{isDigit, numberOf, serialWord, serialOf, plainOf, namesOf, namedOf, Fit};
+ghost use Rattle.headwords.specs.Words.{isDigit, numberOf, bitsWord, modeOf, serialWord, serialOf};
+ghost use Rattle.headwords.specs.Words.{plainOf, namesOf, namedOf, Fit};
+
+// The mode bytes of two channels: those of one, with bit 6.
+const TWICE_24: u8 = 0xC0;
+
+const TWICE_16: u8 = 0x40;
 
 // What words come to: a head, or the first of them that is none of those allowed.
 pub enum Worded {
@@ -69,6 +75,26 @@ fn chosen(word: &[u8], first: &[u8], one: u8, other: u8) -> u8
     other
 }
 
+// The bits of a sample, with `2x` before them where there are two channels.
+fn is_bits_word(word: &[u8]) -> bool
+    ensures { λ r. ⌜ r ≡ bitsWord (now (word .entry)) ⌝ }
+{
+    if is_either(word, b"24", b"16") {
+        return true;
+    }
+    is_either(word, b"2x24", b"2x16")
+}
+
+// The mode byte that such a word stands for.
+fn mode_of(word: &[u8]) -> u8
+    ensures { λ r. ⌜ r ≡ modeOf (now (word .entry)) ⌝ }
+{
+    if is_either(word, b"24", b"16") {
+        return chosen(word, b"24", packets::MODE_24, packets::MODE_16);
+    }
+    chosen(word, b"2x24", TWICE_24, TWICE_16)
+}
+
 // Eight of A-Z, 0-9, or a dash.
 fn is_serial_word(word: &[u8]) -> bool
     ensures { λ r. ⌜ r ≡ serialWord (now (word .entry)) ⌝ }
@@ -104,7 +130,7 @@ pub fn plain(d: &[u8], hz: &[u8], bits: &[u8], size: &[u8]) -> Worded
     if !tuning::in_bands(frequency) {
         return Worded::BadFrequency;
     }
-    if !is_either(bits, b"24", b"16") {
+    if !is_bits_word(bits) {
         return Worded::BadBits;
     }
     if !is_either(size, b"large", b"small") {
@@ -114,7 +140,7 @@ pub fn plain(d: &[u8], hz: &[u8], bits: &[u8], size: &[u8]) -> Worded
         version: 1,
         divisor,
         frequency,
-        mode: chosen(bits, b"24", packets::MODE_24, packets::MODE_16),
+        mode: mode_of(bits),
         size: chosen(size, b"large", packets::LARGE, packets::SMALL),
         serial: 0,
         clock: heads::NOMINAL,

@@ -67,6 +67,7 @@ all-look =
     then (tt, (λ a b c d e f. refl), tt)
     then (tt, (λ a b c d e f. refl), tt)
     then ((λ a b c d e f. refl), (λ a b c d e f. refl), tt)
+    then ((λ a b c d e f. refl), (λ a b c d e f. refl), tt)
     then ((λ a b c d e f. refl), (λ a b c d e f. refl), (λ a b c d e f. refl))
     then ((λ a b c d e f. refl), (λ a b c d e f. refl), tt)
     then ((λ a b c d e f. refl), (λ a b c d e f. refl), tt)

@@ -15,7 +15,8 @@ use Rattle.items.specs.declared.Settings.{Settings}
 use Rattle.items.specs.Items.{Item, rowOf, frequency, listedItem}
 use Rattle.items.specs.Header.{headerChecks}
 use Rattle.items.specs.Table.{offered, isTotal, tableChecks}
-use Rattle.items.specs.Answer.{Message, itemIn, row, parameters, valueAllowed, refusedRunning, itemChecks, itemCode, checks}
+use Rattle.items.specs.Answer.{Message, itemIn, row, parameters, channelAllowed, valueAllowed, refusedRunning}
+use Rattle.items.specs.Answer.{itemChecks, itemCode, checks}
 use Rattle.items.specs.Answer.{codeOf, settingsAfter, judgedOf, replyDue, replyOf}
 use Rattle.items.proofs.Rows.{_then_, found, row-code}
 
@@ -23,7 +24,7 @@ use Rattle.items.proofs.Rows.{_then_, found, row-code}
 only-range : (size code : ℕ) → isTotal (rowOf code .onRange) size ≡ true → rowOf code ≡ frequency
 only-range size =
     found (λ i. isTotal (i .onRange) size ≡ true → i ≡ frequency) no
-    (no then no then no then no then no then no then (λ e. refl) then no then no then no then no then tt)
+    (no then no then no then no then no then no then no then (λ e. refl) then no then no then no then no then tt)
   where
     no : {i : Item} → false ≡ true → i ≡ frequency
     no e = absurd (true-not-false (sym e))
@@ -40,6 +41,9 @@ module _ (s : Settings) (m : Message) (h : codeOf s m ≡ 1) where
 
   pub has-length : isTotal (offered (row m) (m .type)) (m .size) ≡ true
   has-length = not-false _ (passed s m h .1 .1 .1 .1 .1 .0)
+
+  pub has-channel : channelAllowed (s .setup) (row m .echoed) (m .type) (getD (parameters m) 0 0) ≡ true
+  has-channel = not-false _ (passed s m h .1 .1 .1 .1 .1 .1 .0)
 
   pub has-value : valueAllowed (row m) (m .type) (parameters m) ≡ true
   has-value = not-false _ (passed s m h .1 .1 .1 .1 .1 .1 .1 .0)

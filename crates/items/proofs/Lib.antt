@@ -8,3 +8,4 @@ pub mod TenBytes
 pub mod States
 pub mod Versions
 pub mod Behind
+pub mod Channels

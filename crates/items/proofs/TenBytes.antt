@@ -45,6 +45,7 @@ six-decide (a ∷ b ∷ c ∷ d ∷ e ∷ f ∷ p) long code =
     then record { checked = λ k s. refl; stored = λ s. refl; replied = λ k s. refl }
     then record { checked = λ k s. refl; stored = λ s. refl; replied = λ k s. refl }
     then record { checked = λ k s. refl; stored = λ s. refl; replied = λ k s. refl }
+    then record { checked = λ k s. refl; stored = λ s. refl; replied = λ k s. refl }
     then tt)
     code
   where

@@ -12,7 +12,8 @@ use Rattle.wire.specs.Header.{headerOf, typeSet, typeRange, typeReply, typeRang
 use Rattle.tuning.specs.Bands.{bands, rangeBytes}
 use Rattle.items.specs.declared.Settings.{Settings}
 use Rattle.items.specs.declared.Judged.{Judged}
-use Rattle.items.specs.Items.{Echoed, noByte, anId, anyChannel, zeroAndAll, echoes, Item, rowOf}
+use Rattle.items.specs.Settings.{openChannels, covers, channelShown}
+use Rattle.items.specs.Items.{Echoed, noByte, anId, anyChannel, aChannel, echoes, Item, rowOf}
 use Rattle.items.specs.Header.{headerChecks}
 use Rattle.items.specs.Table.{tableChecks}
 
@@ -33,12 +34,21 @@ row m = rowOf (itemIn m)
 abbrev pub parameters : Message → List ℕ
 parameters m = drop 4 (m .bytes)
 
--- "Channel for 0020 and 0038: 00, and on set also FF."
-abbrev pub channelAllowed : Echoed → ℕ → ℕ → Bool
-channelAllowed noByte kind byte = true
-channelAllowed anId kind byte = true
-channelAllowed anyChannel kind byte = true
-channelAllowed zeroAndAll kind byte = oneOf byte (pick (eqb kind typeSet) (0x00 ∷ 0xFF ∷ []) (0x00 ∷ []))
+-- By 0019's value. "Channel for 0020 and 0038: 00, and on set also FF." "With 4, frequency, tuning word and gain are open for channels
+-- 00 and 02"; "channel 02 with value 0 is 15".
+abbrev pub channelAllowed : ℕ → Echoed → ℕ → ℕ → Bool
+channelAllowed setup noByte kind byte = true
+channelAllowed setup anId kind byte = true
+channelAllowed setup anyChannel kind byte = true
+channelAllowed setup aChannel kind byte = oneOf byte (pick (eqb kind typeSet) (0xFF ∷ []) [] ++ openChannels setup)
+
+-- A set covers what a request asks for, by 0019's value, the set's channel byte and the request's. Frequency and gain are a channel's;
+-- any other item is one for all channels.
+abbrev pub coversAsked : ℕ → Echoed → ℕ → ℕ → Bool
+coversAsked setup noByte byte asked = true
+coversAsked setup anId byte asked = true
+coversAsked setup anyChannel byte asked = true
+coversAsked setup aChannel byte asked = covers setup byte (channelShown asked)
 
 -- the value that a set has is allowed, or the id that a request has
 abbrev pub valueAllowed : Item → ℕ → List ℕ → Bool
@@ -51,7 +61,7 @@ refusedRunning i kind s p = eqb kind typeSet && s .running && i .rule .locked s 
 -- The last three checks, which an item makes of its parameters.
 abbrev pub itemChecks : Item → ℕ → Settings → List ℕ → List Check
 itemChecks i kind s p =
-    check Code.channelNotAllowed (not (channelAllowed (i .echoed) kind (getD p 0 0)))
+    check Code.channelNotAllowed (not (channelAllowed (s .setup) (i .echoed) kind (getD p 0 0)))
     ∷ check Code.valueNotAllowed (not (valueAllowed i kind p))
     ∷ check Code.notWhileRunning (refusedRunning i kind s p)
     ∷ []

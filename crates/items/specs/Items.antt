@@ -11,8 +11,8 @@ use Rattle.rates.specs.Rate.{mayAsk, nearestOf, isD, rateOf}
 use Rattle.tuning.specs.Bands.{inBands}
 use Rattle.tuning.specs.Word.{isClock}
 use Rattle.items.specs.declared.Settings.{Settings}
-use Rattle.items.specs.Settings.{isGain, isMode, isSize, withFrequency, withCount, withClock, withDivisor, withRunning, withMode}
-use Rattle.items.specs.Settings.{withGain, withSize}
+use Rattle.items.specs.Settings.{isGain, isMode, isSize, isSetup, withCount, withClock, withDivisor, withRunning, withMode}
+use Rattle.items.specs.Settings.{withSize, withSetup, channelAt, onChannels, tunedTo, gainedTo}
 
 -- what the table has for an item and a kind: the total length of the message, or a dash
 pub data Offer : Type 0 where
@@ -25,15 +25,15 @@ pub data Echoed : Type 0 where
   anId : Echoed
   -- "any channel byte"
   anyChannel : Echoed
-  -- "00, and on set also FF"
-  zeroAndAll : Echoed
+  -- a tuning channel
+  aChannel : Echoed
 
 -- how many bytes that is
 abbrev pub echoes : Echoed → ℕ
 echoes noByte = 0
 echoes anId = 1
 echoes anyChannel = 1
-echoes zeroAndAll = 1
+echoes aChannel = 1
 
 -- What the table's last column and the paragraphs below it say of an item. Parameters are the message's bytes from the
 -- fifth on.
@@ -163,6 +163,17 @@ stateRule =
       value = λ s p. stateBytes (pick (s .running) run idle) (s .mode);
     }
 
+-- channel setup: "values 0 (single, the fresh value) and 4 (two channels, one converter)"; "setting it while running is 17"
+abbrev setupRule : Rule
+setupRule =
+    record {
+      settable = λ p. isSetup (getD p 0 0);
+      askable = always;
+      locked = λ s p. true;
+      stored = λ s p. withSetup (getD p 0 0) s;
+      value = λ s p. bytes 1 (s .setup);
+    }
+
 -- frequency: channel, 40-bit Hz
 abbrev frequencyRule : Rule
 frequencyRule =
@@ -170,8 +181,8 @@ frequencyRule =
       settable = λ p. inBands (field 1 5 p);
       askable = always;
       locked = never;
-      stored = λ s p. withFrequency (field 1 5 p) s;
-      value = λ s p. bytes 5 (s .first .frequency);
+      stored = λ s p. onChannels (getD p 0 0) (tunedTo (field 1 5 p) (s .clock)) s;
+      value = λ s p. bytes 5 (channelAt (getD p 0 0) s .frequency);
     }
 
 -- RF gain: channel, signed byte 0, -10, -20 or -30
@@ -181,8 +192,8 @@ gainRule =
       settable = λ p. isGain (getD p 1 0);
       askable = always;
       locked = never;
-      stored = λ s p. withGain (getD p 1 0) s;
-      value = λ s p. bytes 1 (s .first .gain);
+      stored = λ s p. onChannels (getD p 0 0) (gainedTo (getD p 1 0)) s;
+      value = λ s p. bytes 1 (channelAt (getD p 0 0) s .gain);
     }
 
 -- clock: any channel byte, 32-bit Hz, 79,992,000 to 80,008,000 (house)
@@ -246,12 +257,16 @@ status = line 0x0005 dash (total 4) dash noByte statusRule
 abbrev pub state : Item
 state = line 0x0018 (total 8) (total 4) dash noByte stateRule
 
+-- "Add item 0019 of document 003 (set 5, request 4)" (02, No. 7)
+abbrev pub channelSetup : Item
+channelSetup = line 0x0019 (total 5) (total 4) dash noByte setupRule
+
 -- "the only range request, length 5"
 abbrev pub frequency : Item
-frequency = line 0x0020 (total 10) (total 5) (total 5) zeroAndAll frequencyRule
+frequency = line 0x0020 (total 10) (total 5) (total 5) aChannel frequencyRule
 
 abbrev pub gain : Item
-gain = line 0x0038 (total 6) (total 5) dash zeroAndAll gainRule
+gain = line 0x0038 (total 6) (total 5) dash aChannel gainRule
 
 abbrev pub clock : Item
 clock = line 0x00B0 (total 9) (total 5) dash anyChannel clockRule
@@ -270,6 +285,7 @@ items =
     ∷ versions
     ∷ status
     ∷ state
+    ∷ channelSetup
     ∷ frequency
     ∷ gain
     ∷ clock

@@ -10,8 +10,8 @@ pub use range_reply::put_range_reply;
 pub use ranges::fresh;
 pub use ranges::in_range;
 
-// A tuning channel. Gain and packet size have 32 bits where eight would do: so no odd number of bytes is left over in a
-// box, which the compiler would copy one by one with each message (docs/BENCHMARKS.md).
+// A tuning channel. Gain and packet size have 32 bits where eight would do, and 0019's value 16: so no odd number of bytes is
+// left over in a box, which the compiler would copy one by one with each message (docs/BENCHMARKS.md).
 pub struct Channel {
     // Hz
     pub frequency: u64,
@@ -23,7 +23,10 @@ pub struct Channel {
 
 // The settings of a box. A box started fresh keeps each within its range; specs/Settings.antt has the ranges.
 pub struct Settings {
+    // channel 00
     pub first: Channel,
+    // channel 02
+    pub second: Channel,
     // packets cut in this capture
     pub count: u64,
     // Hz
@@ -32,6 +35,8 @@ pub struct Settings {
     pub divisor: u32,
     // 0 large, 1 small
     pub size: u32,
+    // 0 a single channel, 4 two of them
+    pub setup: u16,
     pub running: bool,
     // 80 for 24 bits, 00 for 16
     pub mode: u8,

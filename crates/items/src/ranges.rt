@@ -3,12 +3,17 @@ ghost use mathlib.Core.Path.{_≡_};
 ghost use mathlib.Core.Bool.{_&&_};
 ghost use lib.ListN.{length};
 ghost use Rattle.tuning.specs.Word.{isClock};
-ghost use Rattle.items.specs.Settings.{channelInRange, inRange, freshOf, freshAnswer, isMode, isGain, isSize};
+ghost use Rattle.items.specs.Settings.{channelInRange, inRange, freshOf, freshAnswer, isMode, isGain, isSize, isSetup};
 ghost use Rattle.items.specs.Settings.{isSerialByte, allSerial, holdsSerial};
 use crate::Channel;
 use crate::FreshSettings;
 use crate::Settings;
 use wire::codes;
+
+// 0019: "values 0 (single, the fresh value) and 4 (two channels, one converter)".
+pub const SINGLE: u16 = 0;
+
+pub const DUAL: u16 = 4;
 
 // Every setting lies within its range. The serial's bytes are tested first; of the numbers all are tested, none left
 // out because of another.
@@ -19,9 +24,11 @@ pub fn in_range(s: Settings) -> bool
         return false;
     }
     is_tuned(s.first, s.clock)
+        & is_tuned(s.second, s.clock)
         & (s.count <= packets::MOST)
         & rates::is_d(s.divisor)
         & is_size(s.size)
+        & is_setup(s.setup)
         & is_mode(s.mode)
 }
 
@@ -65,21 +72,24 @@ pub fn fresh(serial: &[u8]) -> FreshSettings
     }
 }
 
-// "A fresh box: idle, mode 80, 10,000,000 Hz, gain 0, clock 80,000,000, D = 100, large packets, count 0."
+// "A fresh box: idle, mode 80, 10,000,000 Hz, gain 0, clock 80,000,000, D = 100, large packets, count 0." Channel 02 has "fresh ones at
+// first" too.
 fn started(serial: [u8; 8]) -> Settings
     ensures { λ r. ⌜ r ≡ freshOf serial ⌝ }
 {
-    let first = Channel {
+    let channel = Channel {
         frequency: 10_000_000,
         word: 536_870_912,
         gain: 0,
     };
     Settings {
-        first: first,
+        first: channel,
+        second: channel,
         count: 0,
         clock: 80_000_000,
         divisor: 100,
         size: packets::LARGE as u32,
+        setup: SINGLE,
         running: false,
         mode: packets::MODE_24,
         serial,
@@ -125,6 +135,13 @@ pub fn is_size(byte: u32) -> bool
     ensures { λ r. ⌜ r ≡ isSize byte ⌝ }
 {
     (byte == packets::LARGE as u32) | (byte == packets::SMALL as u32)
+}
+
+// Channel setup: 0 a single channel, 4 two of them.
+pub fn is_setup(byte: u16) -> bool
+    ensures { λ r. ⌜ r ≡ isSetup byte ⌝ }
+{
+    (byte == SINGLE) | (byte == DUAL)
 }
 
 // A serial as the number of its eight bytes: each is A-Z or 0-9.

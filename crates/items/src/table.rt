@@ -21,6 +21,8 @@ pub const STATUS: u16 = 0x0005;
 
 pub const STATE: u16 = 0x0018;
 
+pub const CHANNEL_SETUP: u16 = 0x0019;
+
 pub const FREQUENCY: u16 = 0x0020;
 
 pub const GAIN: u16 = 0x0038;
@@ -42,6 +44,7 @@ pub fn expected(item: u16, kind: u8) -> Expected
         VERSIONS => asked(kind, 5),
         STATUS => asked(kind, 4),
         STATE => set_or_asked(kind, 8, 4),
+        CHANNEL_SETUP => set_or_asked(kind, 5, 4),
         FREQUENCY => match kind {
             types::SET => Expected::Total(10),
             types::REQUEST => Expected::Total(5),

@@ -81,20 +81,24 @@ fn cut(s: Station, p: u32, packet: &mut [u8]) -> Cut {
     cut_first(s, &samples, packet)
 }
 
-// The first I and the first Q.
-fn say_two(numbers: &[i32]) {
-    if 2 <= numbers.len() {
+// The first I and the first Q of each channel.
+fn say_first(numbers: &[i32], channels: u8) {
+    if 4 <= numbers.len() {
         say_signed(numbers[0]);
         say_signed(numbers[1]);
+        if channels == 2 {
+            say_signed(numbers[2]);
+            say_signed(numbers[3]);
+        }
     }
 }
 
-// The first numbers that a packet unpacks to.
-fn say_numbers(packet: &[u8]) {
+// The first numbers that a packet of so many channels unpacks to.
+fn say_numbers(packet: &[u8], channels: u8) {
     let mut numbers = [0i32; 512];
     let unpacked = reader::unpack(packet, &mut numbers);
     if unpacked.code == codes::DONE {
-        say_two(&numbers);
+        say_first(&numbers, channels);
     }
 }
 
@@ -115,7 +119,7 @@ fn read_packet(r: Reader, packet: &[u8]) -> Reader {
     say_number(b" sample", heard.sample);
     say_number(b" missed", heard.missed);
     say_number(b" of", heard.total);
-    say_numbers(packet);
+    say_numbers(packet, r.channels);
     say(b"\n");
     heard.reader
 }
@@ -162,6 +166,14 @@ fn packets_of(night: Night, count: u32) -> Night {
     after
 }
 
+// The mode byte of the head: "bit 6 set for two channels".
+fn head_mode(settings: Settings) -> u8 {
+    if channels::count_of(settings) == 2 {
+        return settings.mode | 0x40;
+    }
+    settings.mode
+}
+
 // A span that has taken the head of the capture that the box begins; it names the box and its clock.
 fn open(settings: Settings) -> Span {
     let mut head = [0u8; 26];
@@ -171,7 +183,7 @@ fn open(settings: Settings) -> Span {
             version: 2,
             divisor: settings.divisor,
             frequency: settings.first.frequency,
-            mode: settings.mode,
+            mode: head_mode(settings),
             size: size_byte(settings),
             serial: wire::number_at(&serial, 0, 8),
             clock: settings.clock,
@@ -188,13 +200,13 @@ fn close(s: Span) {
     say(first(&lines, told.wrote));
 }
 
-// A capture in a mode and size, from its first packet to the box's being idle again.
+// A capture in a mode and size, with as many channels as the box has, from its first packet to the box's being idle again.
 pub(crate) fn capture(s: Station, mode: u8, size: u8, count: u32) -> Station {
     let sized = ask(s, b"SetPacketSize", Wish::SetPacketSize(size));
     let running = run(sized, mode);
     let begun = Night {
         station: running,
-        reader: reader::silent(),
+        reader: reader::silent(channels::count_of(running.settings)),
         span: open(running.settings),
     };
     let over = packets_of(begun, count);

@@ -18,5 +18,10 @@ fn main() {
     let tuned = asking::evening(station::session_box());
     let heard = four_forms(tuned);
     // "The packet at position 0 has number 0; at position p of 1 or more, ((p - 1) mod 65,535) + 1": past the number's turn.
-    capturing::capture(heard, packets::MODE_24, packets::SMALL, 65540);
+    let turned = capturing::capture(heard, packets::MODE_24, packets::SMALL, 65540);
+    // the same with two channels, and a short capture of 16 bits
+    let two = asking::channels(turned, 4);
+    let twice = capturing::capture(two, packets::MODE_24, packets::SMALL, 65540);
+    let last = capturing::capture(twice, packets::MODE_16, packets::LARGE, 6);
+    asking::channels(last, 0);
 }

@@ -29,7 +29,7 @@ decided-accepted s to code h = rw h
 -- what a row asks of a set, and what was found
 module _ (i : Item) (s : Settings) (p : List ℕ) {code : ℕ} {channel value locked : Bool}
     (coded : code ≡ setCode channel value locked)
-    (channels : channel ≡ channelAllowed (i .echoed) typeSet (getD p 0 0))
+    (channels : channel ≡ channelAllowed (s .setup) (i .echoed) typeSet (getD p 0 0))
     (values : value ≡ i .rule .settable p)
     (locks : locked ≡ (s .running && i .rule .locked s p)) where
   pub set-by : {r : Judged} {to : Settings} → r ≡ decided s to code → (i .rule .settable p ≡ true → to ≡ i .rule .stored s p)
@@ -37,5 +37,5 @@ module _ (i : Item) (s : Settings) (p : List ℕ) {code : ℕ} {channel value lo
   set-by {to = to} e stored =
       e
       ∙ rw (coded, channels, values, locks)
-      (decided-alike s to (i .rule .stored s p) (channelAllowed (i .echoed) typeSet (getD p 0 0)) (i .rule .settable p)
+      (decided-alike s to (i .rule .stored s p) (channelAllowed (s .setup) (i .echoed) typeSet (getD p 0 0)) (i .rule .settable p)
       (s .running && i .rule .locked s p) stored)

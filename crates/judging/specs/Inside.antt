@@ -13,11 +13,11 @@ use Rattle.items.specs.declared.Judged.{Judged}
 use Rattle.items.specs.Items.{Item}
 use Rattle.items.specs.Answer.{channelAllowed, valueAllowed}
 
--- a request or a range request, which is not refused while running
-abbrev pub askedBy : Item → List ℕ → ℕ
-askedBy i p =
+-- a request or a range request, by 0019's value: it is not refused while running
+abbrev pub askedBy : ℕ → Item → List ℕ → ℕ
+askedBy setup i p =
     firstOf
-    (check Code.channelNotAllowed (not (channelAllowed (i .echoed) typeRequest (getD p 0 0)))
+    (check Code.channelNotAllowed (not (channelAllowed setup (i .echoed) typeRequest (getD p 0 0)))
     ∷ check Code.valueNotAllowed (not (valueAllowed i typeRequest p)) ∷ [])
     Code.done
 
@@ -36,4 +36,4 @@ decided s to code = record { code = code; settings = pick (eqb code Code.done) t
 abbrev pub setBy : Item → Settings → List ℕ → Judged
 setBy i s p =
     decided s (i .rule .stored s p)
-    (setCode (channelAllowed (i .echoed) typeSet (getD p 0 0)) (i .rule .settable p) (s .running && i .rule .locked s p))
+    (setCode (channelAllowed (s .setup) (i .echoed) typeSet (getD p 0 0)) (i .rule .settable p) (s .running && i .rule .locked s p))

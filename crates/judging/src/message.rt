@@ -3,6 +3,7 @@ ghost use mathlib.Core.Path.{_≡_};
 ghost use Prim.Native.Nat.{_≤_};
 ghost use lib.ListN.{length};
 ghost use Rattle.wire.specs.Number.{field};
+ghost use Rattle.items.specs.Settings.{single};
 ghost use Rattle.items.specs.Items.{versions, frequency, rowOf};
 ghost use Rattle.items.specs.Answer.{judgedOf};
 ghost use Rattle.judging.specs.Inside.{askedBy};
@@ -34,7 +35,7 @@ pub fn judge(s: Settings, kind: u8, size: u16, opening: &[u8; 10]) -> Judged
         return sets::set_item(s, item, &message[4..]);
     }
     Judged {
-        code: asked_code(item, &message[4..]),
+        code: asked_code(s.setup, item, &message[4..]),
         settings: s,
     }
 }
@@ -46,15 +47,15 @@ pub fn item_in(message: &[u8]) -> u16
     wire::number_at(message, 2, 2) as u16
 }
 
-// A request or a range request: the channel of frequency and gain is 00 (15), and there are versions 0 to 3 (16).
-fn asked_code(item: u16, p: &[u8]) -> u8
+// A request or a range request, by 0019's value: the channel of frequency and gain is open (15), and there are versions 0 to 3 (16).
+fn asked_code(setup: u16, item: u16, p: &[u8]) -> u8
     requires { ⌜ 1 ≤ length (now p) ⌝ }
-    ensures { λ r. ⌜ r ≡ askedBy (rowOf item) (now (p .entry)) ⌝ }
+    ensures { λ r. ⌜ r ≡ askedBy setup (rowOf item) (now (p .entry)) ⌝ }
 {
     match item {
         table::VERSIONS => asked_version(p),
-        table::FREQUENCY => asked_channel(p),
-        table::GAIN => asked_channel(p),
+        table::FREQUENCY => asked_channel(setup, p),
+        table::GAIN => asked_channel(setup, p),
         _ => codes::DONE,
     }
 }
@@ -62,7 +63,7 @@ fn asked_code(item: u16, p: &[u8]) -> u8
 // Versions: id 0 to 3; "other id 16".
 fn asked_version(p: &[u8]) -> u8
     requires { ⌜ 1 ≤ length (now p) ⌝ }
-    ensures { λ r. ⌜ r ≡ askedBy versions (now (p .entry)) ⌝ }
+    ensures { λ r. ⌜ r ≡ askedBy single versions (now (p .entry)) ⌝ }
 {
     if values::is_version(p[0]) {
         return codes::DONE;
@@ -70,12 +71,12 @@ fn asked_version(p: &[u8]) -> u8
     codes::VALUE_NOT_ALLOWED
 }
 
-// "Channel for 0020 and 0038: 00".
-fn asked_channel(p: &[u8]) -> u8
+// "Channel for 0020 and 0038: 00"; "channel 02 with value 0 is 15".
+fn asked_channel(setup: u16, p: &[u8]) -> u8
     requires { ⌜ 1 ≤ length (now p) ⌝ }
-    ensures { λ r. ⌜ r ≡ askedBy frequency (now (p .entry)) ⌝ }
+    ensures { λ r. ⌜ r ≡ askedBy setup frequency (now (p .entry)) ⌝ }
 {
-    if p[0] == 0 {
+    if channels::is_open(setup, p[0]) {
         return codes::DONE;
     }
     codes::CHANNEL_NOT_ALLOWED

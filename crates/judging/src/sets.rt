@@ -4,10 +4,8 @@ ghost use mathlib.Core.List.{[], _∷_};
 ghost use Prim.Native.Nat.{_≤_};
 ghost use lib.ListN.{length};
 ghost use Rattle.wire.specs.Codes.{done};
-ghost use Rattle.wire.specs.Header.{typeSet};
-ghost use Rattle.items.specs.Settings.{withTuning};
-ghost use Rattle.items.specs.Items.{zeroAndAll, state, stateAfter, run, frequency, gain, clock, rate, packetSize, rowOf};
-ghost use Rattle.items.specs.Answer.{channelAllowed};
+ghost use Rattle.items.specs.Settings.{onChannels, tunedTo, withClock};
+ghost use Rattle.items.specs.Items.{state, stateAfter, run, channelSetup, frequency, gain, clock, rate, packetSize, rowOf};
 ghost use Rattle.judging.specs.Inside.{setCode, decided, setBy};
 use items::Judged;
 use items::Settings;
@@ -23,6 +21,7 @@ pub(crate) fn set_item(s: Settings, item: u16, p: &[u8]) -> Judged
 {
     match item {
         table::STATE => set_state(s, p),
+        table::CHANNEL_SETUP => set_setup(s, p),
         table::FREQUENCY => set_frequency(s, p),
         table::GAIN => set_gain(s, p),
         table::CLOCK => set_clock(s, p),
@@ -116,24 +115,47 @@ fn started(s: Settings, mode: u8) -> Settings
     begun
 }
 
-// "Channel for 0020 and 0038: 00, and on set also FF."
-fn set_channel(byte: u8) -> bool
-    ensures { λ r. ⌜ r ≡ channelAllowed zeroAndAll typeSet byte ⌝ }
+// Channel setup: 0 a single channel, 4 two of them; not while running. It touches no channel.
+fn set_setup(s: Settings, p: &[u8]) -> Judged
+    requires { ⌜ 1 ≤ length (now p) ⌝ }
+    ensures { λ r. ⌜ r ≡ setBy channelSetup s (now (p .entry)) ⌝ }
 {
-    match byte {
-        0x00 | 0xFF => true,
-        _ => false,
-    }
+    let byte = p[0] as u16;
+    let mut set = s;
+    set.setup = byte;
+    let code = set_code(true, ranges::is_setup(byte), s.running);
+    decide(s, set, code)
 }
 
-// Frequency: channel, 40-bit Hz in one of the bands.
+// Frequency: channel, 40-bit Hz in one of the bands. "Channel for 0020 and 0038: 00, and on set also FF", and 02 where it is open.
 fn set_frequency(s: Settings, p: &[u8]) -> Judged
     requires { ⌜ 1 ≤ length (now p) ⌝ }
     ensures { λ r. ⌜ r ≡ setBy frequency s (now (p .entry)) ⌝ }
 {
     let hz = wire::number_at(p, 1, 5);
-    let code = set_code(set_channel(p[0]), tuning::in_bands(hz), false);
-    tune(s, hz, s.clock, code)
+    let code = set_code(
+        channels::may_set(s.setup, p[0]),
+        tuning::in_bands(hz),
+        false,
+    );
+    tune(s, p[0], hz, code)
+}
+
+// A set with this code that would tune the channels that it covers: their word is that of the frequency at the box's clock. It is
+// worked out only where it is stored.
+fn tune(s: Settings, byte: u8, hz: u64, code: u8) -> Judged
+    ensures { λ r. ⌜ r ≡ decided s (onChannels byte (tunedTo hz (s .clock)) s) code ⌝ }
+{
+    if code != codes::DONE {
+        return refused(code, s);
+    }
+    let word = tuning::word_kept(hz, s.clock);
+    let first = channels::covers(s.setup, byte, channels::FIRST);
+    let second = channels::covers(s.setup, byte, channels::SECOND);
+    let mut set = s;
+    set.first = channels::tuned(s.first, first, hz, word);
+    set.second = channels::tuned(s.second, second, hz, word);
+    accepted(set)
 }
 
 // RF gain: channel, signed byte 0, -10, -20 or -30.
@@ -142,9 +164,16 @@ fn set_gain(s: Settings, p: &[u8]) -> Judged
     ensures { λ r. ⌜ r ≡ setBy gain s (now (p .entry)) ⌝ }
 {
     let byte = p[1] as u32;
+    let first = channels::covers(s.setup, p[0], channels::FIRST);
+    let second = channels::covers(s.setup, p[0], channels::SECOND);
     let mut set = s;
-    set.first.gain = byte;
-    let code = set_code(set_channel(p[0]), ranges::is_gain(byte), false);
+    set.first = channels::gained(s.first, first, byte);
+    set.second = channels::gained(s.second, second, byte);
+    let code = set_code(
+        channels::may_set(s.setup, p[0]),
+        ranges::is_gain(byte),
+        false,
+    );
     decide(s, set, code)
 }
 
@@ -154,23 +183,24 @@ fn set_clock(s: Settings, p: &[u8]) -> Judged
 {
     let hz = wire::number_at(p, 1, 4) as u32;
     let code = set_code(true, tuning::is_clock(hz), false);
-    let first = s.first;
-    tune(s, first.frequency, hz, code)
+    renew(s, hz, code)
 }
 
-// A set with this code that would tune the box to a frequency at a clock: the word is that of both. It is worked out only
-// where it is stored.
-fn tune(s: Settings, hz: u64, clock: u32, code: u8) -> Judged
-    ensures { λ r. ⌜ r ≡ decided s (withTuning hz clock s) code ⌝ }
+// A set with this code that would give the box another clock: either channel's word goes by it, also where the channel is not open.
+fn renew(s: Settings, clock: u32, code: u8) -> Judged
+    ensures { λ r. ⌜ r ≡ decided s (withClock clock s) code ⌝ }
 {
     if code != codes::DONE {
         return refused(code, s);
     }
-    let word = tuning::word_kept(hz, clock);
+    let first = s.first;
+    let second = s.second;
+    let first_word = tuning::word_kept(first.frequency, clock);
+    let second_word = tuning::word_kept(second.frequency, clock);
     let mut set = s;
     set.clock = clock;
-    set.first.frequency = hz;
-    set.first.word = word;
+    set.first.word = first_word;
+    set.second.word = second_word;
     accepted(set)
 }
 

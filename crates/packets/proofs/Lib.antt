@@ -1,5 +1,6 @@
 pub mod Cases
 pub mod Forms
+pub mod Channels
 pub mod Numbers
 pub mod Missed
 pub mod Quotients

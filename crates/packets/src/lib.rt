@@ -7,6 +7,7 @@ ghost use lib.ListN.{getD};
 ghost use Rattle.wire.specs.Choice.{pick};
 ghost use Rattle.wire.specs.Number.{field};
 ghost use Rattle.packets.specs.Forms.{formFor, listedForm, sameForm, totalOf, noForm, formWithHeader, wholeOf};
+ghost use Rattle.packets.specs.Channels.{isCount, pairsEach};
 ghost use Rattle.packets.specs.Numbers.{numberAt, numberIn, stepOf, last};
 ghost use Rattle.packets.specs.Missed.{stepsGive};
 
@@ -106,6 +107,27 @@ pub fn total_of(f: Form) -> u64
 {
     if is_listed(f) {
         return 4 + f.pairs * 2 * (f.bits / 8);
+    }
+    0
+}
+
+// Whether packets can hold so many channels: one or two.
+pub fn is_count(channels: u8) -> bool
+    ensures { λ r. ⌜ r ≡ isCount channels ⌝ }
+{
+    (channels == 1) | (channels == 2)
+}
+
+// The I/Q pairs that each channel has in a packet of a form; 0 where packets cannot hold so many channels. A count is 1 or 2, so
+// this takes no division.
+pub fn pairs_each(channels: u8, f: Form) -> u64
+    ensures { λ r. ⌜ r ≡ pick (isCount channels) (pairsEach channels f) 0 ⌝ }
+{
+    if channels == 1 {
+        return f.pairs;
+    }
+    if channels == 2 {
+        return f.pairs / 2;
     }
     0
 }

@@ -1,4 +1,4 @@
--- A running box within one capture: what feeding leaves running keeps mode, size and count. A box that feeding starts has cut
+-- A running box within one capture: what feeding leaves running keeps mode, size, count and channels. A box that feeding starts has cut
 -- nothing.
 use Prim.Native.Nat.{ℕ}
 use mathlib.Core.Path.{_≡_, refl, sym, _∙_}
@@ -11,6 +11,7 @@ use Rattle.wire.proofs.Laws.{never, and-both, and-rest}
 use Rattle.packets.specs.declared.Form.{Form}
 use Rattle.framing.specs.Framing.{callTakes}
 use Rattle.items.specs.declared.Settings.{Settings}
+use Rattle.items.specs.Settings.{channelsOf}
 use Rattle.items.specs.Items.{Item, rowOf, state, runByte, modeByte}
 use Rattle.items.specs.Answer.{Message, codeOf, settingsAfter, row, parameters, itemIn}
 use Rattle.items.proofs.Rows.{_then_, found}
@@ -21,13 +22,14 @@ use Rattle.station.specs.Feeding.{feedingOf, messageIn}
 use Rattle.station.proofs.Valid.{each-way}
 use Rattle.cutting.specs.Cutting.{formNow}
 
--- What a running box cuts next: the position, and the form.
+-- What a running box cuts next: the position, the form, and of how many channels.
 pub record Next : Type 0 where
   pub position : ℕ
   pub form : Form
+  pub channels : ℕ
 
 abbrev pub nextOf : Settings → Next
-nextOf s = record { position = s .count; form = formNow s }
+nextOf s = record { position = s .count; form = formNow s; channels = channelsOf s }
 
 -- an item's accepted set leaves it, where the box is running before and after the set
 abbrev Leaves : Item → Type 0
@@ -54,7 +56,8 @@ state-starts s p r =
     state-ways (λ t. t .running ≡ true → t .count ≡ 0) (runByte p) (modeByte p) s
     (λ i a. never a) (λ i on a. never (sym r ∙ on)) (λ i off a. refl)
 
--- name, serial, interface, versions and status; state; frequency, gain and clock; rate and packet size, which are locked
+-- name, serial, interface, versions and status; state; channel setup, which is locked; frequency, gain and clock; rate and packet size,
+-- which are locked
 rows-leave : (code : ℕ) → Leaves (rowOf code)
 rows-leave =
     found Leaves (λ s p r l a. refl)
@@ -64,6 +67,7 @@ rows-leave =
     then (λ s p r l a. refl)
     then (λ s p r l a. refl)
     then state-leaves
+    then (λ s p r l a. never (sym l))
     then (λ s p r l a. refl)
     then (λ s p r l a. refl)
     then (λ s p r l a. refl)
@@ -81,6 +85,7 @@ rows-start =
     then (λ s p r a. never (sym r ∙ a))
     then (λ s p r a. never (sym r ∙ a))
     then state-starts
+    then (λ s p r a. never (sym r ∙ a))
     then (λ s p r a. never (sym r ∙ a))
     then (λ s p r a. never (sym r ∙ a))
     then (λ s p r a. never (sym r ∙ a))

@@ -10,14 +10,17 @@ use lib.IntN.{ℤ}
 use lib.ListN.{length}
 use Rattle.packets.specs.declared.Form.{Form}
 use Rattle.packets.specs.Numbers.{numberAt, numberIn, stepOf}
+use Rattle.items.specs.declared.Settings.{Settings}
+use Rattle.items.specs.Settings.{channelsOf}
+use Rattle.items.proofs.Channels.{box-count}
 use Rattle.station.specs.declared.Station.{Station}
 use Rattle.station.specs.Feeding.{feedingOf}
 use Rattle.cutting.specs.Cutting.{Cutting, formNow, cuttingOf}
 use Rattle.reader.specs.declared.Reader.{Reader}
 use Rattle.reader.specs.declared.Heard.{Heard}
 use Rattle.reader.specs.Reading.{silent, sound, readingOf, heardAt, afterSlices}
-use Rattle.reader.proofs.Sound.{silent-sound, reading-keeps-sound, slices-keep-sound}
-use Rattle.positions.specs.Captures.{Cuts, ends, cuts, feeds, Capture}
+use Rattle.reader.proofs.Sound.{silent-sound, reading-keeps-sound, slices-keep-sound, keeps-its-count}
+use Rattle.positions.specs.Captures.{Cuts, ends, cuts, feeds, Capture, EachBox, OneCountACapture}
 use Rattle.positions.specs.Losses.{Fate, arrives, lost, arriving, bounded, allowedLosses, positionsFrom, answersBy}
 use Rattle.positions.specs.Demand.{saidIn, takenAt, ExactPositions, NeverBroken, ExactAfterAnything, NoTwoAlike}
 use Rattle.positions.proofs.Steps.{position-is-exact}
@@ -59,38 +62,39 @@ cuts-numbered {s} r (cuts {packets = ps} samples room e later) =
 cuts-numbered {s} r (feeds {packets = ps} host room on later) =
     subst (λ (x : Next). Numbered (x .form) (x .position) ps) (feeding-leaves s host room r on) (cuts-numbered on later)
 
--- What is answered to those that arrive of a capture of form f, from position n on: k have been lost since the last that arrived,
--- and t in all.
-abbrev pub heardsFrom : Form → ℕ → ℕ → ℕ → List Fate → List (List ℕ) → List Heard
-heardsFrom f k t n [] ps = []
-heardsFrom f k t n (arrives ∷ fs) [] = []
-heardsFrom f k t n (arrives ∷ fs) (p ∷ ps) = heardAt n k t f ∷ heardsFrom f 0 t (n + 1) fs ps
-heardsFrom f k t n (lost ∷ fs) [] = []
-heardsFrom f k t n (lost ∷ fs) (p ∷ ps) = heardsFrom f (k + 1) (t + 1) (n + 1) fs ps
+-- What a reader of c channels answers to those that arrive of a capture of form f, from position n on: k have been lost since the last
+-- that arrived, and t in all.
+abbrev pub heardsFrom : ℕ → Form → ℕ → ℕ → ℕ → List Fate → List (List ℕ) → List Heard
+heardsFrom c f k t n [] ps = []
+heardsFrom c f k t n (arrives ∷ fs) [] = []
+heardsFrom c f k t n (arrives ∷ fs) (p ∷ ps) = heardAt c n k t f ∷ heardsFrom c f 0 t (n + 1) fs ps
+heardsFrom c f k t n (lost ∷ fs) [] = []
+heardsFrom c f k t n (lost ∷ fs) (p ∷ ps) = heardsFrom c f (k + 1) (t + 1) (n + 1) fs ps
 
 -- after position m with a total of u, and k lost since
-hears-after : (f : Form) (fs : List Fate) (ps : List (List ℕ)) (m u k t n : ℕ) → sound (hasHeard f m u) ≡ true
+hears-after : (c : ℕ) (f : Form) (fs : List Fate) (ps : List (List ℕ)) (m u k t n : ℕ) → sound (hasHeard c f m u) ≡ true
     → n ≡ m + k + 1 → u + k ≡ t → Numbered f n ps → bounded k fs
-    → answersBy readingOf (hasHeard f m u) (arriving fs ps) ≡ heardsFrom f k t n fs ps
-hears-after f [] ps m u k t n fine e d all b = refl
-hears-after f (arrives ∷ fs) [] m u k t n fine e d all b = refl
-hears-after f (arrives ∷ fs) (p ∷ ps) m u k t n fine e d all b =
-    let here : readingOf (hasHeard f m u) p ≡ heardAt n k t f =
-    reads-next f p m u k n (all .0) fine e (b .0) ∙ ap (λ (x : ℕ). heardAt n k x f) d in
-    let stays : sound (hasHeard f n t) ≡ true = rw here at (reading-keeps-sound (hasHeard f m u) p fine) in
-    rw here (ap (λ l. heardAt n k t f ∷ l) (hears-after f fs ps n t 0 t (n + 1) stays (omega arith) (omega arith) (all .1) (b .1)))
-hears-after f (lost ∷ fs) [] m u k t n fine e d all b = refl
-hears-after f (lost ∷ fs) (p ∷ ps) m u k t n fine e d all b =
-    hears-after f fs ps m u (k + 1) (t + 1) (n + 1) fine (omega arith) (omega arith) (all .1) b
+    → answersBy readingOf (hasHeard c f m u) (arriving fs ps) ≡ heardsFrom c f k t n fs ps
+hears-after c f [] ps m u k t n fine e d all b = refl
+hears-after c f (arrives ∷ fs) [] m u k t n fine e d all b = refl
+hears-after c f (arrives ∷ fs) (p ∷ ps) m u k t n fine e d all b =
+    let here : readingOf (hasHeard c f m u) p ≡ heardAt c n k t f =
+    reads-next c f p m u k n (all .0) fine e (b .0) ∙ ap (λ (x : ℕ). heardAt c n k x f) d in
+    let stays : sound (hasHeard c f n t) ≡ true = rw here at (reading-keeps-sound (hasHeard c f m u) p fine) in
+    rw here (ap (λ l. heardAt c n k t f ∷ l) (hears-after c f fs ps n t 0 t (n + 1) stays (omega arith) (omega arith) (all .1) (b .1)))
+hears-after c f (lost ∷ fs) [] m u k t n fine e d all b = refl
+hears-after c f (lost ∷ fs) (p ∷ ps) m u k t n fine e d all b =
+    hears-after c f fs ps m u (k + 1) (t + 1) (n + 1) fine (omega arith) (omega arith) (all .1) b
 
 pub hears : (f : Form) (fs : List Fate) (ps : List (List ℕ)) → Numbered f 0 ps → allowedLosses fs → (r : Reader) → sound r ≡ true
-    → answersBy readingOf r (arriving fs ps) ≡ heardsFrom f 0 0 0 fs ps
+    → answersBy readingOf r (arriving fs ps) ≡ heardsFrom (r .channels) f 0 0 0 fs ps
 hears f [] ps all b r fine = refl
 hears f (arrives ∷ fs) [] all b r fine = refl
 hears f (arrives ∷ fs) (p ∷ ps) all b r fine =
+    let c = r .channels in
     let here = reads-first f p r (all .0) fine in
-    let stays : sound (hasHeard f 0 0) ≡ true = rw here at (reading-keeps-sound r p fine) in
-    rw here (ap (λ l. heardAt 0 0 0 f ∷ l) (hears-after f fs ps 0 0 0 0 1 stays (omega arith) (omega arith) (all .1) b))
+    let stays : sound (hasHeard c f 0 0) ≡ true = rw here at (reading-keeps-sound r p fine) in
+    rw here (ap (λ l. heardAt c 0 0 0 f ∷ l) (hears-after c f fs ps 0 0 0 0 1 stays (omega arith) (omega arith) (all .1) b))
 hears f (lost ∷ fs) ps all b r fine = absurd b
 
 -- a box that a call of feeding finds idle and leaves running begins a capture
@@ -100,29 +104,49 @@ pub begins : (s : Station) (host : List ℕ) (room : ℕ) (packets : List (List 
     → Capture (feedingOf s host room .fed .station) packets
 begins s host room packets idle on calls = record { running = on; fresh = feeding-starts s host room idle on; calls = calls }
 
+-- what a cut and what feeding leave of the count, from box to box
+counts-stay : (n : ℕ) {s : Station} {packets : List (List ℕ)} → s .settings .running ≡ true → channelsOf (s .settings) ≡ n
+    → (calls : Cuts s packets) → EachBox (λ t. channelsOf (t .settings) ≡ n) calls
+counts-stay n r e ends = e
+counts-stay n {s} r e (cuts samples room taken later) =
+    let is = cut-is s samples room taken in
+    let kept : cuttingOf s samples room .cut .station .settings .running ≡ true = rw (is .1) r in
+    let same : channelsOf (cuttingOf s samples room .cut .station .settings) ≡ n = rw (is .1) e in
+    (e, counts-stay n kept same later)
+counts-stay n {s} r e (feeds host room on later) =
+    (e, counts-stay n on (ap (λ (x : Next). x .channels) (feeding-leaves s host room r on) ∙ e) later)
+
+pub one-count-a-capture : OneCountACapture
+one-count-a-capture s packets c = counts-stay (channelsOf (s .settings)) (c .running) refl (c .calls)
+
 -- a capture's packets are numbered from 0 on
 pub from-start : {s : Station} {packets : List (List ℕ)} → Capture s packets → Numbered (formNow (s .settings)) 0 packets
 from-start c = rw (c .fresh) at (cuts-numbered (c .running) (c .calls))
 
 -- what is said of packets that are heard so
-said-heard : (f : Form) (fs : List Fate) (ps : List (List ℕ)) (k t n : ℕ)
-    → map saidIn (heardsFrom f k t n fs ps) ≡ map (takenAt f) (arriving fs (positionsFrom n ps))
-said-heard f [] ps k t n = refl
-said-heard f (arrives ∷ fs) [] k t n = refl
-said-heard f (arrives ∷ fs) (p ∷ ps) k t n = ap (λ l. takenAt f n ∷ l) (said-heard f fs ps 0 t (n + 1))
-said-heard f (lost ∷ fs) [] k t n = refl
-said-heard f (lost ∷ fs) (p ∷ ps) k t n = said-heard f fs ps (k + 1) (t + 1) (n + 1)
+said-heard : (c : ℕ) (f : Form) (fs : List Fate) (ps : List (List ℕ)) (k t n : ℕ)
+    → map saidIn (heardsFrom c f k t n fs ps) ≡ map (takenAt c f) (arriving fs (positionsFrom n ps))
+said-heard c f [] ps k t n = refl
+said-heard c f (arrives ∷ fs) [] k t n = refl
+said-heard c f (arrives ∷ fs) (p ∷ ps) k t n = ap (λ l. takenAt c f n ∷ l) (said-heard c f fs ps 0 t (n + 1))
+said-heard c f (lost ∷ fs) [] k t n = refl
+said-heard c f (lost ∷ fs) (p ∷ ps) k t n = said-heard c f fs ps (k + 1) (t + 1) (n + 1)
 
 pub exact-positions : ExactPositions
-exact-positions r g s packets c fates b =
+exact-positions r g s packets c told fates b =
     let f = formNow (s .settings) in
-    ap (map saidIn) (hears f fates packets (from-start c) b r g) ∙ said-heard f fates packets 0 0 0
+    ap (map saidIn) (hears f fates packets (from-start c) b r g)
+    ∙ said-heard (r .channels) f fates packets 0 0 0
+    ∙ ap (λ (n : ℕ). map (takenAt n f) (arriving fates (positionsFrom 0 packets))) told
 
 pub never-broken : NeverBroken
-never-broken slices = slices-keep-sound silent slices silent-sound
+never-broken n count slices = slices-keep-sound (silent n) slices (silent-sound n count)
 
 pub exact-after-anything : ExactAfterAnything
-exact-after-anything before = exact-positions (afterSlices silent before) (never-broken before)
+exact-after-anything before s packets c =
+    let n = channelsOf (s .settings) in
+    let r : Reader = afterSlices (silent n) before in
+    exact-positions r (never-broken n (box-count (s .settings)) before) s packets c (keeps-its-count (silent n) before)
 
 -- Positions after m that rise by at most 65,535 at a time: up to 65,534 lost between two.
 abbrev pub Rising : ℕ → List ℕ → Type 0

@@ -5,6 +5,7 @@ use mathlib.Core.List.{List, [], _∷_}
 use mathlib.Core.Path.{_≡_}
 use lib.IntN.{ℤ}
 use Rattle.wire.specs.Codes as Code
+use Rattle.items.specs.Settings.{channelsOf}
 use Rattle.station.specs.declared.Station.{Station}
 use Rattle.station.specs.Feeding.{feedingOf}
 use Rattle.cutting.specs.Cutting.{cuttingOf}
@@ -30,3 +31,16 @@ pub record Capture (s : Station) (packets : List (List ℕ)) : Type 0 where
   pub running : s .settings .running ≡ true
   pub fresh : s .settings .count ≡ 0
   pub calls : Cuts s packets
+
+-- what each box has on the way
+abbrev pub EachBox : (Station → Type 0) → {s : Station} {packets : List (List ℕ)} → Cuts s packets → Type 0
+EachBox P {s} ends = P s
+EachBox P {s} (cuts samples room taken later) = P s × EachBox P later
+EachBox P {s} (feeds host room on later) = P s × EachBox P later
+
+-- One capture has one channel count: "setting it while running is 17" (02, No. 7), so from the start on each box has the count of the
+-- first. That is "the count with which the box cut that capture".
+abbrev pub OneCountACapture : Type 0
+OneCountACapture =
+    (s : Station) (packets : List (List ℕ)) (c : Capture s packets)
+    → EachBox (λ t. channelsOf (t .settings) ≡ channelsOf (s .settings)) (c .calls)

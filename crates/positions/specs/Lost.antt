@@ -4,6 +4,7 @@ use Prim.Native.Nat.{ℕ, _+_}
 use mathlib.Core.Bool.{true}
 use mathlib.Core.List.{List, [], _∷_, map}
 use mathlib.Core.Path.{_≡_}
+use Rattle.packets.specs.Channels.{isCount}
 use Rattle.station.specs.declared.Station.{Station}
 use Rattle.reader.specs.declared.Reader.{Reader}
 use Rattle.reader.specs.declared.Heard.{Heard}
@@ -44,6 +45,7 @@ CountsLosses read = (r : Reader) → sound r ≡ true → CountsFrom read r
 abbrev pub LossesCounted : Type 0
 LossesCounted = CountsLosses readingOf
 
--- and whatever was heard before
+-- and whatever was heard before, of either count: what was lost is packets, so it is the same to a reader that was told the other
 abbrev pub LossesCountedAfterAnything : Type 0
-LossesCountedAfterAnything = (before : List (List ℕ)) → CountsFrom readingOf (afterSlices silent before)
+LossesCountedAfterAnything =
+    (n : ℕ) → isCount n ≡ true → (before : List (List ℕ)) → CountsFrom readingOf (afterSlices (silent n) before)

@@ -1,7 +1,7 @@
 -- Readers that are to be rejected: "a reader that always says 0, or never moves (demand 3); a reader right for one turn only
--- (demand 3, position 65,536)"; and readers that miscount what was lost (request No. 1 of document 02). Each is told by the
--- positions that it gives, or by what it says was lost, whatever else it answers or keeps.
-use Prim.Native.Nat.{ℕ}
+-- (demand 3, position 65,536)"; readers that miscount what was lost (request No. 1 of document 02); and one that knows of one channel
+-- only (No. 7). Each is told by the positions that it gives, or by what it says was lost, whatever else it answers or keeps.
+use Prim.Native.Nat.{ℕ, _*_}
 use mathlib.Core.List.{List}
 use mathlib.Core.Path.{_≡_}
 use lib.Dec.{eqb}
@@ -30,7 +30,7 @@ oneTurnOnly held number = number
 
 -- the reader of a rule, which takes every packet and says that none was missed
 abbrev pub readBy : (ℕ → ℕ → ℕ) → WayToRead
-readBy rule r packet = heardAt (rule (r .position) (numberIn packet)) 0 0 (wholeOf packet)
+readBy rule r packet = heardAt (r .channels) (rule (r .position) (numberIn packet)) 0 0 (wholeOf packet)
 
 -- "how many were missed just before this packet" is a rule's, by the same two, wherever a packet is taken
 abbrev pub MissedBy : (ℕ → ℕ → ℕ) → WayToRead → Type 0
@@ -67,3 +67,21 @@ missingBy rule =
 -- but for its total, which is of one packet
 abbrev pub totallingOne : WayToRead
 totallingOne = sayingLost (λ r packet. record { before = readingOf r packet .missed; inAll = readingOf r packet .missed })
+
+-- not the pairs of each channel, but all of the packet
+abbrev pub SamplesByAllPairs : WayToRead → Type 0
+SamplesByAllPairs read =
+    (r : Reader) (packet : List ℕ) → read r packet .code ≡ Code.done
+    → read r packet .sample ≡ read r packet .position * wholeOf packet .pairs
+
+-- the harvester, but for the sample position, which goes by all pairs
+abbrev pub byAllPairs : WayToRead
+byAllPairs r packet =
+    record {
+      code = readingOf r packet .code;
+      position = readingOf r packet .position;
+      sample = readingOf r packet .position * wholeOf packet .pairs;
+      missed = readingOf r packet .missed;
+      total = readingOf r packet .total;
+      reader = readingOf r packet .reader;
+    }

@@ -67,8 +67,8 @@ holds-all r numbers [] h = h
 holds-all r numbers (slice ∷ slices) h =
     holds-all (readingOf r slice .reader) (withSlice r numbers slice) slices (holds-slice r slice numbers h)
 
-held : (slices : List (List ℕ)) → Holds (afterSlices silent slices) (numbersHeard slices)
-held slices = holds-all silent [] slices (refl, refl, refl)
+held : (n : ℕ) (slices : List (List ℕ)) → Holds (afterSlices (silent n) slices) (numbersHeard n slices)
+held n slices = holds-all (silent n) [] slices (refl, refl, refl)
 
 -- ---- so
 
@@ -82,21 +82,21 @@ adds-up r [] h begun = absurd (true-not-false (sym begun ∙ h .0))
 adds-up r (t ∷ ts) h begun = omega (arith, h .3, h .4, heard-add-up stepOf t ts (h .2))
 
 pub total-is-of-the-steps : TotalIsOfTheSteps
-total-is-of-the-steps slices = total-of (afterSlices silent slices) (numbersHeard slices) (held slices)
+total-is-of-the-steps n slices = total-of (afterSlices (silent n) slices) (numbersHeard n slices) (held n slices)
 
 pub heard-and-missed : HeardAndMissed
-heard-and-missed slices begun = adds-up (afterSlices silent slices) (numbersHeard slices) (held slices) begun
+heard-and-missed n slices begun = adds-up (afterSlices (silent n) slices) (numbersHeard n slices) (held n slices) begun
 
 pub sound-has-steps : SoundHasSteps
 sound-has-steps r fine begun = tested-steps (r .position) (r .total) (heard-within r fine begun .1)
 
 pub sound-by-steps : SoundBySteps
-sound-by-steps r begun near listed g =
+sound-by-steps r count begun near listed g =
     let fits = leb (r .position) last in
     let given = stepsGive (r .position) (r .total) in
     let both : (fits && given) ≡ true =
     and-both fits given (le-leb (r .position) last near) (steps-tested (r .position) (r .total) g) in
-    heard-sound r begun both listed
+    heard-sound r count begun both listed
 
 pub broken-by-its-total : BrokenByItsTotal
 broken-by-its-total r packet begun none = sym (broken r packet (by (sound r) refl))

@@ -9,14 +9,15 @@ use borrow.Author.Tests.{leb-true, eq-eqb, ne-eqb, lt-ltb, le-ltb}
 use lib.Dec.{eqb, leb, ltb}
 use lib.ListN.{length, take, drop, length-drop}
 use lib.Seq.{take-all}
-use Rattle.wire.proofs.Laws.{and-left, and-right}
+use Rattle.wire.proofs.Laws.{and-left, and-right, and-not-left}
 use Rattle.packets.specs.declared.Form.{Form}
 use Rattle.packets.specs.Forms.{noForm, sameForm, listedForm, wholeOf, isPacket, totalOf}
+use Rattle.packets.specs.Channels.{isCount}
 use Rattle.packets.specs.Numbers.{numberAt, stepOf, numberIn, last}
 use Rattle.packets.proofs.Forms.{is-listed-form, Whole, whole-is, packet-is}
 use Rattle.reader.specs.declared.Reader.{Reader}
 use Rattle.packets.specs.Missed.{missedIn, stepsGive}
-use Rattle.reader.specs.Reading.{sound, stepTo, positionAfter, readingChecks, readingCode, readingOf}
+use Rattle.reader.specs.Reading.{heardWell, sound, stepTo, positionAfter, readingChecks, readingCode, readingOf}
 use Rattle.reader.specs.Reading.{heardAt, heardWith, unheard, sampleBytesOf}
 use Rattle.wire.proofs.Checks.{clear}
 
@@ -50,14 +51,21 @@ no-samples p z = rw (no-packet p z)
 pub samples-there : (p : List ℕ) → (wholeOf p .pairs ≡ 0 → ⊥) → take (length p - 4) (drop 4 p) ≡ sampleBytesOf p
 samples-there p some = rw (a-packet p some) (take-all (length p - 4) (drop 4 p) (simp length-drop (omega arith)))
 
--- soundness, of a reader that has heard a packet, by what its tests come to, and of one that has not
-pub heard-sound : (r : Reader) {a b : Bool} → r .heard ≡ true → (leb (r .position) last && stepsGive (r .position) (r .total)) ≡ a
-    → listedForm (r .form) ≡ b → sound r ≡ (a && b)
-heard-sound r h p q = rw (h, p, q)
+-- a sound reader was told a count
+pub sound-count : (r : Reader) → sound r ≡ true → isCount (r .channels) ≡ true
+sound-count r fine = and-left (isCount (r .channels)) (heardWell r) fine
 
-pub unheard-sound : (r : Reader) {a b c : Bool} → r .heard ≡ false → eqb (r .position) 0 ≡ a → eqb (r .total) 0 ≡ b
-    → sameForm (r .form) noForm ≡ c → sound r ≡ (a && b && c)
-unheard-sound r h p q t = rw (h, p, q, t)
+-- soundness, of a reader that was told none; of one that was, and has heard a packet, by what its tests come to, and that has not
+pub untold-broken : (r : Reader) → isCount (r .channels) ≡ false → sound r ≡ false
+untold-broken r none = and-not-left (isCount (r .channels)) (heardWell r) none
+
+pub heard-sound : (r : Reader) {a b : Bool} → isCount (r .channels) ≡ true → r .heard ≡ true
+    → (leb (r .position) last && stepsGive (r .position) (r .total)) ≡ a → listedForm (r .form) ≡ b → sound r ≡ (a && b)
+heard-sound r n h p q = rw (n, h, p, q)
+
+pub unheard-sound : (r : Reader) {a b c : Bool} → isCount (r .channels) ≡ true → r .heard ≡ false → eqb (r .position) 0 ≡ a
+    → eqb (r .total) 0 ≡ b → sameForm (r .form) noForm ≡ c → sound r ≡ (a && b && c)
+unheard-sound r n h p q t = rw (n, h, p, q, t)
 
 -- "A reader that has heard a packet holds its position (at most 3,999,999,999) and a listed form"
 pub heard-within : (r : Reader) → sound r ≡ true → r .heard ≡ true
@@ -65,7 +73,7 @@ pub heard-within : (r : Reader) → sound r ≡ true → r .heard ≡ true
 heard-within r fine begun =
     let near = leb (r .position) last in
     let steps = stepsGive (r .position) (r .total) in
-    let held = and-left (near && steps) (listedForm (r .form)) (sym (heard-sound r begun refl refl) ∙ fine) in
+    let held = and-left (near && steps) (listedForm (r .form)) (sym (heard-sound r (sound-count r fine) begun refl refl) ∙ fine) in
     (leb-true (r .position) last (and-left near steps held), and-right near steps held)
 
 module _ (r : Reader) (p : List ℕ) where
@@ -93,7 +101,7 @@ module _ (r : Reader) (p : List ℕ) where
     no-slice z = refusal 30 (omega arith) (rw (fine, no-packet p z))
 
     module _ (some : wholeOf p .pairs ≡ 0 → ⊥) where
-      pub first : numberIn p ≡ 0 → heardAt 0 0 0 (wholeOf p) ≡ readingOf r p
+      pub first : numberIn p ≡ 0 → heardAt (r .channels) 0 0 0 (wholeOf p) ≡ readingOf r p
       first z =
           let zeroth : eqb (numberIn p) 0 ≡ true = eq-eqb _ _ z in
           sym (packet-taken fine (a-packet p some) (rw zeroth) (rw zeroth) (rw zeroth) ∙ rw zeroth)
@@ -116,7 +124,7 @@ module _ (r : Reader) (p : List ℕ) where
             past l = refusal 33 (omega arith) (rw (fine, a-packet p some, ne-eqb _ _ later, begun, same, ← leads, lt-ltb last n l))
 
             pub next : n ≤ last → (missed : ℕ) → missed ≡ n - r .position - 1
-                → heardAt n missed (r .total + missed) (wholeOf p) ≡ readingOf r p
+                → heardAt (r .channels) n missed (r .total + missed) (wholeOf p) ≡ readingOf r p
             next l missed over =
                 let nonzero : eqb (numberIn p) 0 ≡ false = ne-eqb _ _ later in
                 let there : positionAfter r (numberIn p) ≡ n = rw nonzero (sym leads) in

@@ -8,6 +8,7 @@ use lib.ListN.{length}
 use Rattle.wire.specs.Choice.{pick}
 use Rattle.wire.specs.Codes as Code
 use Rattle.packets.specs.Forms.{listedForm}
+use Rattle.packets.specs.Channels.{isCount}
 use Rattle.packets.specs.Numbers.{stepOf, numberIn, last}
 use Rattle.packets.specs.Missed.{leadsTo, stepsBy, missedOver, StepsGive}
 use Rattle.reader.specs.declared.Reader.{Reader}
@@ -23,27 +24,27 @@ abbrev pub numbersAfter : Reader → List ℕ → List (List ℕ) → List ℕ
 numbersAfter r numbers [] = numbers
 numbersAfter r numbers (slice ∷ slices) = numbersAfter (readingOf r slice .reader) (withSlice r numbers slice) slices
 
-abbrev pub numbersHeard : List (List ℕ) → List ℕ
-numbersHeard slices = numbersAfter silent [] slices
+abbrev pub numbersHeard : ℕ → List (List ℕ) → List ℕ
+numbersHeard channels slices = numbersAfter (silent channels) [] slices
 
 -- "the list of steps": "From number s to number t"
 abbrev pub stepsBetween : List ℕ → List ℕ
 stepsBetween numbers = stepsBy stepOf numbers
 
--- "the capture's total. The total is defined from the list of steps": after any slices, from a silent reader on, the total is
--- that of the steps, and they lead to the position. (An accepted packet is answered with the total and the position that the
--- reader has after it.)
+-- "the capture's total. The total is defined from the list of steps": after any slices, from a silent reader on, whatever count it was
+-- told, the total is that of the steps, and they lead to the position. (An accepted packet is answered with the total and the position
+-- that the reader has after it.)
 abbrev pub TotalIsOfTheSteps : Type 0
 TotalIsOfTheSteps =
-    (slices : List (List ℕ))
-    → (afterSlices silent slices .total ≡ missedOver (stepsBetween (numbersHeard slices)))
-    × (afterSlices silent slices .position ≡ leadsTo (stepsBetween (numbersHeard slices)))
+    (n : ℕ) (slices : List (List ℕ))
+    → (afterSlices (silent n) slices .total ≡ missedOver (stepsBetween (numbersHeard n slices)))
+    × (afterSlices (silent n) slices .position ≡ leadsTo (stepsBetween (numbersHeard n slices)))
 
 -- "heard plus missed equals positions covered"
 abbrev pub HeardAndMissed : Type 0
 HeardAndMissed =
-    (slices : List (List ℕ)) → afterSlices silent slices .heard ≡ true
-    → length (numbersHeard slices) + afterSlices silent slices .total ≡ afterSlices silent slices .position + 1
+    (n : ℕ) (slices : List (List ℕ)) → afterSlices (silent n) slices .heard ≡ true
+    → length (numbersHeard n slices) + afterSlices (silent n) slices .total ≡ afterSlices (silent n) slices .position + 1
 
 -- "A reader whose total no steps give is broken": 21, and the reader given
 abbrev pub BrokenByItsTotal : Type 0
@@ -55,8 +56,8 @@ BrokenByItsTotal =
 abbrev pub SoundHasSteps : Type 0
 SoundHasSteps = (r : Reader) → sound r ≡ true → r .heard ≡ true → StepsGive (r .position) (r .total)
 
--- and no other is broken for its total: with 01's position and form, steps that give it are enough
+-- and no other is broken for its total: with a count, and 01's position and form, steps that give it are enough
 abbrev pub SoundBySteps : Type 0
 SoundBySteps =
-    (r : Reader) → r .heard ≡ true → r .position ≤ last → listedForm (r .form) ≡ true → StepsGive (r .position) (r .total)
-    → sound r ≡ true
+    (r : Reader) → isCount (r .channels) ≡ true → r .heard ≡ true → r .position ≤ last → listedForm (r .form) ≡ true
+    → StepsGive (r .position) (r .total) → sound r ≡ true

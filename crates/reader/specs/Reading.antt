@@ -1,5 +1,6 @@
 -- Reading packets.
 use Prim.Native.Nat.{ℕ, _+_, _*_}
+use mathlib.Core.Path.{_≡_}
 use mathlib.Core.Bool.{Bool, true, false, _&&_, not}
 use mathlib.Core.List.{List, [], _∷_}
 use lib.Dec.{eqb, leb, ltb}
@@ -10,6 +11,7 @@ use Rattle.wire.specs.Codes.{othersWrite}
 use Rattle.wire.specs.Codes as Code
 use Rattle.packets.specs.declared.Form.{Form}
 use Rattle.packets.specs.Forms.{noForm, sameForm, listedForm, wholeOf, isPacket}
+use Rattle.packets.specs.Channels.{isCount, pairsEach}
 use Rattle.packets.specs.Numbers.{numberAt, stepOf, numberIn, last}
 use Rattle.packets.specs.Missed.{missedIn, stepsGive}
 use Rattle.packets.specs.Samples.{samplesFrom}
@@ -17,16 +19,20 @@ use Rattle.reader.specs.declared.Reader.{Reader}
 use Rattle.reader.specs.declared.Heard.{Heard}
 use Rattle.reader.specs.declared.Unpacked.{Unpacked}
 
--- a reader that has heard nothing
-abbrev pub silent : Reader
-silent = record { heard = false; position = 0; total = 0; form = noForm }
+-- "The reader is told the channel count when made" (02, No. 7): a reader of packets of so many channels that has heard nothing
+abbrev pub silent : ℕ → Reader
+silent channels = record { heard = false; channels = channels; position = 0; total = 0; form = noForm }
 
 -- "A reader that has heard a packet holds its position (at most 3,999,999,999) and a listed form; other states are broken." "A
 -- reader whose total no steps give is broken."
-abbrev pub sound : Reader → Bool
-sound r =
+abbrev pub heardWell : Reader → Bool
+heardWell r =
     pick (r .heard) (leb (r .position) last && stepsGive (r .position) (r .total) && listedForm (r .form))
     (eqb (r .position) 0 && eqb (r .total) 0 && sameForm (r .form) noForm)
+
+-- packets hold one channel or two, so a reader that was told another count is broken too
+abbrev pub sound : Reader → Bool
+sound r = isCount (r .channels) && heardWell r
 
 -- "From number s to number t above 0 the step is .."
 abbrev pub stepTo : Reader → ℕ → ℕ
@@ -60,22 +66,23 @@ readingChecks r packet =
 unfoldable pub readingCode : Reader → List ℕ → ℕ
 readingCode r packet = firstOf (readingChecks r packet) Code.done
 
--- "The answer is the packet's position and its first sample's position (packet position times I/Q pairs)." "The packet reader
--- shall also answer how many were missed just before this packet .. and the capture's total."
-abbrev pub heardAt : ℕ → ℕ → ℕ → Form → Heard
-heardAt position missed total f =
+-- "The answer is the packet's position and its first sample's position (packet position times I/Q pairs)", and with two channels this
+-- speaks "of pairs and positions per channel". "The packet reader shall also answer how many were missed just before this packet .. and
+-- the capture's total." The reader goes on with the count that it was told, also where a new capture begins.
+abbrev pub heardAt : ℕ → ℕ → ℕ → ℕ → Form → Heard
+heardAt channels position missed total f =
     record {
       code = Code.done;
       position = position;
-      sample = position * f .pairs;
+      sample = position * pairsEach channels f;
       missed = missed;
       total = total;
-      reader = record { heard = true; position = position; total = total; form = f };
+      reader = record { heard = true; channels = channels; position = position; total = total; form = f };
     }
 
 -- a packet of a form that carries a number
 abbrev pub heardWith : Reader → ℕ → Form → Heard
-heardWith r number f = heardAt (positionAfter r number) (missedBefore r number) (totalAfter r number) f
+heardWith r number f = heardAt (r .channels) (positionAfter r number) (missedBefore r number) (totalAfter r number) f
 
 abbrev pub unheard : ℕ → Reader → Heard
 unheard code r = record { code = code; position = 0; sample = 0; missed = 0; total = 0; reader = r }
@@ -89,6 +96,15 @@ readingOf r packet =
 abbrev pub afterSlices : Reader → List (List ℕ) → Reader
 afterSlices r [] = r
 afterSlices r (slice ∷ slices) = afterSlices (readingOf r slice .reader) slices
+
+-- Whatever it is handed, a reader keeps the count that it was told: "a capture of the other count wants a reader of its own".
+abbrev pub KeepsItsCount : Type 0
+KeepsItsCount = (r : Reader) (slices : List (List ℕ)) → afterSlices r slices .channels ≡ r .channels
+
+-- One that was told another count than 1 or 2 refuses everything, with 21.
+abbrev pub BrokenByItsCount : Type 0
+BrokenByItsCount =
+    (r : Reader) (packet : List ℕ) → isCount (r .channels) ≡ false → readingOf r packet ≡ unheard Code.broken r
 
 -- "A call of its own answers with the sample bytes handed back as that part of the caller's packet, or with an empty part
 -- where the slice is 30."

@@ -2,22 +2,25 @@
 use packets::Form;
 use wire::codes;
 ghost use mathlib.Core.Path.{_≡_};
+ghost use mathlib.Core.Bool.{true};
 ghost use Prim.Native.Nat.{_+_, _<_};
 ghost use lib.ListN.{length};
 ghost use lib.Seq.{sets};
+ghost use Rattle.packets.specs.Channels.{isCount};
 ghost use Rattle.packets.specs.Numbers.{numberAt, stepOf, most};
 ghost use Rattle.reader.specs.Reading.{silent, sound, unheard, heardAt, readingOf, sampleBytesOf, unpackingOf, numbersWritten};
 
-// What a reader has heard of the capture so far: the position and form of the last packet, and how many packets were missed
-// up to it; before the first packet nothing, and then all is zero.
+// How many channels the packets hold, as it was told; and what a reader has heard of the capture so far: the position and form of
+// the last packet, and how many packets were missed up to it. Before the first packet that is nothing, and then all is zero.
 pub struct Reader {
     pub heard: bool,
+    pub channels: u8,
     pub position: u64,
     pub total: u64,
     pub form: Form,
 }
 
-// What one call of reading answered: its code, the packet's position, its first sample's position, how many packets were
+// What one call of reading answered: its code, the packet's position, its first sample's position in each channel, how many packets were
 // missed just before it and in the capture so far, and the reader after it. Where it refuses, these numbers are 0 and the
 // reader is the one given.
 pub struct Heard {
@@ -35,24 +38,28 @@ pub struct Unpacked {
     pub count: usize,
 }
 
-// A reader that has heard nothing.
-pub fn silent() -> Reader
-    ensures { λ r. ⌜ r ≡ silent ⌝ }
+// A reader that has heard nothing, of packets of so many channels. One that is told another count than 1 or 2 is broken.
+pub fn silent(channels: u8) -> Reader
+    ensures { λ r. ⌜ r ≡ silent channels ⌝ }
 {
     Reader {
         heard: false,
+        channels,
         position: 0,
         total: 0,
         form: packets::no_form(),
     }
 }
 
-// Whether the reader is silent, or holds a position that a capture can have, a total that steps to it give, and a listed
-// form: "other states are broken".
+// Whether the reader was told 1 or 2 channels, and is silent, or holds a position that a capture can have, a total that steps to
+// it give, and a listed form: "other states are broken".
 pub fn is_sound(r: Reader) -> bool
     ensures { λ ok. ⌜ ok ≡ sound r ⌝ }
 {
     let form = r.form;
+    if !packets::is_count(r.channels) {
+        return false;
+    }
     if r.heard {
         if !packets::steps_give(r.position, r.total) {
             return false;
@@ -82,12 +89,14 @@ fn refused(code: u8, r: Reader) -> Heard
     }
 }
 
-// A packet taken at a position, with how many were missed: its first sample stands at that position times the I/Q pairs.
-fn heard_at(position: u64, missed: u64, total: u64, form: Form) -> Heard
-    requires { ⌜ (position < most) × (form .pairs < 257) ⌝ }
-    ensures { λ h. ⌜ h ≡ heardAt position missed total form ⌝ }
+// A packet taken at a position, with how many were missed: in each channel its first sample stands at that position times the
+// channel's I/Q pairs.
+fn heard_at(channels: u8, position: u64, missed: u64, total: u64, form: Form) -> Heard
+    requires { ⌜ (isCount channels ≡ true) × (position < most) × (form .pairs < 257) ⌝ }
+    ensures { λ h. ⌜ h ≡ heardAt channels position missed total form ⌝ }
 {
-    let sample = position * form.pairs;
+    let each = packets::pairs_each(channels, form);
+    let sample = position * each;
     Heard {
         code: codes::DONE,
         position,
@@ -96,6 +105,7 @@ fn heard_at(position: u64, missed: u64, total: u64, form: Form) -> Heard
         total,
         reader: Reader {
             heard: true,
+            channels,
             position,
             total,
             form,
@@ -134,7 +144,7 @@ pub fn read(r: Reader, packet: &[u8]) -> Heard
     }
     let number = packets::number_in(packet);
     if number == 0 {
-        return heard_at(0, 0, 0, form);
+        return heard_at(r.channels, 0, 0, 0, form);
     }
     if !r.heard {
         return refused(codes::NO_FIRST_PACKET, r);
@@ -148,7 +158,7 @@ pub fn read(r: Reader, packet: &[u8]) -> Heard
         return refused(codes::PAST_LAST, r);
     }
     let missed = position - r.position - 1;
-    heard_at(position, missed, r.total + missed, form)
+    heard_at(r.channels, position, missed, r.total + missed, form)
 }
 
 // "A call of its own answers with the sample bytes handed back as that part of the caller's packet, or with an empty part

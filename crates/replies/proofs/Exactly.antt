@@ -7,13 +7,14 @@ use mathlib.Core.List.{List, [], _∷_, _++_}
 use mathlib.Core.Logic.{_⊎_, inl, inr}
 use native.Mathlib.Omega.{arith}
 use lib.Dec.{eqb, ltb}
+use lib.IntN.{ℤ}
 use lib.ListN.{length, getD, replicate}
 use borrow.Author.Tests.{eqb-true, eq-eqb, lt-ltb, ltb-true, not-false}
 use Rattle.wire.specs.Choice.{pick, oneOf, within}
 use Rattle.wire.specs.Number.{number, bytes}
 use Rattle.wire.specs.Signed.{coded}
 use Rattle.wire.specs.Header.{nak, headerOf, typeRange}
-use Rattle.wire.proofs.Laws.{and-left, and-right, and-both, or-left, or-right, within-low, within-high, pick-true}
+use Rattle.wire.proofs.Laws.{and-left, and-right, and-both, or-left, or-right, within-low, within-high, pick-true, pick-same, pick-keeps}
 use Rattle.wire.proofs.Numbers.{bytes-number, number-bytes, number-below}
 use Rattle.rates.specs.Rate.{rateOf, nearestOf, isD}
 use Rattle.rates.specs.Table.{dOf}
@@ -25,21 +26,27 @@ use Rattle.layouts.specs.Layouts.{parametersOf, sizeOf, laid}
 use Rattle.layouts.proofs.Sizes.{length-laid}
 use Rattle.items.proofs.States.{status-bytes}
 use Rattle.items.specs.declared.Settings.{Settings}
-use Rattle.items.specs.Settings.{isMode, isSerialByte, allSerial, isSerial, holdsSerial, inRange, freshOf, withFrequency}
-use Rattle.items.specs.Settings.{withClock, withDivisor, withRunning, withMode, withGain, withSize, withCount}
+use Rattle.items.specs.declared.Channel.{Channel}
+use Rattle.items.specs.Settings.{isMode, isGain, isSerialByte, allSerial, isSerial, holdsSerial, inRange, freshOf, freshChannel, dual}
+use Rattle.items.specs.Settings.{withClock, withDivisor, withRunning, withMode, withSize, withSetup, withCount}
+use Rattle.items.specs.Settings.{channelAt, onChannels, openChannels, tunedTo, gainedTo}
 use Rattle.items.specs.Items.{nameBytes, versionTable, run, idle, achievedRate}
-use Rattle.items.specs.Answer.{settingsAfter, replyOf, replyTo, framed, parameters}
+use Rattle.wire.specs.Codes.{boxWrites}
+use Rattle.items.specs.Answer.{codeOf, settingsAfter, replyDue, replyOf, replyTo, framed, parameters}
 use Rattle.station.proofs.Kept.{Ranges, ranges, message-keeps}
 use Rattle.items.proofs.Versions.{version-has}
 use Rattle.wishes.specs.declared.StateFields.{StateFields}
 use Rattle.wishes.specs.declared.Wish.{Wish}
-use Rattle.wishes.specs.declared.Wish.the-variants.{AskName, AskSerial, AskInterface, AskVersion, AskStatus, SetState}
-use Rattle.wishes.specs.declared.Wish.the-variants.{AskState, SetFrequency, AskFrequency, AskFrequencyRange, SetGain, AskGain}
-use Rattle.wishes.specs.declared.Wish.the-variants.{SetClock, AskClock, SetRate, AskRate, SetPacketSize, AskPacketSize}
-use Rattle.wishes.specs.Wishes.{asking, layoutOf, allowedWish, granted, notNow, messageOf, asMessage}
+use Rattle.wishes.specs.declared.Wish.the-variants.{AskName, AskSerial, AskInterface, AskVersion, AskStatus, SetState, AskState}
+use Rattle.wishes.specs.declared.Wish.the-variants.{SetChannelSetup, AskChannelSetup, SetFrequency, AskFrequency, AskFrequencyRange}
+use Rattle.wishes.specs.declared.Wish.the-variants.{SetGain, AskGain, SetClock, AskClock}
+use Rattle.wishes.specs.declared.Wish.the-variants.{SetRate, AskRate, SetPacketSize, AskPacketSize}
+use Rattle.wishes.specs.Wishes.{asking, layoutOf, openAt, openWish, allowedWish, granted, closedNow, notNow, refusedNow}
+use Rattle.wishes.specs.Wishes.{messageOf, asMessage}
 use Rattle.wishes.proofs.Rows.{by-wish}
+use Rattle.wishes.proofs.Open.{open-dual, open-here}
 use Rattle.wishes.proofs.Allowed.{state-has}
-use Rattle.wire.proofs.Laws.{by-or, one-has}
+use Rattle.wire.proofs.Laws.{never, by-or, one-has}
 use Rattle.wishes.proofs.Understood.{code-of-wish, row-of-wish, settings-of-wish}
 use Rattle.replies.specs.declared.Reply.the-variants.{Nak, Status, State}
 use Rattle.replies.specs.Awaited.{awaited, idleShown, runShown, isState, stateShown}
@@ -71,15 +78,17 @@ numberOf (AskVersion id) s = number (getD versionTable id [])
 numberOf AskStatus s = pick (s .running) 0x0C 0x0B
 numberOf (SetState f) s = stateOf (s .running) (s .mode)
 numberOf AskState s = stateOf (s .running) (s .mode)
-numberOf (SetFrequency hz) s = s .first .frequency
-numberOf AskFrequency s = s .first .frequency
-numberOf AskFrequencyRange s = number (0x02 ∷ rangeBytes bands)
-numberOf (SetGain g) s = s .first .gain
-numberOf AskGain s = s .first .gain
-numberOf (SetClock hz) s = s .clock
-numberOf AskClock s = s .clock
-numberOf (SetRate hz) s = rateOf (s .divisor)
-numberOf AskRate s = rateOf (s .divisor)
+numberOf (SetChannelSetup n) s = s .setup
+numberOf AskChannelSetup s = s .setup
+numberOf (SetFrequency c hz) s = channelAt c s .frequency
+numberOf (AskFrequency c) s = channelAt c s .frequency
+numberOf (AskFrequencyRange c) s = number (0x02 ∷ rangeBytes bands)
+numberOf (SetGain c g) s = channelAt c s .gain
+numberOf (AskGain c) s = channelAt c s .gain
+numberOf (SetClock c hz) s = s .clock
+numberOf (AskClock c) s = s .clock
+numberOf (SetRate c hz) s = rateOf (s .divisor)
+numberOf (AskRate c) s = rateOf (s .divisor)
 numberOf (SetPacketSize n) s = s .size
 numberOf AskPacketSize s = s .size
 
@@ -166,15 +175,17 @@ shown-number (AskVersion id) s e r =
 shown-number AskStatus s e r = status-bytes (s .running)
 shown-number (SetState f) s e r = state-bytes (s .running) (s .mode) (r .mode)
 shown-number AskState s e r = state-bytes (s .running) (s .mode) (r .mode)
-shown-number (SetFrequency hz) s e r = refl
-shown-number AskFrequency s e r = refl
-shown-number AskFrequencyRange s e r = refl
-shown-number (SetGain g) s e r = refl
-shown-number AskGain s e r = refl
-shown-number (SetClock hz) s e r = refl
-shown-number AskClock s e r = refl
-shown-number (SetRate hz) s e r = rate-shown (s .divisor) (r .divisor)
-shown-number AskRate s e r = rate-shown (s .divisor) (r .divisor)
+shown-number (SetChannelSetup n) s e r = refl
+shown-number AskChannelSetup s e r = refl
+shown-number (SetFrequency c hz) s e r = refl
+shown-number (AskFrequency c) s e r = refl
+shown-number (AskFrequencyRange c) s e r = refl
+shown-number (SetGain c g) s e r = refl
+shown-number (AskGain c) s e r = refl
+shown-number (SetClock c hz) s e r = refl
+shown-number (AskClock c) s e r = refl
+shown-number (SetRate c hz) s e r = rate-shown (s .divisor) (r .divisor)
+shown-number (AskRate c) s e r = rate-shown (s .divisor) (r .divisor)
 shown-number (SetPacketSize n) s e r = refl
 shown-number AskPacketSize s e r = refl
 
@@ -220,33 +231,70 @@ run-could : (m : ℕ) (s : Settings) → s .running && not (eqb m (s .mode)) ≡
     → eqb (stateOf (runIn m s .running) (runIn m s .mode)) (stateShown run m) ≡ true
 run-could m s h = rw (running-in m s h .0, running-in m s h .1) (eq-eqb (stateShown run m) (stateShown run m) refl)
 
+-- what both channels have, the one that a byte names has
+at-channel : (P : Channel → Type 0) (c : ℕ) (s : Settings) → P (s .first) → P (s .second) → P (channelAt c s)
+at-channel P c s first second = pick-keeps P (eqb c 0x02) (s .second) (s .first) (λ is. second) (λ is. first)
+
+-- channel 00 is open in every box
+first-open : (setup : ℕ) → oneOf 0x00 (openChannels setup) ≡ true
+first-open setup = go (eqb setup dual)
+  where
+    go : (two : Bool) → oneOf 0x00 (pick two (0x00 ∷ 0x02 ∷ []) (0x00 ∷ [])) ≡ true
+    go true = refl
+    go false = refl
+
+-- a set covers the channel that a request with the same byte would show
+set-shows : (change : Channel → Channel) (s : Settings) (c : ℕ) → oneOf c (0xFF ∷ 0x00 ∷ 0x02 ∷ []) ≡ true
+    → channelAt c (onChannels c change s) ≡ change (channelAt c s)
+set-shows change s c =
+    one-has (λ (c : ℕ). channelAt c (onChannels c change s) ≡ change (channelAt c s)) c (0xFF ∷ 0x00 ∷ 0x02 ∷ [])
+    (pick-true _ (change (s .first)) (s .first) (first-open (s .setup)), (refl, (refl, tt)))
+
+tuned : (c hz : ℕ) (s : Settings) → oneOf c (0xFF ∷ 0x00 ∷ 0x02 ∷ []) ≡ true
+    → numberOf (SetFrequency c hz) (granted (SetFrequency c hz) s) ≡ hz
+tuned c hz s is = ap (λ (k : Channel). k .frequency) (set-shows (tunedTo hz (s .clock)) s c is)
+
+gained : (c : ℕ) (g : ℤ) (s : Settings) → oneOf c (0xFF ∷ 0x00 ∷ 0x02 ∷ []) ≡ true
+    → numberOf (SetGain c g) (granted (SetGain c g) s) ≡ coded 8 g
+gained c g s is = ap (λ (k : Channel). k .gain) (set-shows (gainedTo (coded 8 g)) s c is)
+
+-- where the wish's channel is open in this box, it is so in one with two channels
+open-there : (w : Wish) (s : Settings) → closedNow w s ≡ false → openAt w dual ≡ true
+open-there w s here = sym (open-dual w) ∙ open-here w (s .setup) (not-false (openAt w (s .setup)) here)
+
 -- a valid box could give the value that a valid box shows
 abbrev CouldShow : Wish → Settings → Type 0
-CouldShow w s = notNow w s ≡ false → awaited w .could (numberOf w (granted w s)) ≡ true
+CouldShow w s = closedNow w s ≡ false → notNow w s ≡ false → awaited w .could (numberOf w (granted w s)) ≡ true
 
 could-shown : (w : Wish) (s : Settings) → allowedWish w ≡ true → Ranges s → CouldShow w s
-could-shown AskName s e r now = refl
-could-shown AskSerial s e r now = serial-could (s .serial) (r .serial)
-could-shown AskInterface s e r now = refl
-could-shown (AskVersion id) s e r now = eq-eqb (number (getD versionTable id [])) (number (getD versionTable id [])) refl
-could-shown AskStatus s e r now = status-could (s .running)
-could-shown (SetState f) s e r now =
-    state-has (λ f. CouldShow (SetState f) s) (λ m now. idle-could (s .mode) (r .mode)) (run-could 0x80 s) (run-could 0x00 s) f e now
-could-shown AskState s e r now =
+could-shown AskName s e r here now = refl
+could-shown AskSerial s e r here now = serial-could (s .serial) (r .serial)
+could-shown AskInterface s e r here now = refl
+could-shown (AskVersion id) s e r here now = eq-eqb (number (getD versionTable id [])) (number (getD versionTable id [])) refl
+could-shown AskStatus s e r here now = status-could (s .running)
+could-shown (SetState f) s e r here now =
+    state-has (λ f. CouldShow (SetState f) s) (λ m here now. idle-could (s .mode) (r .mode))
+    (λ here. run-could 0x80 s) (λ here. run-could 0x00 s) f e here now
+could-shown AskState s e r here now =
     box-has (λ t m. isState (stateOf t m) ≡ true) refl refl refl refl (s .running) (s .mode) (r .mode)
-could-shown (SetFrequency hz) s e r now = eq-eqb hz hz refl
-could-shown AskFrequency s e r now = r .first .frequency
-could-shown AskFrequencyRange s e r now = refl
-could-shown (SetGain g) s e r now = eq-eqb (coded 8 g) (coded 8 g) refl
-could-shown AskGain s e r now = r .first .gain
-could-shown (SetClock hz) s e r now = eq-eqb hz hz refl
-could-shown AskClock s e r now = r .clock
-could-shown (SetRate hz) s e r now = eq-eqb (rateOf (nearestOf hz)) (rateOf (nearestOf hz)) refl
-could-shown AskRate s e r now =
+could-shown (SetChannelSetup n) s e r here now = eq-eqb n n refl
+could-shown AskChannelSetup s e r here now = r .setup
+could-shown (SetFrequency c hz) s e r here now =
+    eq-eqb (numberOf (SetFrequency c hz) (granted (SetFrequency c hz) s)) hz (tuned c hz s (open-there (SetFrequency c hz) s here))
+could-shown (AskFrequency c) s e r here now =
+    at-channel (λ (c : Channel). inBands (c .frequency) ≡ true) c s (r .first .frequency) (r .second .frequency)
+could-shown (AskFrequencyRange c) s e r here now = refl
+could-shown (SetGain c g) s e r here now =
+    eq-eqb (numberOf (SetGain c g) (granted (SetGain c g) s)) (coded 8 g) (gained c g s (open-there (SetGain c g) s here))
+could-shown (AskGain c) s e r here now = at-channel (λ (c : Channel). isGain (c .gain) ≡ true) c s (r .first .gain) (r .second .gain)
+could-shown (SetClock c hz) s e r here now = eq-eqb hz hz refl
+could-shown (AskClock c) s e r here now = r .clock
+could-shown (SetRate c hz) s e r here now = eq-eqb (rateOf (nearestOf hz)) (rateOf (nearestOf hz)) refl
+could-shown (AskRate c) s e r here now =
     let d = s .divisor in
     sym (rate-listed (rateOf d)) ∙ lt-ltb 0 (dOf (rateOf d)) (rw (d-of-rate d (r .divisor)) (some-d d (r .divisor)))
-could-shown (SetPacketSize n) s e r now = eq-eqb n n refl
-could-shown AskPacketSize s e r now = r .size
+could-shown (SetPacketSize n) s e r here now = eq-eqb n n refl
+could-shown AskPacketSize s e r here now = r .size
 
 -- and it says what the box says
 says-shown : (w : Wish) (s : Settings) → Ranges s → awaited w .says (numberOf w s) ≡ saysOf w s
@@ -257,29 +305,43 @@ says-shown (AskVersion id) s r = refl
 says-shown AskStatus s r = status-said (s .running)
 says-shown (SetState f) s r = state-said (s .running) (s .mode) (r .mode)
 says-shown AskState s r = state-said (s .running) (s .mode) (r .mode)
-says-shown (SetFrequency hz) s r = refl
-says-shown AskFrequency s r = refl
-says-shown AskFrequencyRange s r = refl
-says-shown (SetGain g) s r = refl
-says-shown AskGain s r = refl
-says-shown (SetClock hz) s r = refl
-says-shown AskClock s r = refl
-says-shown (SetRate hz) s r = refl
-says-shown AskRate s r = refl
+says-shown (SetChannelSetup n) s r = refl
+says-shown AskChannelSetup s r = refl
+says-shown (SetFrequency c hz) s r = refl
+says-shown (AskFrequency c) s r = refl
+says-shown (AskFrequencyRange c) s r = refl
+says-shown (SetGain c g) s r = refl
+says-shown (AskGain c) s r = refl
+says-shown (SetClock c hz) s r = refl
+says-shown (AskClock c) s r = refl
+says-shown (SetRate c hz) s r = refl
+says-shown (AskRate c) s r = refl
 says-shown (SetPacketSize n) s r = refl
 says-shown AskPacketSize s r = refl
 
 -- ---- what a valid box says is read
 
+neither : (a b : Bool) → a || b ≡ false → (a ≡ false) × (b ≡ false)
+neither false false h = (refl, refl)
+neither false true h = never (sym h)
+neither true b h = never (sym h)
+
 module _ (w : Wish) (s : Settings) (e : allowedWish w ≡ true) (valid : inRange s ≡ true) where
   -- where the box cannot grant the wish now
-  refused-nak : notNow w s ≡ true → replyOf s (asMessage w) ≡ nak
+  refused-nak : refusedNow w s ≡ true → replyOf s (asMessage w) ≡ nak
   unfolding replyOf
-  refused-nak later = rw (code-of-wish w s e, later)
+  refused-nak = by-or (closedNow w s) (notNow w s) (λ shut. rw (code-of-wish w s e, shut)) later
+    where
+      by : (t : Bool) → boxWrites (pick t 15 17) (replyDue s (asMessage w)) ≡ nak
+      by true = refl
+      by false = refl
 
-  module _ (now : notNow w s ≡ false) where
+      later : notNow w s ≡ true → boxWrites (codeOf s (asMessage w)) (replyDue s (asMessage w)) ≡ nak
+      later is = rw (code-of-wish w s e, is) (by (closedNow w s))
+
+  module _ (here : closedNow w s ≡ false) (now : notNow w s ≡ false) where
     after : settingsAfter s (asMessage w) ≡ granted w s
-    after = settings-of-wish w s e ∙ rw now
+    after = settings-of-wish w s e ∙ rw (here, now)
 
     granted-valid : inRange (granted w s) ≡ true
     granted-valid = rw after at (message-keeps s (asMessage w) valid)
@@ -287,35 +349,39 @@ module _ (w : Wish) (s : Settings) (e : allowedWish w ≡ true) (valid : inRange
     reply-shown : replyOf s (asMessage w) ≡ replyBytes w (numberOf w (granted w s))
     unfolding replyOf replyBytes
     reply-shown =
-        rw (code-of-wish w s e, now, row-of-wish w, after)
+        rw (code-of-wish w s e, here, now, row-of-wish w, after)
         (reply-around w (granted w s)
         ∙ ap (around w) (shown-number w (granted w s) e (ranges (granted w s) granted-valid))
         ∙ framed-laid (replyLayout w (numberOf w (granted w s))))
 
+  -- the two ways: the box refuses, or it grants
+  abbrev ways : (P : Bool → Type 0) → (refusedNow w s ≡ true → P true)
+      → (closedNow w s ≡ false → notNow w s ≡ false → P false) → P (refusedNow w s)
+  ways P refuses grants = go (refusedNow w s) refl
+    where
+      go : (t : Bool) → refusedNow w s ≡ t → P t
+      go true is = refuses is
+      go false is = let none = neither (closedNow w s) (notNow w s) is in grants (none .0) (none .1)
+
   -- what the box says is accepted
   box-reply-accepted : isNak (replyOf s (asMessage w)) || isReply w (replyOf s (asMessage w)) ≡ true
-  box-reply-accepted = go (notNow w s) refl
-    where
-      go : (t : Bool) → notNow w s ≡ t → isNak (replyOf s (asMessage w)) || isReply w (replyOf s (asMessage w)) ≡ true
-      go true later = rw (refused-nak later)
-      go false now =
-          rw (reply-shown now)
-          (or-right (isNak (replyBytes w (numberOf w (granted w s)))) (isReply w (replyBytes w (numberOf w (granted w s))))
-          (reply-is-reply w (numberOf w (granted w s)) e (could-shown w s e (ranges s valid) now)))
+  box-reply-accepted =
+      ways (λ t. isNak (replyOf s (asMessage w)) || isReply w (replyOf s (asMessage w)) ≡ true) (λ is. rw (refused-nak is))
+      (λ here now. rw (reply-shown here now)
+      (or-right (isNak (replyBytes w (numberOf w (granted w s)))) (isReply w (replyBytes w (numberOf w (granted w s))))
+      (reply-is-reply w (numberOf w (granted w s)) e (could-shown w s e (ranges s valid) here now))))
 
   -- and read as what it says
-  read-as-said : replyReaderSays w (replyOf s (asMessage w)) ≡ replySays (saidBy w s)
-  read-as-said = go (notNow w s) refl
-    where
-      go : (t : Bool) → notNow w s ≡ t → replyReaderSays w (replyOf s (asMessage w)) ≡ replySays (pick t Nak (saysOf w (granted w s)))
-      go true later = rw (refused-nak later) (sym (read-nak w nak e refl))
-      go false now =
-          rw (reply-shown now)
-          (sym (reply-read w (numberOf w (granted w s)) e (could-shown w s e (ranges s valid) now))
-          ∙ ap replySays (says-shown w (granted w s) (ranges (granted w s) (granted-valid now))))
+  read-as-said : openWish w ≡ true → replyReaderSays w (replyOf s (asMessage w)) ≡ replySays (saidBy w s)
+  read-as-said o =
+      ways (λ t. replyReaderSays w (replyOf s (asMessage w)) ≡ replySays (pick t Nak (saysOf w (granted w s))))
+      (λ is. rw (refused-nak is) (sym (read-nak w nak o e refl)))
+      (λ here now. rw (reply-shown here now)
+      (sym (reply-read w (numberOf w (granted w s)) o e (could-shown w s e (ranges s valid) here now))
+      ∙ ap replySays (says-shown w (granted w s) (ranges (granted w s) (granted-valid here now)))))
 
 pub box-reply-is-read : ReadAsSaid
-box-reply-is-read = read-as-said
+box-reply-is-read w s o e valid = read-as-said w s e valid o
 
 -- ---- what is read, a valid box says
 
@@ -329,27 +395,30 @@ modeByte n = getD (bytes 4 n) 2 0
 abbrev mode-in : ℕ → Type 0
 mode-in n = isMode (modeByte n) ≡ true
 
+-- fresh, but for two channels
 abbrev fresh : Settings
-fresh = freshOf (replicate 8 0x30)
+fresh = withSetup dual (freshOf (replicate 8 0x30))
 
--- a valid box, fresh but for the value that a reply holds
+-- a valid box, fresh but for that and the value that a reply holds, which both channels have
 abbrev boxWith : Wish → ℕ → Settings
 boxWith AskName n = fresh
-boxWith AskSerial n = freshOf (bytes 8 n)
+boxWith AskSerial n = withSetup dual (freshOf (bytes 8 n))
 boxWith AskInterface n = fresh
 boxWith (AskVersion id) n = fresh
 boxWith AskStatus n = withRunning (eqb n 0x0C) fresh
 boxWith (SetState f) n = withMode (modeByte n) fresh
 boxWith AskState n = withMode (modeByte n) (withRunning (eqb (runByte n) run) fresh)
-boxWith (SetFrequency hz) n = fresh
-boxWith AskFrequency n = withFrequency n fresh
-boxWith AskFrequencyRange n = fresh
-boxWith (SetGain g) n = fresh
-boxWith AskGain n = withGain n fresh
-boxWith (SetClock hz) n = fresh
-boxWith AskClock n = withClock n fresh
-boxWith (SetRate hz) n = fresh
-boxWith AskRate n = withDivisor (dOf n) fresh
+boxWith (SetChannelSetup m) n = fresh
+boxWith AskChannelSetup n = withSetup n fresh
+boxWith (SetFrequency c hz) n = fresh
+boxWith (AskFrequency c) n = onChannels 0xFF (tunedTo n 80_000_000) fresh
+boxWith (AskFrequencyRange c) n = fresh
+boxWith (SetGain c g) n = fresh
+boxWith (AskGain c) n = onChannels 0xFF (gainedTo n) fresh
+boxWith (SetClock c hz) n = fresh
+boxWith (AskClock c) n = withClock n fresh
+boxWith (SetRate c hz) n = fresh
+boxWith (AskRate c) n = withDivisor (dOf n) fresh
 boxWith (SetPacketSize m) n = fresh
 boxWith AskPacketSize n = withSize n fresh
 
@@ -363,7 +432,7 @@ state-mode f n e h =
     (run-mode 0x80 n refl) (run-mode 0x00 n refl) f e h
 
 -- a fresh box but for its frequency, or its clock, keeps the word of both
-tuned-valid : (n : ℕ) → inBands n ≡ true → inRange (withFrequency n fresh) ≡ true
+tuned-valid : (n : ℕ) → inBands n ≡ true → inRange (onChannels 0xFF (tunedTo n 80_000_000) fresh) ≡ true
 unfolding inRange
 tuned-valid n h = rw (h, eq-eqb (wordOf n 80_000_000) (wordOf n 80_000_000) refl)
 
@@ -380,70 +449,84 @@ box-valid (AskVersion id) n e h = refl
 box-valid AskStatus n e h = refl
 box-valid (SetState f) n e h = rw (state-mode f n e h)
 box-valid AskState n e h = rw (one-has mode-in n (idleShown ++ runShown) (refl, (refl, (refl, (refl, tt)))) h)
-box-valid (SetFrequency hz) n e h = refl
-box-valid AskFrequency n e h = tuned-valid n h
-box-valid AskFrequencyRange n e h = refl
-box-valid (SetGain g) n e h = refl
-box-valid AskGain n e h = rw h
-box-valid (SetClock hz) n e h = refl
-box-valid AskClock n e h = clocked-valid n h
-box-valid (SetRate hz) n e h = refl
-box-valid AskRate n e h = rw (listed-d n h .0)
+box-valid (SetChannelSetup m) n e h = refl
+box-valid AskChannelSetup n e h = rw h
+box-valid (SetFrequency c hz) n e h = refl
+box-valid (AskFrequency c) n e h = tuned-valid n h
+box-valid (AskFrequencyRange c) n e h = refl
+box-valid (SetGain c g) n e h = refl
+box-valid (AskGain c) n e h = rw h
+box-valid (SetClock c hz) n e h = refl
+box-valid (AskClock c) n e h = clocked-valid n h
+box-valid (SetRate c hz) n e h = refl
+box-valid (AskRate c) n e h = rw (listed-d n h .0)
 box-valid (SetPacketSize m) n e h = refl
 box-valid AskPacketSize n e h = rw h
+
+-- it has two channels, but where the reply holds 0019's value
+box-dual : (w : Wish) (n : ℕ) → openAt w (boxWith w n .setup) ≡ openAt w dual
+box-dual w = search (by-wish (λ w. (n : ℕ) → openAt w (boxWith w n .setup) ≡ openAt w dual))
+
+box-here : (w : Wish) (n : ℕ) → openWish w ≡ true → closedNow w (boxWith w n) ≡ false
+box-here w n o = ap not (box-dual w n ∙ sym (open-dual w) ∙ o)
 
 box-now : (w : Wish) (n : ℕ) → notNow w (boxWith w n) ≡ false
 box-now w = search (by-wish (λ w. (n : ℕ) → notNow w (boxWith w n) ≡ false))
 
 -- and it shows the value
 abbrev Shows : ℕ → Wish → Type 0
-Shows n w = awaited w .could n ≡ true → numberOf w (granted w (boxWith w n)) ≡ n
+Shows n w = openWish w ≡ true → awaited w .could n ≡ true → numberOf w (granted w (boxWith w n)) ≡ n
 
 box-shows : (w : Wish) (n : ℕ) → allowedWish w ≡ true → Shows n w
-box-shows AskName n e h = sym (eqb-true n (number nameBytes) h)
-box-shows AskSerial n e h = number-bytes 8 n (ltb-true n (256 ^ 8) (and-right (allSerial (bytes 8 n)) (ltb n (256 ^ 8)) h))
-box-shows AskInterface n e h = sym (eqb-true n 105 h)
-box-shows (AskVersion id) n e h = sym (eqb-true n (number (getD versionTable id [])) h)
-box-shows AskStatus n e h = one-has (λ n. pick (eqb n 0x0C) 0x0C 0x0B ≡ n) n (0x0B ∷ 0x0C ∷ []) (refl, (refl, tt)) h
-box-shows (SetState f) n e h =
-    state-has (λ f. Shows n (SetState f)) (λ m. one-has (λ n. stateShown idle (modeByte n) ≡ n) n idleShown (refl, (refl, tt)))
-    (λ is. sym (eqb-true n (stateShown run 0x80) is)) (λ is. sym (eqb-true n (stateShown run 0x00) is)) f e h
-box-shows AskState n e h =
+box-shows AskName n e o h = sym (eqb-true n (number nameBytes) h)
+box-shows AskSerial n e o h = number-bytes 8 n (ltb-true n (256 ^ 8) (and-right (allSerial (bytes 8 n)) (ltb n (256 ^ 8)) h))
+box-shows AskInterface n e o h = sym (eqb-true n 105 h)
+box-shows (AskVersion id) n e o h = sym (eqb-true n (number (getD versionTable id [])) h)
+box-shows AskStatus n e o h = one-has (λ n. pick (eqb n 0x0C) 0x0C 0x0B ≡ n) n (0x0B ∷ 0x0C ∷ []) (refl, (refl, tt)) h
+box-shows (SetState f) n e o h =
+    state-has (λ f. Shows n (SetState f)) (λ m o. one-has (λ n. stateShown idle (modeByte n) ≡ n) n idleShown (refl, (refl, tt)))
+    (λ o is. sym (eqb-true n (stateShown run 0x80) is)) (λ o is. sym (eqb-true n (stateShown run 0x00) is)) f e o h
+box-shows AskState n e o h =
     one-has (λ n. stateOf (eqb (runByte n) run) (modeByte n) ≡ n) n (idleShown ++ runShown) (refl, (refl, (refl, (refl, tt)))) h
-box-shows (SetFrequency hz) n e h = sym (eqb-true n hz h)
-box-shows AskFrequency n e h = refl
-box-shows AskFrequencyRange n e h = sym (eqb-true n (number (0x02 ∷ rangeBytes bands)) h)
-box-shows (SetGain g) n e h = sym (eqb-true n (coded 8 g) h)
-box-shows AskGain n e h = refl
-box-shows (SetClock hz) n e h = sym (eqb-true n hz h)
-box-shows AskClock n e h = refl
-box-shows (SetRate hz) n e h = sym (eqb-true n (rateOf (nearestOf hz)) h)
-box-shows AskRate n e h = listed-d n h .1
-box-shows (SetPacketSize m) n e h = sym (eqb-true n m h)
-box-shows AskPacketSize n e h = refl
+box-shows (SetChannelSetup m) n e o h = sym (eqb-true n m h)
+box-shows AskChannelSetup n e o h = refl
+box-shows (SetFrequency c hz) n e o h =
+    tuned c hz fresh (sym (open-dual (SetFrequency c hz)) ∙ o) ∙ sym (eqb-true n hz h)
+box-shows (AskFrequency c) n e o h = ap (λ (c : Channel). c .frequency) (pick-same (eqb c 0x02) (tunedTo n 80_000_000 freshChannel))
+box-shows (AskFrequencyRange c) n e o h = sym (eqb-true n (number (0x02 ∷ rangeBytes bands)) h)
+box-shows (SetGain c g) n e o h =
+    gained c g fresh (sym (open-dual (SetGain c g)) ∙ o) ∙ sym (eqb-true n (coded 8 g) h)
+box-shows (AskGain c) n e o h = ap (λ (c : Channel). c .gain) (pick-same (eqb c 0x02) (gainedTo n freshChannel))
+box-shows (SetClock c hz) n e o h = sym (eqb-true n hz h)
+box-shows (AskClock c) n e o h = refl
+box-shows (SetRate c hz) n e o h = sym (eqb-true n (rateOf (nearestOf hz)) h)
+box-shows (AskRate c) n e o h = listed-d n h .1
+box-shows (SetPacketSize m) n e o h = sym (eqb-true n m h)
+box-shows AskPacketSize n e o h = refl
 
-pub read-has-box : (w : Wish) (bs : List ℕ) → allowedWish w ≡ true → isReply w bs ≡ true → Given w bs
-read-has-box w bs e h =
+pub read-has-box : (w : Wish) (bs : List ℕ) → openWish w ≡ true → allowedWish w ≡ true → isReply w bs ≡ true → Given w bs
+read-has-box w bs o e h =
     let n = numberIn w bs in
     let could = is-reply-bytes w bs h .0 in
     let s = boxWith w n in
     let valid = box-valid w n e could in
+    let shows = ap (replyBytes w) (box-shows w n e o could) in
     record {
       settings = s;
       valid = valid;
-      gives = reply-shown w s e valid (box-now w n) ∙ ap (replyBytes w) (box-shows w n e could) ∙ sym (is-reply-bytes w bs h .1);
+      gives = reply-shown w s e valid (box-here w n o) (box-now w n) ∙ shows ∙ sym (is-reply-bytes w bs h .1);
     }
 
 pub exactly : Exactly
-exactly w bs e = (into, from)
+exactly w bs o e = (into, from)
   where
     into : replyCode w bs ≡ 1 → (bs ≡ nak) ⊎ Given w bs
     into h =
         by-or (isNak bs) (isReply w bs) (λ (is : isNak bs ≡ true). inl (same-eq bs nak is))
-        (λ (is : isReply w bs ≡ true). inr (read-has-box w bs e is)) (code-accepted w bs e h)
+        (λ (is : isReply w bs ≡ true). inr (read-has-box w bs o e is)) (code-accepted w bs o e h)
 
     from : (bs ≡ nak) ⊎ Given w bs → replyCode w bs ≡ 1
-    from (inl is) = accepted-code w bs e (or-left (isNak bs) (isReply w bs) (eq-same bs nak is))
+    from (inl is) = accepted-code w bs o e (or-left (isNak bs) (isReply w bs) (eq-same bs nak is))
     from (inr g) =
         subst (λ (l : List ℕ). replyCode w l ≡ 1) (g .gives)
-        (accepted-code w (replyOf (g .settings) (asMessage w)) e (box-reply-accepted w (g .settings) e (g .valid)))
+        (accepted-code w (replyOf (g .settings) (asMessage w)) o e (box-reply-accepted w (g .settings) e (g .valid)))

@@ -27,10 +27,11 @@ use Rattle.wire.proofs.Signed.{coded-below}
 use Rattle.items.proofs.Versions.{version-has}
 use Rattle.items.specs.Settings.{allSerial}
 use Rattle.wishes.specs.declared.Wish.{Wish}
-use Rattle.wishes.specs.declared.Wish.the-variants.{AskName, AskSerial, AskInterface, AskVersion, AskStatus, SetState}
-use Rattle.wishes.specs.declared.Wish.the-variants.{AskState, SetFrequency, AskFrequency, AskFrequencyRange, SetGain, AskGain}
-use Rattle.wishes.specs.declared.Wish.the-variants.{SetClock, AskClock, SetRate, AskRate, SetPacketSize, AskPacketSize}
-use Rattle.wishes.specs.Wishes.{allowedWish}
+use Rattle.wishes.specs.declared.Wish.the-variants.{AskName, AskSerial, AskInterface, AskVersion, AskStatus, SetState, AskState}
+use Rattle.wishes.specs.declared.Wish.the-variants.{SetChannelSetup, AskChannelSetup, SetFrequency, AskFrequency, AskFrequencyRange}
+use Rattle.wishes.specs.declared.Wish.the-variants.{SetGain, AskGain, SetClock, AskClock}
+use Rattle.wishes.specs.declared.Wish.the-variants.{SetRate, AskRate, SetPacketSize, AskPacketSize}
+use Rattle.wishes.specs.Wishes.{openWish, allowedWish}
 use Rattle.tuning.proofs.Covered.{bands-high}
 use Rattle.wishes.proofs.Allowed.{state-has, gain-below, value-fits}
 use Rattle.wire.proofs.Laws.{one-has}
@@ -67,16 +68,18 @@ could-fits (SetState f) n e h =
     runs : (m : ℕ) → stateShown 2 m < 256 ^ 4 → eqb n (stateShown 2 m) ≡ true → n < 256 ^ 4
     runs m small is = rw (eqb-true n (stateShown 2 m) is) small
 could-fits AskState n e h = one-has (λ n. n < 256 ^ 4) n (idleShown ++ runShown) (lit< tt, (lit< tt, (lit< tt, (lit< tt, tt)))) h
-could-fits (SetFrequency hz) n e h = rw (eqb-true n hz h) (value-fits (SetFrequency hz) e)
-could-fits AskFrequency n e h = omega (arith, bands-high n h)
-could-fits AskFrequencyRange n e h = rw (eqb-true n (number (0x02 ∷ rangeBytes bands)) h) (lit< tt)
-could-fits (SetGain g) n e h = rw (eqb-true n (coded 8 g) h) (coded-below 8 g (omega arith) (value-fits (SetGain g) e .1))
-could-fits AskGain n e h = gain-below n h
-could-fits (SetClock hz) n e h = rw (eqb-true n hz h) (value-fits (SetClock hz) e)
-could-fits AskClock n e h = omega (arith, within-high 79_992_000 80_008_000 n h)
-could-fits (SetRate hz) n e h =
+could-fits (SetChannelSetup m) n e h = rw (eqb-true n m h) (value-fits (SetChannelSetup m) e)
+could-fits AskChannelSetup n e h = one-has (λ n. n < 256) n (0 ∷ 4 ∷ []) (lit< tt, (lit< tt, tt)) h
+could-fits (SetFrequency c hz) n e h = rw (eqb-true n hz h) (value-fits (SetFrequency c hz) e)
+could-fits (AskFrequency c) n e h = omega (arith, bands-high n h)
+could-fits (AskFrequencyRange c) n e h = rw (eqb-true n (number (0x02 ∷ rangeBytes bands)) h) (lit< tt)
+could-fits (SetGain c g) n e h = rw (eqb-true n (coded 8 g) h) (coded-below 8 g (omega arith) (value-fits (SetGain c g) e .1))
+could-fits (AskGain c) n e h = gain-below n h
+could-fits (SetClock c hz) n e h = rw (eqb-true n hz h) (value-fits (SetClock c hz) e)
+could-fits (AskClock c) n e h = omega (arith, within-high 79_992_000 80_008_000 n h)
+could-fits (SetRate c hz) n e h =
     let d = nearestOf hz in rw (eqb-true n (rateOf d) h) (rate-below (rateOf d) (rate-asked d (nearest-d hz e)))
-could-fits AskRate n e h = let d = listed-d n h in rate-below n (subst (λ (r : ℕ). mayAsk r ≡ true) (d .1) (rate-asked (dOf n) (d .0)))
+could-fits (AskRate c) n e h = let d = listed-d n h in rate-below n (subst (λ (r : ℕ). mayAsk r ≡ true) (d .1) (rate-asked (dOf n) (d .0)))
 could-fits (SetPacketSize m) n e h = rw (eqb-true n m h) (value-fits (SetPacketSize m) e)
 could-fits AskPacketSize n e h = one-has (λ n. n < 256) n (0 ∷ 1 ∷ []) (lit< tt, (lit< tt, tt)) h
 
@@ -97,9 +100,10 @@ reply-no-nak w n = ne-same (replyBytes w n) nak (λ is. absurd (two (ap length i
     two : length (laid (replyLayout w n)) ≡ 2 → ⊥
     two is = omega (arith, length-laid (replyLayout w n), least (replyLayout w n))
 
-pub reply-read : (w : Wish) (n : ℕ) → allowedWish w ≡ true → awaited w .could n ≡ true → replySays (awaited w .says n) ≡ replyReaderSays w (replyBytes w n)
-reply-read w n e h =
-    read-reply w (replyBytes w n) e (reply-no-nak w n) n (reply-is-reply w n e h) (reply-value w n (could-fits w n e h))
+pub reply-read : (w : Wish) (n : ℕ) → openWish w ≡ true → allowedWish w ≡ true → awaited w .could n ≡ true
+    → replySays (awaited w .says n) ≡ replyReaderSays w (replyBytes w n)
+reply-read w n o e h =
+    read-reply w (replyBytes w n) o e (reply-no-nak w n) n (reply-is-reply w n e h) (reply-value w n (could-fits w n e h))
 
 -- and a reply that is accepted is the reply with the value in it
 pub is-reply-bytes : (w : Wish) (bs : List ℕ) → isReply w bs ≡ true
@@ -115,44 +119,50 @@ is-reply-bytes w bs e =
 abbrev pub rangeNumber : ℕ
 rangeNumber = number (0x02 ∷ rangeBytes bands)
 
--- it is the range reply to channel 00, written into as many bytes as it has
-pub range-written : (r : ℕ) (k : List ℕ) → r ≡ 36 → k ≡ sets (replicate 36 0) 0 (framed typeRangeReply (rangeBody frequency (0x00 ∷ [])))
-    → take r k ≡ replyBytes AskFrequencyRange rangeNumber
-unfolding replyBytes
-range-written r k whole written = rw (whole, written)
+module _ (channel : ℕ) where
+  abbrev wish : Wish
+  wish = AskFrequencyRange channel
 
--- one reply alone is accepted
-pub range-read : (bs l : List ℕ) (t : Bool) → l ≡ replyBytes AskFrequencyRange rangeNumber → (t ≡ true → bs ≡ l) → (bs ≡ l → t ≡ true)
-    → isReply AskFrequencyRange bs ≡ t
-range-read bs l true is to from =
-    rw (to refl ∙ is) (reply-is-reply AskFrequencyRange rangeNumber refl (eq-eqb rangeNumber rangeNumber refl))
-range-read bs l false is to from = go (isReply AskFrequencyRange bs) refl
-  where
-    go : (t : Bool) → isReply AskFrequencyRange bs ≡ t → t ≡ false
-    go true e =
-        let parts = is-reply-bytes AskFrequencyRange bs e in
-        let n : numberIn AskFrequencyRange bs ≡ rangeNumber = eqb-true (numberIn AskFrequencyRange bs) rangeNumber (parts .0) in
-        absurd (true-not-false (sym (from (parts .1 ∙ ap (replyBytes AskFrequencyRange) n ∙ sym is))))
-    go false e = refl
+  -- it is the range reply to the channel, written into as many bytes as it has
+  pub range-written : (r : ℕ) (k : List ℕ) → r ≡ 36
+      → k ≡ sets (replicate 36 0) 0 (framed typeRangeReply (rangeBody frequency (channel ∷ [])))
+      → take r k ≡ replyBytes wish rangeNumber
+  unfolding replyBytes
+  range-written r k whole written = rw (whole, written)
 
--- ---- the code of a wish that is allowed
+  -- one reply alone is accepted
+  pub range-read : (bs l : List ℕ) (t : Bool) → l ≡ replyBytes wish rangeNumber → (t ≡ true → bs ≡ l) → (bs ≡ l → t ≡ true)
+      → isReply wish bs ≡ t
+  range-read bs l true is to from = rw (to refl ∙ is) (reply-is-reply wish rangeNumber refl (eq-eqb rangeNumber rangeNumber refl))
+  range-read bs l false is to from = go (isReply wish bs) refl
+    where
+      go : (t : Bool) → isReply wish bs ≡ t → t ≡ false
+      go true e =
+          let parts = is-reply-bytes wish bs e in
+          let n : numberIn wish bs ≡ rangeNumber = eqb-true (numberIn wish bs) rangeNumber (parts .0) in
+          absurd (true-not-false (sym (from (parts .1 ∙ ap (replyBytes wish) n ∙ sym is))))
+      go false e = refl
 
-pub code-is : (w : Wish) (bs : List ℕ) → allowedWish w ≡ true → replyCode w bs ≡ pick (isNak bs || isReply w bs) 1 28
+-- ---- the code of a wish that the writer does not refuse
+
+pub code-is : (w : Wish) (bs : List ℕ) → openWish w ≡ true → allowedWish w ≡ true → replyCode w bs ≡ pick (isNak bs || isReply w bs) 1 28
 unfolding replyCode
-code-is w bs e = rw e (by (isNak bs || isReply w bs))
+code-is w bs o e = rw (o, e) (by (isNak bs || isReply w bs))
   where
     by : (t : Bool) → _≡_ {A = ℕ} (pick (not t) 28 1) (pick t 1 28)
     by true = refl
     by false = refl
 
-pub accepted-code : (w : Wish) (bs : List ℕ) → allowedWish w ≡ true → isNak bs || isReply w bs ≡ true → replyCode w bs ≡ 1
-accepted-code w bs e h = code-is w bs e ∙ rw h
+pub accepted-code : (w : Wish) (bs : List ℕ) → openWish w ≡ true → allowedWish w ≡ true
+    → isNak bs || isReply w bs ≡ true → replyCode w bs ≡ 1
+accepted-code w bs o e h = code-is w bs o e ∙ rw h
 
-pub code-accepted : (w : Wish) (bs : List ℕ) → allowedWish w ≡ true → replyCode w bs ≡ 1 → isNak bs || isReply w bs ≡ true
-code-accepted w bs e h = go (isNak bs || isReply w bs) refl
+pub code-accepted : (w : Wish) (bs : List ℕ) → openWish w ≡ true → allowedWish w ≡ true
+    → replyCode w bs ≡ 1 → isNak bs || isReply w bs ≡ true
+code-accepted w bs o e h = go (isNak bs || isReply w bs) refl
   where
     go : (t : Bool) → isNak bs || isReply w bs ≡ t → t ≡ true
     go true q = refl
     go false q =
-        let wrong : _≡_ {A = ℕ} 28 1 = sym (code-is w bs e ∙ rw q) ∙ h in
+        let wrong : _≡_ {A = ℕ} 28 1 = sym (code-is w bs o e ∙ rw q) ∙ h in
         absurd (eqb-false 28 1 refl wrong)

@@ -9,20 +9,21 @@ use lib.Dec.{eqb}
 use lib.ListN.{getD}
 use Rattle.wire.specs.Choice.{pick, oneOf}
 use Rattle.wire.specs.Signed.{signed}
-use Rattle.wire.proofs.Laws.{true-not-false, pick-false}
+use Rattle.wire.proofs.Laws.{true-not-false, never, pick-false}
 use Rattle.items.proofs.Keys.{allIn, matched}
 use Rattle.wishes.proofs.Wish.{the-type}
 use Rattle.wishes.specs.declared.Wish.{Wish}
-use Rattle.wishes.specs.declared.Wish.the-variants.{AskName, AskSerial, AskInterface, AskVersion, AskStatus, SetState}
-use Rattle.wishes.specs.declared.Wish.the-variants.{AskState, SetFrequency, AskFrequency, AskFrequencyRange, SetGain, AskGain}
-use Rattle.wishes.specs.declared.Wish.the-variants.{SetClock, AskClock, SetRate, AskRate, SetPacketSize, AskPacketSize}
+use Rattle.wishes.specs.declared.Wish.the-variants.{AskName, AskSerial, AskInterface, AskVersion, AskStatus, SetState, AskState}
+use Rattle.wishes.specs.declared.Wish.the-variants.{SetChannelSetup, AskChannelSetup, SetFrequency, AskFrequency, AskFrequencyRange}
+use Rattle.wishes.specs.declared.Wish.the-variants.{SetGain, AskGain, SetClock, AskClock}
+use Rattle.wishes.specs.declared.Wish.the-variants.{SetRate, AskRate, SetPacketSize, AskPacketSize}
 use Rattle.wishes.specs.Wishes.{layoutOf}
 use Rattle.wishes.proofs.Rows.{by-wish}
 use Rattle.wire.proofs.Laws.{each, one-has}
 use Rattle.replies.specs.declared.Reply.{Reply}
-use Rattle.replies.specs.declared.Reply.the-variants.{Name, Serial, Interface, Status, Frequency}
+use Rattle.replies.specs.declared.Reply.the-variants.{Name, Serial, Interface, Status, ChannelSetup, Frequency}
 use Rattle.replies.specs.declared.Reply.the-variants.{FrequencyRange, Gain, Clock, Rate, PacketSize, NotAReply}
-use Rattle.replies.specs.Awaited.{awaited, saysState}
+use Rattle.replies.specs.Awaited.{awaited, asksRange, saysState}
 
 abbrev pub place : Wish → ℕ
 place w = tagOf the-type w
@@ -33,7 +34,7 @@ in-arm P keys w t all h = one-has P (place w) keys all (matched keys keys (place
 
 -- the value's width at each place
 unfoldable pub widths : List ℕ
-widths = 7 ∷ 9 ∷ 2 ∷ 2 ∷ 1 ∷ 4 ∷ 4 ∷ 5 ∷ 5 ∷ 31 ∷ 1 ∷ 1 ∷ 4 ∷ 4 ∷ 4 ∷ 4 ∷ 1 ∷ 1 ∷ []
+widths = 7 ∷ 9 ∷ 2 ∷ 2 ∷ 1 ∷ 4 ∷ 4 ∷ 1 ∷ 1 ∷ 5 ∷ 5 ∷ 31 ∷ 1 ∷ 1 ∷ 4 ∷ 4 ∷ 4 ∷ 4 ∷ 1 ∷ 1 ∷ []
 
 pub width-at : (w : Wish) → awaited w .width ≡ getD widths (place w) 0
 unfolding widths
@@ -47,8 +48,9 @@ width-in v keys w t all h = sym (width-at w ∙ in-arm (λ k. getD widths k 0 �
 -- what a value says at each place; to the wish for a version (3) with its id
 unfoldable pub sayings : ℕ → List Reply
 sayings n =
-    Name ∷ Serial n ∷ Interface n ∷ NotAReply ∷ Status (eqb n 0x0C) ∷ saysState n ∷ saysState n ∷ Frequency n ∷ Frequency n
-    ∷ FrequencyRange ∷ Gain (signed 8 n) ∷ Gain (signed 8 n) ∷ Clock n ∷ Clock n ∷ Rate n ∷ Rate n ∷ PacketSize n ∷ PacketSize n ∷ []
+    Name ∷ Serial n ∷ Interface n ∷ NotAReply ∷ Status (eqb n 0x0C) ∷ saysState n ∷ saysState n ∷ ChannelSetup n ∷ ChannelSetup n
+    ∷ Frequency n ∷ Frequency n ∷ FrequencyRange ∷ Gain (signed 8 n) ∷ Gain (signed 8 n)
+    ∷ Clock n ∷ Clock n ∷ Rate n ∷ Rate n ∷ PacketSize n ∷ PacketSize n ∷ []
 
 abbrev pub SaysAt : Wish → Type 0
 SaysAt w = (n : ℕ) → awaited w .says n ≡ pick (eqb (place w) 3) (awaited w .says n) (getD (sayings n) (place w) NotAReply)
@@ -66,9 +68,9 @@ says-in n r keys w t all h =
 
 -- the places of the sets that are answered with the value sent, and of the range, whose value is longer than any of these
 unfoldable pub echoed : List ℕ
-echoed = 7 ∷ 9 ∷ 10 ∷ 12 ∷ 16 ∷ []
+echoed = 7 ∷ 9 ∷ 11 ∷ 12 ∷ 14 ∷ 18 ∷ []
 
-pub echoes : (w : Wish) (n : ℕ) → oneOf (place w) echoed ≡ true → (w ≡ AskFrequencyRange → ⊥)
+pub echoes : (w : Wish) (n : ℕ) → oneOf (place w) echoed ≡ true → asksRange w ≡ false
     → eqb n (layoutOf w .value) ≡ awaited w .could n
 unfolding echoed
 echoes AskName n h other = absurd (true-not-false (sym h))
@@ -78,22 +80,27 @@ echoes (AskVersion id) n h other = absurd (true-not-false (sym h))
 echoes AskStatus n h other = absurd (true-not-false (sym h))
 echoes (SetState f) n h other = absurd (true-not-false (sym h))
 echoes AskState n h other = absurd (true-not-false (sym h))
-echoes (SetFrequency hz) n h other = refl
-echoes AskFrequency n h other = absurd (true-not-false (sym h))
-echoes AskFrequencyRange n h other = absurd (other refl)
-echoes (SetGain g) n h other = refl
-echoes AskGain n h other = absurd (true-not-false (sym h))
-echoes (SetClock hz) n h other = refl
-echoes AskClock n h other = absurd (true-not-false (sym h))
-echoes (SetRate hz) n h other = absurd (true-not-false (sym h))
-echoes AskRate n h other = absurd (true-not-false (sym h))
+echoes (SetChannelSetup m) n h other = refl
+echoes AskChannelSetup n h other = absurd (true-not-false (sym h))
+echoes (SetFrequency c hz) n h other = refl
+echoes (AskFrequency c) n h other = absurd (true-not-false (sym h))
+echoes (AskFrequencyRange c) n h other = absurd (true-not-false other)
+echoes (SetGain c g) n h other = refl
+echoes (AskGain c) n h other = absurd (true-not-false (sym h))
+echoes (SetClock c hz) n h other = refl
+echoes (AskClock c) n h other = absurd (true-not-false (sym h))
+echoes (SetRate c hz) n h other = absurd (true-not-false (sym h))
+echoes (AskRate c) n h other = absurd (true-not-false (sym h))
 echoes (SetPacketSize m) n h other = refl
 echoes AskPacketSize n h other = absurd (true-not-false (sym h))
 
 -- every place but the range's
 unfoldable pub unranged : List ℕ
-unranged = 0 ∷ 1 ∷ 2 ∷ 3 ∷ 4 ∷ 5 ∷ 6 ∷ 7 ∷ 8 ∷ 10 ∷ 11 ∷ 12 ∷ 13 ∷ 14 ∷ 15 ∷ 16 ∷ 17 ∷ []
+unranged = 0 ∷ 1 ∷ 2 ∷ 3 ∷ 4 ∷ 5 ∷ 6 ∷ 7 ∷ 8 ∷ 9 ∷ 10 ∷ 12 ∷ 13 ∷ 14 ∷ 15 ∷ 16 ∷ 17 ∷ 18 ∷ 19 ∷ []
 
-pub not-range : (w : Wish) → oneOf (place w) unranged ≡ true → w ≡ AskFrequencyRange → ⊥
+pub not-range : (w : Wish) → oneOf (place w) unranged ≡ true → asksRange w ≡ false
 unfolding unranged
-not-range w h is = true-not-false (sym h ∙ ap (λ (v : Wish). oneOf (place v) unranged) is)
+not-range =
+    by-wish (λ (w : Wish). oneOf (place w) unranged ≡ true → asksRange w ≡ false) (λ h. refl) (λ h. refl) (λ h. refl) (λ id h. refl)
+    (λ h. refl) (λ f h. refl) (λ h. refl) (λ n h. refl) (λ h. refl) (λ c hz h. refl) (λ c h. refl) (λ c. never) (λ c g h. refl)
+    (λ c h. refl) (λ c hz h. refl) (λ c h. refl) (λ c hz h. refl) (λ c h. refl) (λ n h. refl) (λ h. refl)

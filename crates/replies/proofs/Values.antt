@@ -18,11 +18,12 @@ use Rattle.layouts.proofs.Writing.{Put, written-whole}
 use Rattle.layouts.proofs.Values.{value-last}
 use Rattle.items.specs.Settings.{allSerial}
 use Rattle.wishes.specs.declared.Wish.{Wish}
-use Rattle.wishes.specs.declared.Wish.the-variants.{AskName, AskSerial, AskInterface, AskVersion, AskStatus, SetState}
-use Rattle.wishes.specs.declared.Wish.the-variants.{AskState, SetFrequency, AskFrequency, AskFrequencyRange, SetGain, AskGain}
-use Rattle.wishes.specs.declared.Wish.the-variants.{SetClock, AskClock, SetRate, AskRate, SetPacketSize, AskPacketSize}
+use Rattle.wishes.specs.declared.Wish.the-variants.{AskName, AskSerial, AskInterface, AskVersion, AskStatus, SetState, AskState}
+use Rattle.wishes.specs.declared.Wish.the-variants.{SetChannelSetup, AskChannelSetup, SetFrequency, AskFrequency, AskFrequencyRange}
+use Rattle.wishes.specs.declared.Wish.the-variants.{SetGain, AskGain, SetClock, AskClock}
+use Rattle.wishes.specs.declared.Wish.the-variants.{SetRate, AskRate, SetPacketSize, AskPacketSize}
 use Rattle.wishes.specs.Wishes.{asking, allowedWish}
-use Rattle.replies.specs.Awaited.{awaited, replyType, replyLayout, replyBytes, valueAt, numberIn}
+use Rattle.replies.specs.Awaited.{awaited, asksRange, replyType, replyLayout, replyBytes, valueAt, numberIn}
 use Rattle.replies.specs.Reading.{isReply}
 use Rattle.wire.specs.Lists.{same}
 use Rattle.wire.proofs.Lists.{same-eq, eq-same}
@@ -33,7 +34,7 @@ word : (w : Wish) → awaited w .width ≤ 8 → (n : ℕ) → allowedWish w ≡
 word w few n e h = lt-of-lt-of-le (could-fits w n e h) (pow-le-pow-right {n = 256} (lit≤ tt) few)
 
 -- such a reply has nine bytes of value at most, is no range reply, and a value in it that a box could give has eight
-pub plain : (w : Wish) → (w ≡ AskFrequencyRange → ⊥)
+pub plain : (w : Wish) → asksRange w ≡ false
     → (awaited w .width ≤ 9) × (replyType (asking w .kind) ≡ 0) × ((n : ℕ) → allowedWish w ≡ true → awaited w .could n ≡ true → n < 256 ^ 8)
 plain AskName other = (lit≤ tt, refl, word AskName (lit≤ tt))
 plain AskSerial other = (lit≤ tt, refl, λ n e h. ltb-true n (256 ^ 8) (and-right (allSerial (bytes 8 n)) (ltb n (256 ^ 8)) h))
@@ -42,15 +43,17 @@ plain (AskVersion id) other = (lit≤ tt, refl, word (AskVersion id) (lit≤ tt)
 plain AskStatus other = (lit≤ tt, refl, word AskStatus (lit≤ tt))
 plain (SetState f) other = (lit≤ tt, refl, word (SetState f) (lit≤ tt))
 plain AskState other = (lit≤ tt, refl, word AskState (lit≤ tt))
-plain (SetFrequency hz) other = (lit≤ tt, refl, word (SetFrequency hz) (lit≤ tt))
-plain AskFrequency other = (lit≤ tt, refl, word AskFrequency (lit≤ tt))
-plain AskFrequencyRange other = absurd (other refl)
-plain (SetGain g) other = (lit≤ tt, refl, word (SetGain g) (lit≤ tt))
-plain AskGain other = (lit≤ tt, refl, word AskGain (lit≤ tt))
-plain (SetClock hz) other = (lit≤ tt, refl, word (SetClock hz) (lit≤ tt))
-plain AskClock other = (lit≤ tt, refl, word AskClock (lit≤ tt))
-plain (SetRate hz) other = (lit≤ tt, refl, word (SetRate hz) (lit≤ tt))
-plain AskRate other = (lit≤ tt, refl, word AskRate (lit≤ tt))
+plain (SetChannelSetup m) other = (lit≤ tt, refl, word (SetChannelSetup m) (lit≤ tt))
+plain AskChannelSetup other = (lit≤ tt, refl, word AskChannelSetup (lit≤ tt))
+plain (SetFrequency c hz) other = (lit≤ tt, refl, word (SetFrequency c hz) (lit≤ tt))
+plain (AskFrequency c) other = (lit≤ tt, refl, word (AskFrequency c) (lit≤ tt))
+plain (AskFrequencyRange c) other = absurd (true-not-false other)
+plain (SetGain c g) other = (lit≤ tt, refl, word (SetGain c g) (lit≤ tt))
+plain (AskGain c) other = (lit≤ tt, refl, word (AskGain c) (lit≤ tt))
+plain (SetClock c hz) other = (lit≤ tt, refl, word (SetClock c hz) (lit≤ tt))
+plain (AskClock c) other = (lit≤ tt, refl, word (AskClock c) (lit≤ tt))
+plain (SetRate c hz) other = (lit≤ tt, refl, word (SetRate c hz) (lit≤ tt))
+plain (AskRate c) other = (lit≤ tt, refl, word (AskRate c) (lit≤ tt))
 plain (SetPacketSize m) other = (lit≤ tt, refl, word (SetPacketSize m) (lit≤ tt))
 plain AskPacketSize other = (lit≤ tt, refl, word AskPacketSize (lit≤ tt))
 
@@ -90,7 +93,7 @@ unfolding replyBytes
 reply-last w n = value-last (replyLayout w n)
 
 -- a reply that is written into sixteen bytes
-module _ (w : Wish) (n : ℕ) (other : w ≡ AskFrequencyRange → ⊥) (r : ℕ) (k : List ℕ) (put : Put
+module _ (w : Wish) (n : ℕ) (other : asksRange w ≡ false) (r : ℕ) (k : List ℕ) (put : Put
     (replicate 16 0) (replyLayout w n) r k) where
   written : (r ≡ length (replyBytes w n)) × (k ≡ sets (replicate 16 0) 0 (replyBytes w n))
   unfolding replyBytes
@@ -104,7 +107,7 @@ module _ (w : Wish) (n : ℕ) (other : w ≡ AskFrequencyRange → ⊥) (r : ℕ
       rw (written .0, written .1)
       (sets-taken (replicate 16 0) 0 (replyBytes w n) (rw (← written .0) (omega (arith, written-few))))
 
-module _ (w : Wish) (bs : List ℕ) (other : w ≡ AskFrequencyRange → ⊥) where
+module _ (w : Wish) (bs : List ℕ) (other : asksRange w ≡ false) where
   -- the first eight bytes in the value's place
   abbrev eight : ℕ
   eight = field (valueAt w) 8 bs

@@ -1,7 +1,7 @@
 -- The replies that some valid box could give to a wish. "Replies have the item's set layout with the current value; the
 -- channel byte or id is echoed."
 use Prim.Native.Nat.{ℕ}
-use mathlib.Core.Bool.{Bool, true, false, _&&_}
+use mathlib.Core.Bool.{Bool, true, false}
 use mathlib.Core.List.{List, [], _∷_, _++_}
 use lib.Dec.{eqb}
 use lib.ListN.{getD}
@@ -15,17 +15,18 @@ use Rattle.tuning.specs.Bands.{bands, inBands, rangeBytes}
 use Rattle.tuning.specs.Word.{isClock}
 use Rattle.layouts.specs.declared.Layout.{Layout}
 use Rattle.layouts.specs.Layouts.{laid}
-use Rattle.items.specs.Settings.{isGain, isSize, holdsSerial}
+use Rattle.items.specs.Settings.{isGain, isSize, isSetup, holdsSerial}
 use Rattle.items.specs.Items.{nameBytes, interfaceNumber, versionTable, statusByte, idle, run, stateBytes}
 use Rattle.wishes.specs.declared.StateFields.{StateFields}
 use Rattle.wishes.specs.declared.Wish.{Wish}
-use Rattle.wishes.specs.declared.Wish.the-variants.{AskName, AskSerial, AskInterface, AskVersion, AskStatus, SetState}
-use Rattle.wishes.specs.declared.Wish.the-variants.{AskState, SetFrequency, AskFrequency, AskFrequencyRange, SetGain, AskGain}
-use Rattle.wishes.specs.declared.Wish.the-variants.{SetClock, AskClock, SetRate, AskRate, SetPacketSize, AskPacketSize}
+use Rattle.wishes.specs.declared.Wish.the-variants.{AskName, AskSerial, AskInterface, AskVersion, AskStatus, SetState, AskState}
+use Rattle.wishes.specs.declared.Wish.the-variants.{SetChannelSetup, AskChannelSetup, SetFrequency, AskFrequency, AskFrequencyRange}
+use Rattle.wishes.specs.declared.Wish.the-variants.{SetGain, AskGain, SetClock, AskClock}
+use Rattle.wishes.specs.declared.Wish.the-variants.{SetRate, AskRate, SetPacketSize, AskPacketSize}
 use Rattle.wishes.specs.Wishes.{asking, layoutOf}
 use Rattle.replies.specs.declared.Reply.{Reply}
 use Rattle.replies.specs.declared.Reply.the-variants.{Name, Serial, Interface, Version, Status, State}
-use Rattle.replies.specs.declared.Reply.the-variants.{Frequency, FrequencyRange, Gain, Clock, Rate, PacketSize}
+use Rattle.replies.specs.declared.Reply.the-variants.{ChannelSetup, Frequency, FrequencyRange, Gain, Clock, Rate, PacketSize}
 
 -- What a wish waits for: a value, as a number in so many bytes; which values a valid box could give; and what each says.
 pub record Awaited : Type 0 where
@@ -79,21 +80,27 @@ awaited (AskVersion id) = value 2 (λ n. eqb n (versionNumber id)) (Version id)
 awaited AskStatus = value 1 isStatus (λ n. Status (eqb n (statusByte true)))
 awaited (SetState f) = value 4 (stateCould f) saysState
 awaited AskState = value 4 isState saysState
-awaited (SetFrequency hz) = value 5 (λ n. eqb n hz) Frequency
-awaited AskFrequency = value 5 inBands Frequency
-awaited AskFrequencyRange = value 31 (λ n. eqb n (number (0x02 ∷ rangeBytes bands))) (λ n. FrequencyRange)
-awaited (SetGain g) = value 1 (λ n. eqb n (coded 8 g)) (λ n. Gain (signed 8 n))
-awaited AskGain = value 1 isGain (λ n. Gain (signed 8 n))
-awaited (SetClock hz) = value 4 (λ n. eqb n hz) Clock
-awaited AskClock = value 4 isClock Clock
-awaited (SetRate hz) = value 4 (λ n. eqb n (rateOf (nearestOf hz))) Rate
-awaited AskRate = value 4 isRate Rate
+awaited (SetChannelSetup m) = value 1 (λ n. eqb n m) ChannelSetup
+awaited AskChannelSetup = value 1 isSetup ChannelSetup
+awaited (SetFrequency channel hz) = value 5 (λ n. eqb n hz) Frequency
+awaited (AskFrequency channel) = value 5 inBands Frequency
+awaited (AskFrequencyRange channel) = value 31 (λ n. eqb n (number (0x02 ∷ rangeBytes bands))) (λ n. FrequencyRange)
+awaited (SetGain channel g) = value 1 (λ n. eqb n (coded 8 g)) (λ n. Gain (signed 8 n))
+awaited (AskGain channel) = value 1 isGain (λ n. Gain (signed 8 n))
+awaited (SetClock channel hz) = value 4 (λ n. eqb n hz) Clock
+awaited (AskClock channel) = value 4 isClock Clock
+awaited (SetRate channel hz) = value 4 (λ n. eqb n (rateOf (nearestOf hz))) Rate
+awaited (AskRate channel) = value 4 isRate Rate
 awaited (SetPacketSize n) = value 1 (λ m. eqb m n) PacketSize
 awaited AskPacketSize = value 1 isSize PacketSize
 
 -- "From the box: 0 reply, 2 range reply"
 abbrev pub replyType : ℕ → ℕ
 replyType kind = pick (eqb kind typeRange) typeRangeReply typeReply
+
+-- the wish is the one for the range
+abbrev pub asksRange : Wish → Bool
+asksRange w = eqb (asking w .kind) typeRange
 
 -- how the reply to a wish is laid out that gives a value
 abbrev pub replyLayout : Wish → ℕ → Layout

@@ -11,7 +11,7 @@ use Rattle.items.specs.declared.Settings.{Settings}
 use Rattle.items.specs.Settings.{inRange}
 use Rattle.items.specs.Answer.{replyOf}
 use Rattle.wishes.specs.declared.Wish.{Wish}
-use Rattle.wishes.specs.Wishes.{allowedWish, asMessage}
+use Rattle.wishes.specs.Wishes.{openWish, allowedWish, asMessage}
 use Rattle.replies.specs.Reading.{replyCode, replySays, replyReaderSays}
 use Rattle.replies.specs.Saying.{saidBy}
 
@@ -23,9 +23,12 @@ pub record Given (w : Wish) (bs : List ℕ) : Type 0 where
 
 -- of a wish that the writer does not refuse, NAK is accepted, what a valid box gives, and nothing else
 abbrev pub Exactly : Type 0
-Exactly = (w : Wish) (bs : List ℕ) → allowedWish w ≡ true → (replyCode w bs ≡ Code.done) ↔ ((bs ≡ nak) ⊎ Given w bs)
+Exactly =
+    (w : Wish) (bs : List ℕ) → openWish w ≡ true → allowedWish w ≡ true
+    → (replyCode w bs ≡ Code.done) ↔ ((bs ≡ nak) ⊎ Given w bs)
 
 -- and what a valid box gives is read as what it says
 abbrev pub ReadAsSaid : Type 0
 ReadAsSaid =
-    (w : Wish) (s : Settings) → allowedWish w ≡ true → inRange s ≡ true → replyReaderSays w (replyOf s (asMessage w)) ≡ replySays (saidBy w s)
+    (w : Wish) (s : Settings) → openWish w ≡ true → allowedWish w ≡ true → inRange s ≡ true
+    → replyReaderSays w (replyOf s (asMessage w)) ≡ replySays (saidBy w s)

@@ -10,12 +10,13 @@ use Rattle.wire.specs.Header.{nak}
 use Rattle.wire.specs.Lists.{same}
 use Rattle.tuning.specs.Bands.{Band, bands}
 use Rattle.items.specs.Items.{nameBytes, name, serial, interface, versions, statusByte}
-use Rattle.items.specs.Items.{status, state, frequency, gain, clock, rate, packetSize}
+use Rattle.items.specs.Items.{status, state, channelSetup, frequency, gain, clock, rate, packetSize}
 use Rattle.wishes.specs.declared.Wish.{Wish}
-use Rattle.wishes.specs.Wishes.{allowedWish}
+use Rattle.wishes.specs.Wishes.{openWish, allowedWish}
 use Rattle.replies.specs.declared.Reply.{Reply}
-use Rattle.replies.specs.declared.Reply.the-variants.{Nak, Name, Serial, Interface, Version, Status, State, Frequency}
-use Rattle.replies.specs.declared.Reply.the-variants.{FrequencyRange, Gain, Clock, Rate, PacketSize, NotAllowed, NotAReply}
+use Rattle.replies.specs.declared.Reply.the-variants.{Nak, Name, Serial, Interface, Version, Status, State, ChannelSetup}
+use Rattle.replies.specs.declared.Reply.the-variants.{Frequency, FrequencyRange, Gain, Clock, Rate, PacketSize}
+use Rattle.replies.specs.declared.Reply.the-variants.{ChannelNotAllowed, NotAllowed, NotAReply}
 use Rattle.replies.specs.Awaited.{awaited, replyBytes, numberIn}
 
 abbrev pub isNak : List ℕ → Bool
@@ -27,9 +28,13 @@ unfoldable pub isReply : Wish → List ℕ → Bool
 isReply w bs = awaited w .could (numberIn w bs) && same bs (replyBytes w (numberIn w bs))
 
 -- "one the writer would refuse is 16; it accepts NAK for any other, and exactly those further replies that some valid box
--- could give to it; else 28"
+-- could give to it; else 28". Where the writer would refuse it with 15 (02, No. 7), that is the code, as there before 16.
 abbrev pub replyChecks : Wish → List ℕ → List Check
-replyChecks w bs = check Code.valueNotAllowed (not (allowedWish w)) ∷ check Code.notAReply (not (isNak bs || isReply w bs)) ∷ []
+replyChecks w bs =
+    check Code.channelNotAllowed (not (openWish w))
+    ∷ check Code.valueNotAllowed (not (allowedWish w))
+    ∷ check Code.notAReply (not (isNak bs || isReply w bs))
+    ∷ []
 
 unfoldable pub replyCode : Wish → List ℕ → ℕ
 replyCode w bs = firstOf (replyChecks w bs) Code.done
@@ -64,12 +69,14 @@ replySays (Interface n) = said (interface .code) (pos n ∷ [])
 replySays (Version id n) = said (versions .code) (pos id ∷ pos n ∷ [])
 replySays (Status running) = said (status .code) (pos (statusByte running) ∷ [])
 replySays (State f) = said (state .code) (pos (f .run) ∷ pos (f .mode) ∷ [])
+replySays (ChannelSetup n) = said (channelSetup .code) (pos n ∷ [])
 replySays (Frequency hz) = said (frequency .code) (pos hz ∷ [])
 replySays FrequencyRange = said (frequency .code) (rangeValues bands)
 replySays (Gain g) = said (gain .code) (g ∷ [])
 replySays (Clock hz) = said (clock .code) (pos hz ∷ [])
 replySays (Rate hz) = said (rate .code) (pos hz ∷ [])
 replySays (PacketSize n) = said (packetSize .code) (pos n ∷ [])
+replySays ChannelNotAllowed = refused Code.channelNotAllowed
 replySays NotAllowed = refused Code.valueNotAllowed
 replySays NotAReply = refused Code.notAReply
 

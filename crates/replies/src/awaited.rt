@@ -1,12 +1,12 @@
 // What a wish waits for: how wide the value is, which values a valid box could give, and what each says.
 ghost use mathlib.Core.Path.{_≡_};
-ghost use mathlib.Core.Bool.{true};
+ghost use mathlib.Core.Bool.{true, false};
 ghost use mathlib.Core.List.{[], _∷_};
 ghost use Prim.Native.Nat.{_^_, _<_};
 ghost use Rattle.wire.specs.Choice.{oneOf};
 ghost use Rattle.wire.specs.Signed.{signed};
 ghost use Rattle.wishes.specs.Wishes.{allowedWish};
-ghost use Rattle.replies.specs.Awaited.{awaited, isStatus, stateShown, isState, stateCould, saysState};
+ghost use Rattle.replies.specs.Awaited.{awaited, asksRange, isStatus, stateShown, isState, stateCould, saysState};
 ghost use Rattle.replies.specs.declared.Reply.the-variants.{State};
 use crate::Reply;
 use items::values;
@@ -21,9 +21,10 @@ pub(crate) fn width_of(w: Wish) -> u8
         Wish::AskName => 7,
         Wish::AskSerial => 9,
         Wish::AskInterface | Wish::AskVersion(_) => 2,
-        Wish::SetFrequency(_) | Wish::AskFrequency => 5,
-        Wish::AskFrequencyRange => 31,
-        Wish::AskStatus | Wish::SetGain(_) | Wish::AskGain => 1,
+        Wish::SetFrequency(_, _) | Wish::AskFrequency(_) => 5,
+        Wish::AskFrequencyRange(_) => 31,
+        Wish::SetChannelSetup(_) | Wish::AskChannelSetup => 1,
+        Wish::AskStatus | Wish::SetGain(_, _) | Wish::AskGain(_) => 1,
         Wish::SetPacketSize(_) | Wish::AskPacketSize => 1,
         _ => 4,
     }
@@ -70,7 +71,7 @@ fn state_could(fields: StateFields, n: u64) -> bool
 // A valid box could give the value n to the wish: a set is answered with the value that was sent, but for a rate, which is
 // achieved, and for idle, which keeps the mode.
 pub(crate) fn could_say(w: Wish, n: u64) -> bool
-    requires { ⌜ (allowedWish w ≡ true) × (w ≡ Wish.AskFrequencyRange → ⊥) × (n < 256 ^ awaited w .width) ⌝ }
+    requires { ⌜ (allowedWish w ≡ true) × (asksRange w ≡ false) × (n < 256 ^ awaited w .width) ⌝ }
     ensures { λ r. ⌜ r ≡ awaited w .could n ⌝ }
 {
     match w {
@@ -81,11 +82,12 @@ pub(crate) fn could_say(w: Wish, n: u64) -> bool
         Wish::AskStatus => is_status(n),
         Wish::SetState(fields) => state_could(fields, n),
         Wish::AskState => is_state(n),
-        Wish::AskFrequency => tuning::in_bands(n),
-        Wish::AskGain => items::ranges::is_gain(n as u32),
-        Wish::AskClock => tuning::is_clock(n as u32),
-        Wish::SetRate(hz) => n == rates::achieved(rates::nearest(hz)) as u64,
-        Wish::AskRate => 0 < rates::d_of(n as u32),
+        Wish::AskChannelSetup => items::ranges::is_setup(n as u16),
+        Wish::AskFrequency(_) => tuning::in_bands(n),
+        Wish::AskGain(_) => items::ranges::is_gain(n as u32),
+        Wish::AskClock(_) => tuning::is_clock(n as u32),
+        Wish::SetRate(_, hz) => n == rates::achieved(rates::nearest(hz)) as u64,
+        Wish::AskRate(_) => 0 < rates::d_of(n as u32),
         Wish::AskPacketSize => items::ranges::is_size(n as u32),
         _ => n == wishes::layout_of(w).value,
     }
@@ -123,11 +125,12 @@ pub(crate) fn says(w: Wish, n: u64) -> Reply
         Wish::AskVersion(id) => Reply::Version(id, n as u16),
         Wish::AskStatus => Reply::Status(n == values::STATUS_RUNNING),
         Wish::SetState(_) | Wish::AskState => Reply::State(state_in(n)),
-        Wish::SetFrequency(_) | Wish::AskFrequency => Reply::Frequency(n),
-        Wish::AskFrequencyRange => Reply::FrequencyRange,
-        Wish::SetGain(_) | Wish::AskGain => Reply::Gain(signed_byte(n as u8)),
-        Wish::SetClock(_) | Wish::AskClock => Reply::Clock(n as u32),
-        Wish::SetRate(_) | Wish::AskRate => Reply::Rate(n as u32),
+        Wish::SetChannelSetup(_) | Wish::AskChannelSetup => Reply::ChannelSetup(n as u8),
+        Wish::SetFrequency(_, _) | Wish::AskFrequency(_) => Reply::Frequency(n),
+        Wish::AskFrequencyRange(_) => Reply::FrequencyRange,
+        Wish::SetGain(_, _) | Wish::AskGain(_) => Reply::Gain(signed_byte(n as u8)),
+        Wish::SetClock(_, _) | Wish::AskClock(_) => Reply::Clock(n as u32),
+        Wish::SetRate(_, _) | Wish::AskRate(_) => Reply::Rate(n as u32),
         Wish::SetPacketSize(_) | Wish::AskPacketSize => Reply::PacketSize(n as u8),
     }
 }

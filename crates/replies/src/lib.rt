@@ -4,8 +4,8 @@ mod awaited; // awaited.rt: which values a wish waits for, and what each says
 ghost use mathlib.Core.Path.{_≡_};
 ghost use mathlib.Core.Bool.{true, false};
 ghost use Rattle.wire.specs.Number.{field};
-ghost use Rattle.wishes.specs.Wishes.{allowedWish};
-ghost use Rattle.replies.specs.Awaited.{awaited, replyLayout, replyBytes, valueAt};
+ghost use Rattle.wishes.specs.Wishes.{openWish, allowedWish};
+ghost use Rattle.replies.specs.Awaited.{awaited, asksRange, replyLayout, replyBytes, valueAt};
 ghost use Rattle.replies.specs.declared.Reply.the-variants.{State};
 ghost use Rattle.replies.specs.Reading.{isNak, replySays, replyReaderSays};
 ghost use Rattle.wire.specs.Lists.{same};
@@ -25,6 +25,7 @@ pub enum Reply {
     Version(u8, u16),
     Status(bool),
     State(StateFields),
+    ChannelSetup(u8),
     Frequency(u64),
     // both bands
     FrequencyRange,
@@ -32,7 +33,8 @@ pub enum Reply {
     Clock(u32),
     Rate(u32),
     PacketSize(u8),
-    // a wish that the writer would refuse (16)
+    // a wish that the writer would refuse, by its channel byte (15) or by its value (16)
+    ChannelNotAllowed,
     NotAllowed,
     // the bytes are not a reply to this wish (28)
     NotAReply,
@@ -40,7 +42,7 @@ pub enum Reply {
 
 // How the reply to a wish other than the one for the range is laid out that gives the value n.
 fn reply_layout(w: Wish, n: u64) -> Layout
-    requires { ⌜ (w ≡ Wish.AskFrequencyRange → ⊥) ⌝ }
+    requires { ⌜ asksRange w ≡ false ⌝ }
     ensures { λ r. ⌜ r ≡ replyLayout w n ⌝ }
 {
     let asked = wishes::layout_of(w);
@@ -56,7 +58,7 @@ fn reply_layout(w: Wish, n: u64) -> Layout
 
 // The bytes are the reply to the wish that gives the value n.
 fn gives(w: Wish, n: u64, bytes: &[u8]) -> bool
-    requires { ⌜ (w ≡ Wish.AskFrequencyRange → ⊥) ⌝ }
+    requires { ⌜ asksRange w ≡ false ⌝ }
     ensures { λ r. ⌜ r ≡ same (now (bytes .entry)) (replyBytes w n) ⌝ }
 {
     let mut reply = [0u8; 16];
@@ -78,7 +80,7 @@ fn number_in(w: Wish, bytes: &[u8]) -> u64
 
 // A reply to a wish other than the one for the range.
 fn read_value(w: Wish, bytes: &[u8]) -> Reply
-    requires { ⌜ (allowedWish w ≡ true) × (w ≡ Wish.AskFrequencyRange → ⊥) × (isNak (now bytes) ≡ false) ⌝ }
+    requires { ⌜ (openWish w ≡ true) × (allowedWish w ≡ true) × (asksRange w ≡ false) × (isNak (now bytes) ≡ false) ⌝ }
     ensures { λ r. ⌜ replySays r ≡ replyReaderSays w (now (bytes .entry)) ⌝ }
 {
     let n = number_in(w, bytes);
@@ -91,13 +93,13 @@ fn read_value(w: Wish, bytes: &[u8]) -> Reply
     Reply::NotAReply
 }
 
-// The one reply to the wish for the range, whose "channel byte 00" is echoed, with both bands.
-fn read_range(bytes: &[u8]) -> Reply
-    requires { ⌜ isNak (now bytes) ≡ false ⌝ }
-    ensures { λ r. ⌜ replySays r ≡ replyReaderSays Wish.AskFrequencyRange (now (bytes .entry)) ⌝ }
+// The one reply to the wish for the range of a channel, whose byte is echoed, with both bands.
+fn read_range(channel: u8, bytes: &[u8]) -> Reply
+    requires { ⌜ (openWish (Wish.AskFrequencyRange channel) ≡ true) × (isNak (now bytes) ≡ false) ⌝ }
+    ensures { λ r. ⌜ replySays r ≡ replyReaderSays (Wish.AskFrequencyRange channel) (now (bytes .entry)) ⌝ }
 {
     let mut range = [0u8; 36];
-    let size = items::put_range_reply(&mut range, 0x00);
+    let size = items::put_range_reply(&mut range, channel);
     if check::same(bytes, &range[..size]) {
         return Reply::FrequencyRange;
     }
@@ -115,14 +117,17 @@ fn is_nak(bytes: &[u8]) -> bool
 pub fn read(w: Wish, bytes: &[u8]) -> Reply
     ensures { λ r. ⌜ replySays r ≡ replyReaderSays w (now (bytes .entry)) ⌝ }
 {
+    if !wishes::is_open(w) {
+        return Reply::ChannelNotAllowed;
+    }
     if !wishes::is_allowed(w) {
         return Reply::NotAllowed;
     }
     if is_nak(bytes) {
         return Reply::Nak;
     }
-    if let Wish::AskFrequencyRange = w {
-        return read_range(bytes);
+    if let Wish::AskFrequencyRange(channel) = w {
+        return read_range(channel, bytes);
     }
     read_value(w, bytes)
 }

@@ -14,7 +14,7 @@ use Rattle.station.specs.declared.Station.{Station}
 use Rattle.cutting.specs.declared.Cut.{Cut}
 use Rattle.cutting.specs.Cutting.{Cutting, cuttingOf}
 use Rattle.cutting.proofs.Ways.{each-cut}
-use Rattle.runs.specs.Cutting.{started, ran, cutOn, cutRun}
+use Rattle.runs.specs.Cutting.{ran, cutOn, cutRun}
 use Rattle.runs.proofs.Turns.{one-more}
 
 cut-over : (left n total count at : ℕ) (s : Station) (samples : List ℤ) (out : List ℕ) → left ≤ 0
@@ -49,28 +49,28 @@ pub none-cut : (s : Station) (samples : List ℤ) (room : ℕ) → (cuttingOf s 
 none-cut s samples room =
     each-cut (λ (c : Cutting). (c .cut .code ≡ 1 → ⊥) → c .bytes ≡ []) s samples room (λ e bad. absurd (bad refl)) (λ n bad. refl)
 
-pub record Under (mode size n total : ℕ) (samples : List ℤ) (whole out : List ℕ) (s : Station) (left count i at : ℕ) : Type 0 where
+pub record Under (box : Station) (n total : ℕ) (samples : List ℤ) (whole out : List ℕ) (s : Station) (left count i at : ℕ) : Type 0 where
   pub sampled : i + left * n ≤ length samples
   pub roomy : at + left * total ≤ length out
   pub counted : count + left ≤ length out
   pub long : length out ≡ length whole
-  pub does : cutOn left n total s (drop i samples) count at out ≡ cutRun mode size n total samples whole
+  pub does : cutOn left n total s (drop i samples) count at out ≡ cutRun box n total samples whole
 
-module _ (mode size n total : ℕ) (samples : List ℤ) (whole : List ℕ) where
+module _ (box : Station) (n total : ℕ) (samples : List ℤ) (whole : List ℕ) where
   -- no samples to a packet, or no bytes
-  pub no-samples : n ≡ 0 → ran 0 whole ≡ cutRun mode size n total samples whole
+  pub no-samples : n ≡ 0 → ran 0 whole ≡ cutRun box n total samples whole
   unfolding cutRun
   no-samples none = rw (eq-eqb n 0 none)
 
-  pub no-bytes : (n ≡ 0 → ⊥) → total ≡ 0 → ran 0 whole ≡ cutRun mode size n total samples whole
+  pub no-bytes : (n ≡ 0 → ⊥) → total ≡ 0 → ran 0 whole ≡ cutRun box n total samples whole
   unfolding cutRun
   no-bytes some none = rw (ne-eqb n 0 some, eq-eqb total 0 none)
 
 -- a run in its midst
-module _ {mode size n total : ℕ} {samples : List ℤ} {whole : List ℕ} where
-  pub begins : (s : Station) (left : ℕ) → (n ≡ 0 → ⊥) → (total ≡ 0 → ⊥) → s ≡ started mode size
+module _ {box : Station} {n total : ℕ} {samples : List ℤ} {whole : List ℕ} where
+  pub begins : (s : Station) (left : ℕ) → (n ≡ 0 → ⊥) → (total ≡ 0 → ⊥) → s ≡ box
       → left ≡ min (length samples / n) (length whole / total)
-      → Under mode size n total samples whole whole s left 0 0 0
+      → Under box n total samples whole whole s left 0 0 0
   unfolding cutRun
   begins s left some more is most =
       let fewer : left ≤ length samples / n = omega arith in
@@ -83,19 +83,19 @@ module _ {mode size n total : ℕ} {samples : List ℤ} {whole : List ℕ} where
         does = rw (is, most, ne-eqb n 0 some, ne-eqb total 0 more);
       }
 
-  module _ {out : List ℕ} {s : Station} {left count i at : ℕ} (u : Under mode size n total samples whole out s left count i at) where
+  module _ {out : List ℕ} {s : Station} {left count i at : ℕ} (u : Under box n total samples whole out s left count i at) where
     -- nothing is left
-    pub over : left ≤ 0 → ran count out ≡ cutRun mode size n total samples whole
+    pub over : left ≤ 0 → ran count out ≡ cutRun box n total samples whole
     over none = sym (cut-over left n total count at s (drop i samples) out none) ∙ u .does
 
     module _ (c : Cutting) (some : 0 < left) (is : c ≡ cuttingOf s (take n (drop i samples)) (length out - at)) where
       -- the packet is refused
-      pub refused : (c .cut .code ≡ 1 → ⊥) → ran count out ≡ cutRun mode size n total samples whole
+      pub refused : (c .cut .code ≡ 1 → ⊥) → ran count out ≡ cutRun box n total samples whole
       refused bad = sym (cut-refused left n total count at s (drop i samples) out c some is bad) ∙ u .does
 
       -- the packet is cut, and the rest behind it
       pub turns : (after : List ℕ) (r : Cut) → r ≡ c .cut → r .code ≡ 1 → after ≡ sets out at (c .bytes)
-          → Under mode size n total samples whole after (r .station) (left - 1) (count + 1) (i + n) (at + total)
+          → Under box n total samples whole after (r .station) (left - 1) (count + 1) (i + n) (at + total)
       turns after r told good stored =
           let same : length after ≡ length out = rw (stored, length-sets out at (c .bytes)) in
           record {

@@ -9,14 +9,15 @@ use lib.Seq.{sets}
 use Rattle.wire.specs.Choice.{pick}
 use Rattle.wire.specs.Codes as Code
 use Rattle.framing.specs.Framing.{between}
-use Rattle.items.specs.Settings.{freshOf, withRunning, withMode, withSize}
+use Rattle.items.specs.Settings.{freshOf, withRunning, withMode, withSize, withSetup}
 use Rattle.station.specs.declared.Station.{Station}
 use Rattle.station.specs.Station.{sessionSerial}
 use Rattle.cutting.specs.Cutting.{cuttingOf}
 
--- a fresh box that was started with a mode and a size; with others than the table's it is broken
-abbrev pub started : ℕ → ℕ → Station
-started mode size = record { settings = withSize size (withMode mode (withRunning true (freshOf sessionSerial))); store = between }
+-- a fresh box that was started with a mode, a size and a channel setup; with others than the table's it is broken
+abbrev pub started : ℕ → ℕ → ℕ → Station
+started mode size setup =
+    record { settings = withSetup setup (withSize size (withMode mode (withRunning true (freshOf sessionSerial)))); store = between }
 
 -- how many packets were cut, and the lent bytes with them in
 pub record Ran : Type 0 where
@@ -36,8 +37,8 @@ cutOn (suc left) n total s samples count at out =
     (ran count out)
 
 -- as many as there are samples and room for
-unfoldable pub cutRun : ℕ → ℕ → ℕ → ℕ → List ℤ → List ℕ → Ran
-cutRun mode size n total samples out =
+unfoldable pub cutRun : Station → ℕ → ℕ → List ℤ → List ℕ → Ran
+cutRun box n total samples out =
     pick (eqb n 0) (ran 0 out)
     (pick (eqb total 0) (ran 0 out)
-    (cutOn (min (length samples / n) (length out / total)) n total (started mode size) samples 0 0 out))
+    (cutOn (min (length samples / n) (length out / total)) n total box samples 0 0 out))

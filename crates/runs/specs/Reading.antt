@@ -27,6 +27,7 @@ heardRun (suc left) each r said rest =
     (runRead (readingOf r (take each rest) .sample) (readingOf r (take each rest) .total)) (drop each rest))
     said
 
--- of packets of no bytes none is heard
-abbrev pub readRun : ℕ → List ℕ → RunRead
-readRun each packets = pick (eqb each 0) (runRead 0 0) (heardRun (length packets / each) each silent (runRead 0 0) packets)
+-- by a new reader of so many channels; of packets of no bytes none is heard
+abbrev pub readRun : ℕ → ℕ → List ℕ → RunRead
+readRun channels each packets =
+    pick (eqb each 0) (runRead 0 0) (heardRun (length packets / each) each (silent channels) (runRead 0 0) packets)

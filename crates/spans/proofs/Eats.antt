@@ -9,11 +9,10 @@ use lib.ListN.{length, take}
 use lib.Seq.{sets, length-take-le}
 use borrow.Author.Tests.{eqb-true, eq-eqb, ne-eqb}
 use Rattle.wire.proofs.Laws.{and-left, and-right, or-rest}
-use Rattle.packets.proofs.Forms.{is-listed-form}
 use Rattle.heads.specs.declared.Head.{Head}
 use Rattle.heads.specs.Head.{formIn, allowedHead}
 use Rattle.heads.proofs.Rounds.{passed}
-use Rattle.heads.proofs.Values.{form-listed, divisor-small, clock-ok}
+use Rattle.heads.proofs.Values.{few-each, divisor-small, clock-ok}
 use Rattle.heads.specs.Head.{headReadCode}
 use Rattle.hearing.specs.declared.Tally.{Tally}
 use Rattle.spans.specs.declared.Span.{Span}
@@ -54,7 +53,7 @@ due-sized h t ending ok c =
     is-sized (dueNow h t ending)
     (record {
       position = c .position;
-      pairs = is-listed-form (formIn h) (form-listed h ok) .few;
+      pairs = few-each h ok;
       divisor = divisor-small h ok;
       clock = clock-ok h ok;
       heard = c .least;

@@ -18,7 +18,7 @@ use Rattle.packets.proofs.Forms.{same-is}
 use Rattle.reader.specs.declared.Reader.{Reader}
 use Rattle.reader.specs.Reading.{stepTo, readingChecks, readingCode, heardWith, readingOf}
 use Rattle.heads.specs.declared.Head.{Head}
-use Rattle.heads.specs.Head.{formIn}
+use Rattle.heads.specs.Head.{channelsIn, formIn}
 use Rattle.spans.specs.Report.{Known, missedAmong, readerAfter, formChecks, packetCode, accepts, knownAfter, FollowsTheReader}
 use Rattle.spans.proofs.Stepped.{Stepped, stepped-after}
 
@@ -55,12 +55,17 @@ module _ (h : Head) (k : Known) (packet : List ℕ) (taken : accepts h k packet 
   pub accepted-stepped : Stepped (k .accepted) → Stepped (knownAfter h k packet .accepted)
   accepted-stepped t = stepped-after h (k .accepted) n t (omega arith) begun
 
+-- the head tells the reader its count, once and for all
+told : (h : Head) (accepted : List ℕ) → readerAfter h accepted .channels ≡ channelsIn h
+told h [] = refl
+told h (last ∷ before) = refl
+
 -- the reader's record, by the positions accepted before
 reader-by : (h : Head) (accepted : List ℕ) (n : ℕ) (f : Form) → f ≡ formIn h → (zeroth : Bool) → eqb n 0 ≡ zeroth
     → (not (eqb n 0) && not (readerAfter h accepted .heard)) ≡ false
     → readerAfter h ((heardWith (readerAfter h accepted) n f .position) ∷ pick (eqb n 0) [] accepted)
     ≡ heardWith (readerAfter h accepted) n f .reader
-reader-by h accepted n f is true e begun = rw (e, is)
+reader-by h accepted n f is true e begun = rw (e, is, told h accepted)
 reader-by h [] n f is false e begun = absurd (true-not-false (rw e at begun))
 reader-by h (last ∷ before) n f is false e begun =
     let step : ℕ = stepTo (readerAfter h (last ∷ before)) n in

@@ -21,8 +21,11 @@ use Rattle.packets.specs.Missed.{missedOf, stepsGive}
 use Rattle.packets.proofs.Numbers.{field-two}
 use Rattle.reader.specs.declared.Reader.{Reader}
 use Rattle.reader.specs.Reading.{sound, positionAfter, readingCode}
+use Rattle.reader.proofs.Reading.{heard-sound}
+use Rattle.reader.proofs.Sound.{silent-sound}
 use Rattle.heads.specs.declared.Head.{Head}
-use Rattle.heads.specs.Head.{formIn}
+use Rattle.heads.specs.Head.{channelsIn, formIn}
+use Rattle.heads.proofs.Listed.{is-count}
 use Rattle.hearing.specs.declared.Tally.{Tally}
 use Rattle.hearing.specs.declared.Reach.{Reach}
 use Rattle.lines.specs.Lines.{Line, refusalLine}
@@ -283,12 +286,17 @@ record Reads (h : Head) (t : Tally) (r : Reader) : Type 0 where
 reads-by : (h : Head) (accepted : List ℕ) (t : Tally) → listedForm (formIn h) ≡ true → t .heard ≡ length accepted
     → t .position ≡ lastOf accepted → t .position ≤ last → Stepped accepted → Reads h t (readerAfter h accepted)
 reads-by h [] t ok n p near stepped =
-    record { sounds = refl; quiet = rw n; position = sym p; form = λ e. absurd (true-not-false (rw n at e)) }
+    record {
+      sounds = silent-sound (channelsIn h) (is-count h);
+      quiet = rw n;
+      position = sym p;
+      form = λ e. absurd (true-not-false (rw n at e));
+    }
 reads-by h (q ∷ qs) t ok n p near stepped =
     let given = stepsGive q (missedAmong (q ∷ qs)) in
     record {
       sounds =
-          and-both (leb q last && given) (listedForm (formIn h))
+          heard-sound (readerAfter h (q ∷ qs)) (is-count h) refl
           (and-both (leb q last) given (le-leb q last (omega arith)) (stepped-given q qs stepped)) ok;
       quiet = rw n (sym (ne-eqb (suc (length qs)) 0 (λ e. omega arith)));
       position = sym p;

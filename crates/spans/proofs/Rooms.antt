@@ -12,8 +12,8 @@ use Rattle.packets.specs.Numbers.{last}
 use Rattle.packets.specs.Missed.{missedOf}
 use Rattle.packets.proofs.Forms.{is-listed-form}
 use Rattle.heads.specs.declared.Head.{Head}
-use Rattle.heads.specs.Head.{formIn, allowedHead}
-use Rattle.heads.proofs.Values.{form-listed, divisor-small, clock-ok}
+use Rattle.heads.specs.Head.{formIn, eachIn, allowedHead}
+use Rattle.heads.proofs.Values.{form-listed, few-each, divisor-small, clock-ok}
 use Rattle.hearing.specs.declared.Tally.{Tally}
 use Rattle.lines.specs.Lines.{Line, textOf, openingLine, samplesOver, endTime, captureLine, refusalLine, endLine}
 use Rattle.spans.specs.Eating.{headLines, endedNow, heardLines}
@@ -52,16 +52,17 @@ module _ (h : Head) (t : Tally) (s : Short h t) where
   ended-length : length (textOf (endedNow h t)) ≤ 170
   ended-length =
       let form = is-listed-form (formIn h) (form-listed h (s .ok)) in
-      let n : ℕ = samplesOver (formIn h) (t .position + 1) in
+      let few : eachIn h .pairs ≤ 256 = few-each h (s .ok) in
+      let n : ℕ = samplesOver (eachIn h) (t .position + 1) in
       let samples : n ≤ 1_024_000_000_000
-      = samples-fit (t .position + 1) (formIn h .pairs) (omega (arith, s .position)) (form .few) in
+      = samples-fit (t .position + 1) (eachIn h .pairs) (omega (arith, s .position)) few in
       let time = time-below n (h .divisor) samples (divisor-small h (s .ok)) (h .clock) (clock-ok h (s .ok)) in
       let lost : ℕ = missedOf (t .heard) (t .position) in
-      let line : Line = captureLine (formIn h) (h .divisor) (h .clock) (t .captures) (t .heard) (t .position) lost in
+      let line : Line = captureLine (eachIn h) (h .divisor) (h .clock) (t .captures) (t .heard) (t .position) lost in
       let over : allFit ((t .position + 1) ∷ n ∷ endTime (h .divisor) (h .clock) n ∷ missedOf (t .heard) (t .position) ∷ [])
       = (omega (arith, s .position), (omega (arith, samples), (omega (arith, time), (omega (arith, s .position), tt)))) in
       let fit : allFit (line .numbers)
-      = (s .captures, (omega (arith, form .narrow), (omega (arith, form .few), (s .heard, over)))) in
+      = (s .captures, (omega (arith, form .narrow), (omega (arith, few), (s .heard, over)))) in
       pick-keeps (λ (ls : List Line). length (textOf ls) ≤ 170) (eqb (t .heard) 0) _ _ (λ e. omega arith)
       (λ e. omega (arith, text-length line [], line-length line fit))
 

@@ -11,7 +11,7 @@ use Rattle.wire.specs.Choice.{pick}
 use Rattle.wire.specs.Codes as Code
 use Rattle.packets.specs.Missed.{missedOf}
 use Rattle.heads.specs.declared.Head.{Head}
-use Rattle.heads.specs.Head.{headLength, headLengthIn, formIn, headIn}
+use Rattle.heads.specs.Head.{headLength, headLengthIn, formIn, eachIn, headIn}
 use Rattle.heads.specs.Head.{headReadCode}
 use Rattle.hearing.specs.declared.Tally.{Tally}
 use Rattle.hearing.specs.declared.Reach.{Reach}
@@ -123,7 +123,7 @@ opening s piece room = openingBy s room (lacking (headWantsBy s piece) s piece) 
 abbrev pub endedNow : Head → Tally → List Line
 endedNow h t =
     pick (eqb (t .heard) 0) []
-    (captureLine (formIn h) (h .divisor) (h .clock) (t .captures) (t .heard) (t .position) (missedOf (t .heard) (t .position)) ∷ [])
+    (captureLine (eachIn h) (h .divisor) (h .clock) (t .captures) (t .heard) (t .position) (missedOf (t .heard) (t .position)) ∷ [])
 
 -- Packets: where a line is due, the open capture ends; then a new one begins, or a packet is refused and the span stops.
 abbrev pub heardLines : Head → Reach → List Line

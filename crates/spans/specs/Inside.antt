@@ -2,7 +2,7 @@
 -- ties it to Eating.
 use mathlib.Core.Bool.{true, false}
 use Rattle.heads.specs.declared.Head.{Head}
-use Rattle.heads.specs.Head.{nominal, formIn}
+use Rattle.heads.specs.Head.{nominal, eachIn}
 use Rattle.hearing.specs.declared.Tally.{Tally}
 use Rattle.lines.specs.declared.Due.{Due}
 use Rattle.lines.specs.declared.Ending.{Ending}
@@ -28,8 +28,8 @@ dueNow h t ending =
     record {
       opening = false;
       capture = t .captures;
-      bits = formIn h .bits;
-      pairs = formIn h .pairs;
+      bits = eachIn h .bits;
+      pairs = eachIn h .pairs;
       divisor = h .divisor;
       clock = h .clock;
       heard = t .heard;

@@ -16,7 +16,7 @@ use Rattle.packets.specs.Missed.{stepsBy, missedOver}
 use Rattle.reader.specs.declared.Reader.{Reader}
 use Rattle.reader.specs.Reading.{silent, positionAfter, readingCode, readingOf}
 use Rattle.heads.specs.declared.Head.{Head}
-use Rattle.heads.specs.Head.{versionIn, headLengthIn, formIn, headIn}
+use Rattle.heads.specs.Head.{versionIn, headLengthIn, channelsIn, formIn, eachIn, headIn}
 use Rattle.heads.specs.Head.{headReadCode}
 use Rattle.lines.specs.Lines.{Line, textOf, openingLine, endTime, captureLine, refusalLine, endLine}
 
@@ -54,11 +54,17 @@ stepsOver accepted = stepsBy (λ before next. next - before) accepted
 abbrev pub missedAmong : List ℕ → ℕ
 missedAmong accepted = missedOver (stepsOver accepted)
 
--- the packet reader after the packets accepted
+-- the packet reader after the packets accepted; the head tells it the channel count
 abbrev pub readerAfter : Head → List ℕ → Reader
-readerAfter h [] = silent
+readerAfter h [] = silent (channelsIn h)
 readerAfter h (last ∷ before) =
-    record { heard = true; position = last; total = missedAmong (last ∷ before); form = formIn h }
+    record {
+      heard = true;
+      channels = channelsIn h;
+      position = last;
+      total = missedAmong (last ∷ before);
+      form = formIn h;
+    }
 
 -- ---- one packet
 
@@ -91,11 +97,12 @@ knownAfter h k packet =
 -- ---- the lines
 
 -- the line of a capture that ends: packets heard are those accepted, positions are covered up to the last one's, the end time goes by
--- the head's D and clock, and missed is what the steps between them pass over
+-- the head's D and clock, and missed is what the steps between them pass over. The pairs of a packet, and so the samples covered and the
+-- end time, are those of one channel: "the span line then speak[s] of pairs and positions per channel" (02, No. 7).
 abbrev pub lineOf : Head → ℕ → List ℕ → List Line
 lineOf h capture [] = []
 lineOf h capture (last ∷ before) =
-    captureLine (formIn h) (h .divisor) (h .clock) capture (length (last ∷ before)) last (missedAmong (last ∷ before)) ∷ []
+    captureLine (eachIn h) (h .divisor) (h .clock) capture (length (last ∷ before)) last (missedAmong (last ∷ before)) ∷ []
 
 -- the open capture's line
 abbrev pub ended : Head → Known → List Line

@@ -42,16 +42,17 @@ pub(crate) fn head_due(code: u8) -> Due
     opening_due(Ending::Refusal { code, offset: 0 })
 }
 
-// The line of the open capture, and what comes behind it.
+// The line of the open capture, by the pairs that each channel has, and what comes behind it.
 fn ended_due(h: Head, t: Tally, ending: Ending) -> Due
     ensures { λ r. ⌜ r ≡ dueNow h t ending ⌝ }
 {
     let f = heads::form_in(h);
+    let pairs = packets::pairs_each(heads::channels_in(h), f);
     Due {
         opening: false,
         capture: t.captures,
         bits: f.bits,
-        pairs: f.pairs,
+        pairs,
         divisor: h.divisor as u64,
         clock: h.clock as u64,
         heard: t.heard,

@@ -8,6 +8,7 @@ use native.Mathlib.Omega.{arith}
 use lib.Dec.{eqb, leb}
 use lib.ListN.{length, getD}
 use borrow.Author.Tests.{ne-eqb, eq-eqb, eqb-true}
+use Rattle.wire.specs.Choice.{pick}
 use Rattle.wire.specs.Number.{field}
 use Rattle.wire.proofs.Checks.{given-below}
 use Rattle.wire.proofs.Laws.{and-left, and-right, and-both, and-not-left}
@@ -19,8 +20,10 @@ use Rattle.tuning.proofs.Words.{kept-is}
 use Rattle.packets.specs.Numbers.{most}
 use Rattle.items.specs.declared.Channel.{Channel}
 use Rattle.items.specs.declared.Settings.{Settings}
-use Rattle.items.specs.Settings.{channelInRange, inRange, isMode, isGain, isSize, allSerial, isSerial, tunedTo}
-use Rattle.items.specs.Items.{Item, items, frequency, gain, clock, rate, packetSize, mayState, runByte, modeByte, idle, run, state}
+use Rattle.items.specs.Settings.{channelInRange, inRange, isMode, isGain, isSize, isSetup, allSerial, isSerial}
+use Rattle.items.specs.Settings.{withTuning, withOthers, covers, onChannels, tunedTo, gainedTo}
+use Rattle.items.specs.Items.{Item, items, state, channelSetup, frequency, gain, clock, rate, packetSize}
+use Rattle.items.specs.Items.{mayState, runByte, modeByte, idle, run}
 use Rattle.wire.specs.Header.{typeSet}
 use Rattle.items.specs.Answer.{Message, itemIn, checks, codeOf, settingsAfter, row, parameters}
 use Rattle.items.proofs.Rows.{allHave, _then_, found}
@@ -51,17 +54,21 @@ channel-in-range clock c r = rw (r .frequency, eq-eqb (c .word) (wordOf (c .freq
 pub record Ranges (s : Settings) : Type 0 where
   pub clock : isClock (s .clock) ≡ true
   pub first : Channels (s .clock) (s .first)
+  pub second : Channels (s .clock) (s .second)
   pub count : leb (s .count) most ≡ true
   pub divisor : isD (s .divisor) ≡ true
   pub size : isSize (s .size) ≡ true
+  pub setup : isSetup (s .setup) ≡ true
   pub mode : isMode (s .mode) ≡ true
   pub serial : isSerial (s .serial) ≡ true
 
--- seven tests that all hold, one by one
-seven : (a b c d e f g : Bool) → (a && b && c && d && e && f && g) ≡ true
-    → (a ≡ true) × (b ≡ true) × (c ≡ true) × (d ≡ true) × (e ≡ true) × (f ≡ true) × (g ≡ true)
-seven a b c d e f g t =
-    let t5 = and-left (a && b && c && d && e && f) g t in
+-- nine tests that all hold, one by one
+nine : (a b c d e f g h i : Bool) → (a && b && c && d && e && f && g && h && i) ≡ true
+    → (a ≡ true) × (b ≡ true) × (c ≡ true) × (d ≡ true) × (e ≡ true) × (f ≡ true) × (g ≡ true) × (h ≡ true) × (i ≡ true)
+nine a b c d e f g h i t =
+    let t7 = and-left (a && b && c && d && e && f && g && h) i t in
+    let t6 = and-left (a && b && c && d && e && f && g) h t7 in
+    let t5 = and-left (a && b && c && d && e && f) g t6 in
     let t4 = and-left (a && b && c && d && e) f t5 in
     let t3 = and-left (a && b && c && d) e t4 in
     let t2 = and-left (a && b && c) d t3 in
@@ -72,25 +79,50 @@ seven a b c d e f g t =
       and-right (a && b && c) d t3,
       and-right (a && b && c && d) e t4,
       and-right (a && b && c && d && e) f t5,
-      and-right (a && b && c && d && e && f) g t,
+      and-right (a && b && c && d && e && f) g t6,
+      and-right (a && b && c && d && e && f && g) h t7,
+      and-right (a && b && c && d && e && f && g && h) i t,
     )
 
--- all seven, in the order of the fields above
-seven-in : {s : Settings} → isClock (s .clock) ≡ true → Channels (s .clock) (s .first) → leb (s .count) most ≡ true
-    → isD (s .divisor) ≡ true → isSize (s .size) ≡ true → isMode (s .mode) ≡ true → isSerial (s .serial) ≡ true → Ranges s
-seven-in c h n d z m l = record { clock = c; first = h; count = n; divisor = d; size = z; mode = m; serial = l }
+-- clock, both channels, and all others, in the order of the fields above
+nine-in : {s : Settings} → isClock (s .clock) ≡ true → Channels (s .clock) (s .first) → Channels (s .clock) (s .second)
+    → leb (s .count) most ≡ true → isD (s .divisor) ≡ true → isSize (s .size) ≡ true → isSetup (s .setup) ≡ true
+    → isMode (s .mode) ≡ true → isSerial (s .serial) ≡ true → Ranges s
+nine-in c h k n d z u m l =
+    record { clock = c; first = h; second = k; count = n; divisor = d; size = z; setup = u; mode = m; serial = l }
+
+-- the settings with other channels or another clock, and with other values of the rest
+tuned-in : {s : Settings} {first second : Channel} {clock : ℕ} → Ranges s → isClock clock ≡ true → Channels clock first
+    → Channels clock second → Ranges (withTuning first second clock s)
+tuned-in r c h k = nine-in c h k (r .count) (r .divisor) (r .size) (r .setup) (r .mode) (r .serial)
+
+pub others-in : {s : Settings} {count divisor size setup mode : ℕ} {running : Bool} → Ranges s → leb count most ≡ true → isD divisor ≡ true
+    → isSize size ≡ true → isSetup setup ≡ true → isMode mode ≡ true → Ranges (withOthers count divisor size setup running mode s)
+others-in r n d z u m = nine-in (r .clock) (r .first) (r .second) n d z u m (r .serial)
 
 pub ranges : (s : Settings) → inRange s ≡ true → Ranges s
 unfolding inRange
 ranges s h =
     let t =
-    seven (isClock (s .clock)) (channelInRange (s .clock) (s .first)) (leb (s .count) most) (isD (s .divisor)) (isSize (s .size))
-    (isMode (s .mode)) (isSerial (s .serial)) h in
-    seven-in (t .0) (channel-ranges (s .clock) (s .first) (t .1)) (t .2) (t .3) (t .4) (t .5) (t .6)
+    nine (isClock (s .clock)) (channelInRange (s .clock) (s .first)) (channelInRange (s .clock) (s .second)) (leb (s .count) most)
+    (isD (s .divisor)) (isSize (s .size)) (isSetup (s .setup)) (isMode (s .mode)) (isSerial (s .serial)) h in
+    nine-in (t .0) (channel-ranges (s .clock) (s .first) (t .1)) (channel-ranges (s .clock) (s .second) (t .2)) (t .3) (t .4) (t .5)
+    (t .6) (t .7) (t .8)
 
 pub in-range : (s : Settings) → Ranges s → inRange s ≡ true
 unfolding inRange
-in-range s r = rw (r .clock, channel-in-range (s .clock) (s .first) (r .first), r .count, r .divisor, r .size, r .mode, r .serial)
+in-range s r =
+    rw (
+      r .clock,
+      channel-in-range (s .clock) (s .first) (r .first),
+      channel-in-range (s .clock) (s .second) (r .second),
+      r .count,
+      r .divisor,
+      r .size,
+      r .setup,
+      r .mode,
+      r .serial,
+    )
 
 -- a serial of a valid box has eight bytes
 pub serial-long : (s : Settings) → inRange s ≡ true → length (s .serial) ≡ 8
@@ -108,9 +140,12 @@ Keeps i = (s : Settings) (p : List ℕ) → Ranges s → i .rule .settable p ≡
 state-keeps : Keeps state
 state-keeps s p r h =
     state-ways Ranges (runByte p) (modeByte p) s
-    (λ i. seven-in (r .clock) (r .first) (r .count) (r .divisor) (r .size) (r .mode) (r .serial))
+    (λ i. others-in r (r .count) (r .divisor) (r .size) (r .setup) (r .mode))
     (λ i w. r)
-    (λ i w. seven-in (r .clock) (r .first) refl (r .divisor) (r .size) (has-mode p i h) (r .serial))
+    (λ i w. others-in r refl (r .divisor) (r .size) (r .setup) (has-mode p i h))
+
+setup-keeps : Keeps channelSetup
+setup-keeps s p r h = others-in r (r .count) (r .divisor) (r .size) h (r .mode)
 
 -- a channel tuned to a frequency of the bands, at a clock that may be set, has their word
 tuned-keeps : (hz clock old : ℕ) (c : Channel) → Channels old c → inBands hz ≡ true → isClock clock ≡ true
@@ -118,26 +153,38 @@ tuned-keeps : (hz clock old : ℕ) (c : Channel) → Channels old c → inBands 
 tuned-keeps hz clock old c r band set =
     record { frequency = band; word = kept-is hz clock (and-both (inBands hz) (isClock clock) band set); gain = r .gain }
 
+-- what keeps either channel within its ranges keeps both, whichever a set covers
+channels-keep : (s : Settings) (byte : ℕ) (change : Channel → Channel) → Ranges s
+    → ((c : Channel) → Channels (s .clock) c → Channels (s .clock) (change c)) → Ranges (onChannels byte change s)
+channels-keep s byte change r keeps =
+    tuned-in r (r .clock) (kept (covers (s .setup) byte 0x00) (s .first) (r .first))
+    (kept (covers (s .setup) byte 0x02) (s .second) (r .second))
+  where
+    kept : (covered : Bool) (c : Channel) → Channels (s .clock) c → Channels (s .clock) (pick covered (change c) c)
+    kept true c h = keeps c h
+    kept false c h = h
+
 frequency-keeps : Keeps frequency
 frequency-keeps s p r h =
-    seven-in (r .clock) (tuned-keeps (field 1 5 p) (s .clock) (s .clock) (s .first) (r .first) h (r .clock)) (r .count) (r .divisor)
-    (r .size) (r .mode) (r .serial)
+    channels-keep s (getD p 0 0) (tunedTo (field 1 5 p) (s .clock)) r
+    (λ c k. tuned-keeps (field 1 5 p) (s .clock) (s .clock) c k h (r .clock))
 
 gain-keeps : Keeps gain
 gain-keeps s p r h =
-    seven-in (r .clock) (record { frequency = r .first .frequency; word = r .first .word; gain = h }) (r .count) (r .divisor)
-    (r .size) (r .mode) (r .serial)
+    channels-keep s (getD p 0 0) (gainedTo (getD p 1 0)) r
+    (λ c k. record { frequency = k .frequency; word = k .word; gain = h })
 
 clock-keeps : Keeps clock
-clock-keeps s p r h =
-    seven-in h (tuned-keeps (s .first .frequency) (field 1 4 p) (s .clock) (s .first) (r .first) (r .first .frequency) h) (r .count)
-    (r .divisor) (r .size) (r .mode) (r .serial)
+clock-keeps s p r h = tuned-in r h (at (s .first) (r .first)) (at (s .second) (r .second))
+  where
+    at : (c : Channel) → Channels (s .clock) c → Channels (field 1 4 p) (tunedTo (c .frequency) (field 1 4 p) c)
+    at c k = tuned-keeps (c .frequency) (field 1 4 p) (s .clock) c k (k .frequency) h
 
 size-keeps : Keeps packetSize
-size-keeps s p r h = seven-in (r .clock) (r .first) (r .count) (r .divisor) h (r .mode) (r .serial)
+size-keeps s p r h = others-in r (r .count) (r .divisor) h (r .setup) (r .mode)
 
 rate-keeps : Keeps rate
-rate-keeps s p r h = seven-in (r .clock) (r .first) (r .count) (nearest-d (field 1 4 p) h) (r .size) (r .mode) (r .serial)
+rate-keeps s p r h = others-in r (r .count) (nearest-d (field 1 4 p) h) (r .size) (r .setup) (r .mode)
 
 stays : (s : Settings) (p : List ℕ) → Ranges s → true ≡ true → Ranges s
 stays s p r t = r
@@ -150,6 +197,7 @@ items-keep =
     then stays
     then stays
     then state-keeps
+    then setup-keeps
     then frequency-keeps
     then gain-keeps
     then clock-keeps

@@ -6,3 +6,4 @@ pub mod Words
 pub mod Answers
 pub mod Calls
 pub mod Serving
+pub mod Setup

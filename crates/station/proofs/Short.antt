@@ -46,6 +46,7 @@ all-small =
     then (lit≤ tt, λ s p l. lit≤ tt)
     then (lit≤ tt, λ s p l. lit≤ tt)
     then (lit≤ tt, λ s p l. lit≤ tt)
+    then (lit≤ tt, λ s p l. lit≤ tt)
     then tt
 
 row-small : (code : ℕ) → Small (rowOf code)

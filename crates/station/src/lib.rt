@@ -39,9 +39,10 @@ pub struct FreshBox {
     pub station: Station,
 }
 
-// The tuning word of a box; a broken box has none.
+// The tuning word of a channel of a box. A channel that is not open has none, and a broken box has none.
 pub enum Tuning {
     Word(u32),
+    NotAllowed,
     Broken,
 }
 
@@ -89,12 +90,16 @@ pub fn is_sound(settings: Settings, held: &[u8], taken: usize) -> bool
     framing::could_be_left(held, taken)
 }
 
-// The tuning word: the one that is kept.
-pub fn tuning_word(s: Station) -> Tuning
-    ensures { λ r. ⌜ tuningSays r ≡ tuningTold s ⌝ }
+// The tuning word of a channel, 00 or 02: the one that is kept.
+pub fn tuning_word(s: Station, channel: u8) -> Tuning
+    ensures { λ r. ⌜ tuningSays r ≡ tuningTold s channel ⌝ }
 {
     if !is_valid(s) {
         return Tuning::Broken;
     }
-    Tuning::Word(s.settings.first.word)
+    let settings = s.settings;
+    if !channels::is_open(settings.setup, channel) {
+        return Tuning::NotAllowed;
+    }
+    Tuning::Word(channels::channel_at(settings, channel).word)
 }

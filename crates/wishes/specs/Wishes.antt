@@ -1,4 +1,4 @@
--- Harvester's wishes: "One wish for each kind and item above, channel byte 00."
+-- Harvester's wishes: "One wish for each kind and item above". "Wishes gain 0019 and a channel byte" (02, No. 7).
 use Prim.Native.Nat.{ℕ, _+_, _-_, _^_, _≤_, _<_}
 use mathlib.Core.Bool.{Bool, true, false, _&&_, _||_, not}
 use mathlib.Core.Path.{_≡_}
@@ -18,16 +18,18 @@ use Rattle.tuning.specs.Word.{isClock}
 use Rattle.layouts.specs.declared.Layout.{Layout}
 use Rattle.layouts.specs.Layouts.{laid}
 use Rattle.items.specs.declared.Settings.{Settings}
-use Rattle.items.specs.Settings.{gains, isMode, isSize, withFrequency, withClock, withDivisor, withGain, withSize}
+use Rattle.items.specs.Settings.{gains, isMode, isSize, isSetup, single, dual, onChannels, tunedTo, gainedTo}
+use Rattle.items.specs.Settings.{withClock, withDivisor, withSize, withSetup}
 use Rattle.items.specs.Items.{echoes, Offer, total, dash, Item, items, name, serial, interface, versions, status}
-use Rattle.items.specs.Items.{state, frequency, gain, clock, rate, packetSize, idle, run, isVersion, stateTo}
+use Rattle.items.specs.Items.{state, channelSetup, frequency, gain, clock, rate, packetSize, idle, run, isVersion, stateTo}
 use Rattle.items.specs.Table.{offered}
-use Rattle.items.specs.Answer.{Message}
+use Rattle.items.specs.Answer.{Message, channelAllowed}
 use Rattle.wishes.specs.declared.StateFields.{StateFields}
 use Rattle.wishes.specs.declared.Wish.{Wish}
-use Rattle.wishes.specs.declared.Wish.the-variants.{AskName, AskSerial, AskInterface, AskVersion, AskStatus, SetState}
-use Rattle.wishes.specs.declared.Wish.the-variants.{AskState, SetFrequency, AskFrequency, AskFrequencyRange, SetGain, AskGain}
-use Rattle.wishes.specs.declared.Wish.the-variants.{SetClock, AskClock, SetRate, AskRate, SetPacketSize, AskPacketSize}
+use Rattle.wishes.specs.declared.Wish.the-variants.{AskName, AskSerial, AskInterface, AskVersion, AskStatus, SetState, AskState}
+use Rattle.wishes.specs.declared.Wish.the-variants.{SetChannelSetup, AskChannelSetup, SetFrequency, AskFrequency, AskFrequencyRange}
+use Rattle.wishes.specs.declared.Wish.the-variants.{SetGain, AskGain, SetClock, AskClock}
+use Rattle.wishes.specs.declared.Wish.the-variants.{SetRate, AskRate, SetPacketSize, AskPacketSize}
 
 -- A value as it is sent: a number, least significant byte first; a signed byte; or byte after byte.
 pub data Value : Type 0 where
@@ -55,15 +57,22 @@ pub record Asking : Type 0 where
   pub echo : ℕ
   pub value : Value
 
--- "channel byte 00"
-abbrev pub channel : ℕ
-channel = 0x00
+-- of an item that has neither a channel byte nor an id
+abbrev noEcho : ℕ
+noEcho = 0
+
+-- with the channel byte or id
+abbrev pub requestOf : Item → ℕ → Asking
+requestOf item byte = record { item = item; kind = typeRequest; echo = byte; value = whole 0 }
+
+abbrev pub settingOf : Item → ℕ → Value → Asking
+settingOf item byte value = record { item = item; kind = typeSet; echo = byte; value = value }
 
 abbrev pub request : Item → Asking
-request item = record { item = item; kind = typeRequest; echo = channel; value = whole 0 }
+request item = requestOf item noEcho
 
 abbrev pub setting : Item → Value → Asking
-setting item value = record { item = item; kind = typeSet; echo = channel; value = value }
+setting item value = settingOf item noEcho value
 
 -- "Idle is sent as 00 01 00 00, run as 80 02, mode, 00."
 abbrev pub stateSent : StateFields → List ℕ
@@ -76,19 +85,21 @@ abbrev pub asking : Wish → Asking
 asking AskName = request name
 asking AskSerial = request serial
 asking AskInterface = request interface
-asking (AskVersion id) = record { item = versions; kind = typeRequest; echo = id; value = whole 0 }
+asking (AskVersion id) = requestOf versions id
 asking AskStatus = request status
 asking (SetState f) = setting state (inBytes (stateSent f))
 asking AskState = request state
-asking (SetFrequency hz) = setting frequency (whole hz)
-asking AskFrequency = request frequency
-asking AskFrequencyRange = record { item = frequency; kind = typeRange; echo = channel; value = whole 0 }
-asking (SetGain g) = setting gain (signedByte g)
-asking AskGain = request gain
-asking (SetClock hz) = setting clock (whole hz)
-asking AskClock = request clock
-asking (SetRate hz) = setting rate (whole hz)
-asking AskRate = request rate
+asking (SetChannelSetup n) = setting channelSetup (whole n)
+asking AskChannelSetup = request channelSetup
+asking (SetFrequency channel hz) = settingOf frequency channel (whole hz)
+asking (AskFrequency channel) = requestOf frequency channel
+asking (AskFrequencyRange channel) = record { item = frequency; kind = typeRange; echo = channel; value = whole 0 }
+asking (SetGain channel g) = settingOf gain channel (signedByte g)
+asking (AskGain channel) = requestOf gain channel
+asking (SetClock channel hz) = settingOf clock channel (whole hz)
+asking (AskClock channel) = requestOf clock channel
+asking (SetRate channel hz) = settingOf rate channel (whole hz)
+asking (AskRate channel) = requestOf rate channel
 asking (SetPacketSize n) = setting packetSize (whole n)
 asking AskPacketSize = request packetSize
 
@@ -114,6 +125,8 @@ cellsIn (i ∷ is) =
 pub record WishValues : Type 0 where
   pub id : ℕ
   pub state : StateFields
+  pub setup : ℕ
+  pub channel : ℕ
   pub frequency : ℕ
   pub gain : ℤ
   pub clock : ℕ
@@ -129,15 +142,17 @@ eachWish v =
     ∷ AskStatus
     ∷ SetState (v .state)
     ∷ AskState
-    ∷ SetFrequency (v .frequency)
-    ∷ AskFrequency
-    ∷ AskFrequencyRange
-    ∷ SetGain (v .gain)
-    ∷ AskGain
-    ∷ SetClock (v .clock)
-    ∷ AskClock
-    ∷ SetRate (v .rate)
-    ∷ AskRate
+    ∷ SetChannelSetup (v .setup)
+    ∷ AskChannelSetup
+    ∷ SetFrequency (v .channel) (v .frequency)
+    ∷ AskFrequency (v .channel)
+    ∷ AskFrequencyRange (v .channel)
+    ∷ SetGain (v .channel) (v .gain)
+    ∷ AskGain (v .channel)
+    ∷ SetClock (v .channel) (v .clock)
+    ∷ AskClock (v .channel)
+    ∷ SetRate (v .channel) (v .rate)
+    ∷ AskRate (v .channel)
     ∷ SetPacketSize (v .size)
     ∷ AskPacketSize
     ∷ []
@@ -180,6 +195,14 @@ messageOf w = laid (layoutOf w)
 abbrev pub Fits : Wish → Type 0
 Fits w = fitsIn (layoutOf w .width) (asking w .value)
 
+-- a box with this value of 0019 allows the wish's channel byte
+abbrev pub openAt : Wish → ℕ → Bool
+openAt w setup = channelAllowed setup (asking w .item .echoed) (asking w .kind) (asking w .echo)
+
+-- some box does: "15, nothing written, if no box allows it"
+abbrev pub openWish : Wish → Bool
+openWish w = anyOf (openAt w) (single ∷ dual ∷ [])
+
 -- idle, whatever the mode, or run in one of the two modes
 abbrev pub mayWishState : StateFields → Bool
 mayWishState f = eqb (f .run) idle || (eqb (f .run) run && isMode (f .mode))
@@ -194,15 +217,17 @@ allowedWish (AskVersion id) = isVersion id
 allowedWish AskStatus = true
 allowedWish (SetState f) = mayWishState f
 allowedWish AskState = true
-allowedWish (SetFrequency hz) = inBands hz
-allowedWish AskFrequency = true
-allowedWish AskFrequencyRange = true
-allowedWish (SetGain g) = anyOf (sameInteger g) gains
-allowedWish AskGain = true
-allowedWish (SetClock hz) = isClock hz
-allowedWish AskClock = true
-allowedWish (SetRate hz) = mayAsk hz
-allowedWish AskRate = true
+allowedWish (SetChannelSetup n) = isSetup n
+allowedWish AskChannelSetup = true
+allowedWish (SetFrequency channel hz) = inBands hz
+allowedWish (AskFrequency channel) = true
+allowedWish (AskFrequencyRange channel) = true
+allowedWish (SetGain channel g) = anyOf (sameInteger g) gains
+allowedWish (AskGain channel) = true
+allowedWish (SetClock channel hz) = isClock hz
+allowedWish (AskClock channel) = true
+allowedWish (SetRate channel hz) = mayAsk hz
+allowedWish (AskRate channel) = true
 allowedWish (SetPacketSize n) = isSize n
 allowedWish AskPacketSize = true
 
@@ -215,20 +240,26 @@ granted (AskVersion id) s = s
 granted AskStatus s = s
 granted (SetState f) s = stateTo (f .run) (f .mode) s
 granted AskState s = s
-granted (SetFrequency hz) s = withFrequency hz s
-granted AskFrequency s = s
-granted AskFrequencyRange s = s
-granted (SetGain g) s = withGain (coded 8 g) s
-granted AskGain s = s
-granted (SetClock hz) s = withClock hz s
-granted AskClock s = s
-granted (SetRate hz) s = withDivisor (nearestOf hz) s
-granted AskRate s = s
+granted (SetChannelSetup n) s = withSetup n s
+granted AskChannelSetup s = s
+granted (SetFrequency channel hz) s = onChannels channel (tunedTo hz (s .clock)) s
+granted (AskFrequency channel) s = s
+granted (AskFrequencyRange channel) s = s
+granted (SetGain channel g) s = onChannels channel (gainedTo (coded 8 g)) s
+granted (AskGain channel) s = s
+granted (SetClock channel hz) s = withClock hz s
+granted (AskClock channel) s = s
+granted (SetRate channel hz) s = withDivisor (nearestOf hz) s
+granted (AskRate channel) s = s
 granted (SetPacketSize n) s = withSize n s
 granted AskPacketSize s = s
 
--- A box that is running does not take the wish now (17): "Run while running in the same mode replies and changes nothing; in another
--- mode 17. Items 00B8 and 00C4 cannot be set while running (17)."
+-- A box in which the wish's channel is not open does not take it now (15): "channel 02 with value 0 is 15".
+abbrev pub closedNow : Wish → Settings → Bool
+closedNow w s = not (openAt w (s .setup))
+
+-- Nor does one that is running (17): "Run while running in the same mode replies and changes nothing; in another mode 17. Items 00B8 and
+-- 00C4 cannot be set while running (17)." "setting it [0019] while running is 17".
 abbrev pub notNow : Wish → Settings → Bool
 notNow AskName s = false
 notNow AskSerial s = false
@@ -237,17 +268,23 @@ notNow (AskVersion id) s = false
 notNow AskStatus s = false
 notNow (SetState f) s = s .running && (eqb (f .run) run && not (eqb (f .mode) (s .mode)))
 notNow AskState s = false
-notNow (SetFrequency hz) s = false
-notNow AskFrequency s = false
-notNow AskFrequencyRange s = false
-notNow (SetGain g) s = false
-notNow AskGain s = false
-notNow (SetClock hz) s = false
-notNow AskClock s = false
-notNow (SetRate hz) s = s .running
-notNow AskRate s = false
+notNow (SetChannelSetup n) s = s .running
+notNow AskChannelSetup s = false
+notNow (SetFrequency channel hz) s = false
+notNow (AskFrequency channel) s = false
+notNow (AskFrequencyRange channel) s = false
+notNow (SetGain channel g) s = false
+notNow (AskGain channel) s = false
+notNow (SetClock channel hz) s = false
+notNow (AskClock channel) s = false
+notNow (SetRate channel hz) s = s .running
+notNow (AskRate channel) s = false
 notNow (SetPacketSize n) s = s .running
 notNow AskPacketSize s = false
+
+-- the box refuses the wish now, for either reason
+abbrev pub refusedNow : Wish → Settings → Bool
+refusedNow w s = closedNow w s || notNow w s
 
 -- the wish's message as the box holds it when it is finished: unused places are zero
 abbrev pub asMessage : Wish → Message

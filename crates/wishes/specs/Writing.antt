@@ -9,12 +9,17 @@ use Rattle.wire.specs.Codes.{othersWrite}
 use Rattle.wire.specs.Codes as Code
 use Rattle.wishes.specs.declared.Wish.{Wish}
 use Rattle.wishes.specs.declared.Written.{Written}
-use Rattle.wishes.specs.declared.Written.the-variants.{Message, NotAllowed, NoRoom}
-use Rattle.wishes.specs.Wishes.{allowedWish, messageOf}
+use Rattle.wishes.specs.declared.Written.the-variants.{Message, ChannelNotAllowed, NotAllowed, NoRoom}
+use Rattle.wishes.specs.Wishes.{openWish, allowedWish, messageOf}
 
--- "16 values the box would refuse so, with 20 a buffer under 16 bytes (16 checked first)"
+-- "a channel byte (15, nothing written, if no box allows it; before 16)" (02, No. 7); "16 values the box would refuse so, with 20 a buffer
+-- under 16 bytes (16 checked first)"
 abbrev pub wishChecks : Wish → ℕ → List Check
-wishChecks w room = check Code.valueNotAllowed (not (allowedWish w)) ∷ check Code.noRoom (ltb room 16) ∷ []
+wishChecks w room =
+    check Code.channelNotAllowed (not (openWish w))
+    ∷ check Code.valueNotAllowed (not (allowedWish w))
+    ∷ check Code.noRoom (ltb room 16)
+    ∷ []
 
 unfoldable pub wishCode : Wish → ℕ → ℕ
 wishCode w room = firstOf (wishChecks w room) Code.done
@@ -31,6 +36,7 @@ pub record Writing : Type 0 where
 -- the number and the value of each case
 abbrev pub writtenSays : Written → Writing
 writtenSays (Message n) = record { code = Code.done; wrote = n }
+writtenSays ChannelNotAllowed = record { code = Code.channelNotAllowed; wrote = 0 }
 writtenSays NotAllowed = record { code = Code.valueNotAllowed; wrote = 0 }
 writtenSays NoRoom = record { code = Code.noRoom; wrote = 0 }
 

@@ -13,7 +13,7 @@ use std::process::{Command, Stdio};
 use std::time::Instant;
 
 use outside::boundary::{Library, Plain};
-use outside::capture::{first_packets, packets, signal, FORMS, PACKETS, PACKETS_READ};
+use outside::capture::{first_packets, packets, signal, COUNTS, FORMS, PACKETS, PACKETS_READ};
 use outside::packet::number_at;
 use outside::random::Random;
 use outside::talk::{frequencies, kinds, Talk};
@@ -29,8 +29,16 @@ use {outside::boundary::Plain as Proved, reader::read_run, station::cut_run, sta
 mod peer {
     extern "C" {
         pub fn peer_serve(host: *const u8, n: usize, replies: *mut u8, room: usize) -> usize;
-        pub fn peer_cut_run(mode: u8, size: u8, samples: *const i32, n: usize, packets: *mut u8, room: usize) -> usize;
-        pub fn peer_read_run(packets: *const u8, n: usize, total: usize, missed: *mut u64) -> u64;
+        pub fn peer_cut_run(
+            mode: u8,
+            size: u8,
+            setup: u8,
+            samples: *const i32,
+            n: usize,
+            packets: *mut u8,
+            room: usize,
+        ) -> usize;
+        pub fn peer_read_run(channels: u8, packets: *const u8, n: usize, total: usize, missed: *mut u64) -> u64;
         pub fn peer_unpack(packet: *const u8, n: usize, numbers: *mut i32, room: usize, count: *mut usize) -> i32;
     }
 }
@@ -55,13 +63,13 @@ fn feed(talk: &Talk, rounds: usize, wanted: Option<f64>) {
     row(talk.what, &found, wanted);
 }
 
-fn cut(what: &str, form: Form, mode: u8, size: u8, rounds: usize, wanted: Option<f64>) {
-    let (mode, size, samples) = (black_box(mode), black_box(size), &signal(form)[..]);
+fn cut(what: &str, form: Form, (mode, size, setup): (u8, u8, u8), rounds: usize, wanted: Option<f64>) {
+    let (mode, size, setup, samples) = (black_box(mode), black_box(size), black_box(setup), &signal(form)[..]);
     let mut rooms = Rooms::new(PACKETS * form.total());
     let mut runners = runners(
-        || cut_run(mode, size, black_box(samples), black_box(&mut rooms.proved)) as u64,
-        || station::cut_run(mode, size, black_box(samples), black_box(&mut rooms.rust)) as u64,
-        || c_cut_run(mode, size, black_box(samples), black_box(&mut rooms.c)) as u64,
+        || cut_run(mode, size, setup, black_box(samples), black_box(&mut rooms.proved)) as u64,
+        || station::cut_run(mode, size, setup, black_box(samples), black_box(&mut rooms.rust)) as u64,
+        || c_cut_run(mode, size, setup, black_box(samples), black_box(&mut rooms.c)) as u64,
     );
     let found = best(&mut runners, PACKETS as f64, rounds);
     drop(runners);
@@ -69,15 +77,16 @@ fn cut(what: &str, form: Form, mode: u8, size: u8, rounds: usize, wanted: Option
     row(&format!("cut, {what}"), &found, wanted);
 }
 
-fn read(what: &str, packets: &[u8], total: usize, rounds: usize, wanted: Option<f64>) {
+fn read(what: &str, channels: u8, packets: &[u8], total: usize, rounds: usize, wanted: Option<f64>) {
+    let channels = black_box(channels);
     let both = |answer| {
         let (sample, missed): (u64, u64) = black_box(answer);
         sample + missed
     };
     let mut runners = runners(
-        || both(read_run(black_box(packets), black_box(total))),
-        || both(reader::read_run(black_box(packets), black_box(total))),
-        || both(c_read_run(black_box(packets), black_box(total))),
+        || both(read_run(channels, black_box(packets), black_box(total))),
+        || both(reader::read_run(channels, black_box(packets), black_box(total))),
+        || both(c_read_run(channels, black_box(packets), black_box(total))),
     );
     let found = best(&mut runners, (packets.len() / total) as f64, rounds);
     drop(runners);
@@ -98,7 +107,7 @@ fn read_lossy(what: &str, form: Form, percent: u64, rounds: usize) {
         here
     });
     let packets = packets(form, positions);
-    read(&format!("read, {what}, {percent} % lost"), &packets, form.total(), rounds, None);
+    read(&format!("read, {what}, {percent} % lost"), 1, &packets, form.total(), rounds, None);
 }
 
 fn unpack(
@@ -142,14 +151,15 @@ fn c_serve(host: &[u8], replies: &mut [u8]) -> usize {
 }
 
 #[cfg(peer)]
-fn c_cut_run(mode: u8, size: u8, samples: &[i32], packets: &mut [u8]) -> usize {
-    unsafe { peer::peer_cut_run(mode, size, samples.as_ptr(), samples.len(), packets.as_mut_ptr(), packets.len()) }
+fn c_cut_run(mode: u8, size: u8, setup: u8, samples: &[i32], packets: &mut [u8]) -> usize {
+    let (from, to) = (samples.as_ptr(), packets.as_mut_ptr());
+    unsafe { peer::peer_cut_run(mode, size, setup, from, samples.len(), to, packets.len()) }
 }
 
 #[cfg(peer)]
-fn c_read_run(packets: &[u8], total: usize) -> (u64, u64) {
+fn c_read_run(channels: u8, packets: &[u8], total: usize) -> (u64, u64) {
     let mut missed = 0;
-    let sample = unsafe { peer::peer_read_run(packets.as_ptr(), packets.len(), total, &mut missed) };
+    let sample = unsafe { peer::peer_read_run(channels, packets.as_ptr(), packets.len(), total, &mut missed) };
     (sample, missed)
 }
 
@@ -167,12 +177,12 @@ fn c_serve(_: &[u8], _: &mut [u8]) -> usize {
 }
 
 #[cfg(not(peer))]
-fn c_cut_run(_: u8, _: u8, _: &[i32], _: &mut [u8]) -> usize {
+fn c_cut_run(_: u8, _: u8, _: u8, _: &[i32], _: &mut [u8]) -> usize {
     0
 }
 
 #[cfg(not(peer))]
-fn c_read_run(_: &[u8], _: usize) -> (u64, u64) {
+fn c_read_run(_: u8, _: &[u8], _: usize) -> (u64, u64) {
     (0, 0)
 }
 
@@ -267,24 +277,32 @@ fn main() {
     let rounds = if quick { 200 } else { 4000 };
     head("message or packet");
     feed(&frequencies(), rounds, Some(1.0));
-    for ((what, form, mode, size), wanted) in FORMS.into_iter().zip([Some(0.8), None, Some(0.8), Some(0.8)]) {
-        cut(what, form, mode, size, rounds, wanted);
+    for (more, setup, _) in COUNTS {
+        for ((what, form, mode, size), wanted) in FORMS.into_iter().zip([Some(0.8), None, Some(0.8), Some(0.8)]) {
+            cut(&format!("{what}{more}"), form, (mode, size, setup), rounds, wanted);
+        }
     }
-    for (what, form, ..) in FORMS {
-        read(&format!("read, {what}"), &first_packets(form, PACKETS_READ), form.total(), rounds, Some(0.8));
+    for (more, _, channels) in COUNTS {
+        for (what, form, ..) in FORMS {
+            let packets = first_packets(form, PACKETS_READ);
+            read(&format!("read, {what}{more}"), channels, &packets, form.total(), rounds, Some(0.8));
+        }
     }
     for percent in [0, 1, 30] {
         read_lossy("small, 24 bits", Form::SMALL_24, percent, rounds / 4);
     }
-    for ((what, form, ..), wanted) in FORMS.into_iter().zip([Some(0.8), Some(1.0), Some(1.0), Some(1.0)]) {
-        unpack(
-            what,
-            form,
-            &first_packets(form, PACKETS),
-            |packet, numbers| Plain.unpack(packet, numbers),
-            rounds,
-            wanted,
-        );
+    // unpacking is not told how many channels a packet holds: with two it is the same call
+    for (more, ..) in COUNTS {
+        for ((what, form, ..), wanted) in FORMS.into_iter().zip([Some(0.8), Some(1.0), Some(1.0), Some(1.0)]) {
+            unpack(
+                &format!("{what}{more}"),
+                form,
+                &first_packets(form, PACKETS),
+                |packet, numbers| Plain.unpack(packet, numbers),
+                rounds,
+                wanted,
+            );
+        }
     }
     for (what, form, ..) in FORMS {
         unpack(

@@ -8,13 +8,15 @@
 
 use std::hint::black_box;
 
-use outside::boundary::{self, Library, Plain, Said, WishFields, READER_BYTES, STATION_BYTES};
-use outside::boundary::{ASK_RATE, ASK_VERSION, SET_CLOCK, SET_FREQUENCY, SET_GAIN, SET_RATE, SET_SIZE, SET_STATE};
-use outside::capture::{first_packets, signal, FORMS, PACKETS, PACKETS_READ};
+use outside::boundary::{self, Library, Plain, Said, WishFields, READER_BYTES, STATION_BYTES, WISHES};
+use outside::boundary::{ASK_RANGE, ASK_RATE, ASK_SETUP, ASK_VERSION};
+use outside::boundary::{SET_CLOCK, SET_FREQUENCY, SET_GAIN, SET_RATE, SET_SETUP, SET_SIZE, SET_STATE};
+use outside::capture::{first_packets, signal, COUNTS, FORMS, PACKETS, PACKETS_READ};
+use outside::item::{ALL_CHANNELS, CHANNEL_1, CHANNEL_2, MODE_16, MODE_24, SETUP_DUAL, SETUP_SINGLE};
 use outside::random::Random;
 use outside::talk::LONGEST_REPLY;
 use outside::timing::{best, both, head, row, Rooms, Who};
-use outside::{head, message, Form, Head, Station};
+use outside::{head, message, Form, Head, Reader, Station};
 
 #[cfg(not(proved))] // a name for what is then not called
 use outside::boundary::Plain as Proved;
@@ -56,10 +58,27 @@ fn fresh(rounds: usize) {
     states.agree(&found);
 }
 
-fn tuning_word(rounds: usize) {
-    fn run(library: impl Library, states: &[u8], bytes: usize) -> u64 {
+fn silent(rounds: usize) {
+    fn run(library: impl Library, counts: &[u8], reader: &mut [u8]) -> u64 {
+        counts.iter().map(|channels| u64::from(library.silent(*channels, reader))).sum()
+    }
+    let mut random = Random::new(9);
+    let counts: Vec<u8> = (0..CALLS).map(|_| random.of(&[1, 2])).collect();
+    let mut readers = Rooms::new(READER_BYTES);
+    let found = time(
+        "a silent reader",
+        CALLS,
+        rounds,
+        || run(Proved, &counts, black_box(&mut readers.proved)),
+        || run(Plain, &counts, black_box(&mut readers.rust)),
+    );
+    readers.agree(&found);
+}
+
+fn tuning_word(what: &str, setup: u8, channel: u8, rounds: usize) {
+    fn run(library: impl Library, states: &[u8], bytes: usize, channel: u8) -> u64 {
         let words = states.chunks_exact(bytes).map(|state| {
-            let (code, word) = library.word(state);
+            let (code, word) = library.word(state, channel);
             u64::from(code) + word
         });
         words.sum()
@@ -68,18 +87,23 @@ fn tuning_word(rounds: usize) {
     let mut states = Vec::new();
     for _ in 0..CALLS {
         let mut station = Station::fresh(SERIAL).0;
-        let bands = [random.within(100_000, 34_000_000), random.within(140_000_000, 150_000_000)];
-        let frequency = random.of(&bands);
+        let mut frequency = || {
+            let bands = [random.within(100_000, 34_000_000), random.within(140_000_000, 150_000_000)];
+            random.of(&bands)
+        };
+        let frequencies = [frequency(), frequency()];
         let clock = random.within(79_992_000, 80_008_000) as u32;
         station.settings.clock = clock;
-        station.settings.first.tune(frequency, clock);
+        station.settings.setup = setup;
+        station.settings.first.tune(frequencies[0], clock);
+        station.settings.second.tune(frequencies[1], clock);
         states.extend(boundary::station_bytes(&station));
     }
-    let bytes = black_box(STATION_BYTES);
-    time("tuning word", CALLS, rounds, || run(Proved, &states, bytes), || run(Plain, &states, bytes));
+    let (bytes, channel) = black_box((STATION_BYTES, channel));
+    time(what, CALLS, rounds, || run(Proved, &states, bytes, channel), || run(Plain, &states, bytes, channel));
 }
 
-fn cut(what: &str, form: Form, mode: u8, size: u8, rounds: usize) {
+fn cut(what: &str, form: Form, (mode, size, setup): (u8, u8, u8), rounds: usize) {
     fn run(
         library: impl Library,
         started: &[u8],
@@ -99,6 +123,7 @@ fn cut(what: &str, form: Form, mode: u8, size: u8, rounds: usize) {
     station.settings.running = true;
     station.settings.mode = mode;
     station.settings.size = size;
+    station.settings.setup = setup;
     let started = boundary::station_bytes(&station);
     let samples = signal(form);
     let lengths = black_box((form.samples(), form.total()));
@@ -114,9 +139,9 @@ fn cut(what: &str, form: Form, mode: u8, size: u8, rounds: usize) {
     rooms.agree(&found);
 }
 
-fn read(what: &str, form: Form, packets: &[u8], rounds: usize) {
-    fn run(library: impl Library, packets: &[u8], total: usize, reader: &mut [u8]) -> u64 {
-        reader.fill(0);
+fn read(what: &str, form: Form, channels: u8, packets: &[u8], rounds: usize) {
+    fn run(library: impl Library, silent: &[u8], packets: &[u8], total: usize, reader: &mut [u8]) -> u64 {
+        reader.copy_from_slice(silent);
         let places = packets.chunks_exact(total).map(|packet| {
             let (code, place) = library.read(reader, packet);
             // no plain sum: of that the compiler makes one wide load, which waits for the four stores
@@ -125,13 +150,14 @@ fn read(what: &str, form: Form, packets: &[u8], rounds: usize) {
         places.sum()
     }
     let total = black_box(form.total());
+    let silent = boundary::reader_bytes(&Reader::new(channels));
     let mut readers = Rooms::new(READER_BYTES);
     let found = time(
         &format!("read, {what}"),
         PACKETS_READ,
         rounds,
-        || run(Proved, packets, total, black_box(&mut readers.proved)),
-        || run(Plain, packets, total, black_box(&mut readers.rust)),
+        || run(Proved, &silent, packets, total, black_box(&mut readers.proved)),
+        || run(Plain, &silent, packets, total, black_box(&mut readers.rust)),
     );
     readers.agree(&found);
 }
@@ -154,8 +180,8 @@ fn sample_bytes(what: &str, form: Form, packets: &[u8], rounds: usize) {
     );
 }
 
-/// A wish of a number, its value at random among those that a box takes.
-fn some_wish(which: u64, random: &mut Random) -> WishFields {
+/// A wish of a number for a channel, its value at random among those that a box takes.
+fn some_wish(which: u64, channel: u8, random: &mut Random) -> WishFields {
     let value = match which {
         ASK_VERSION => random.below(4),
         SET_STATE => random.of(&[0x0001, 0x0002, 0x8002]),
@@ -163,20 +189,40 @@ fn some_wish(which: u64, random: &mut Random) -> WishFields {
         SET_GAIN => random.of(&[0x00, 0xF6, 0xEC, 0xE2]),
         SET_CLOCK => random.within(79_992_000, 80_008_000),
         SET_RATE => random.within(32_000, 2_000_000),
+        SET_SETUP => random.of(&[0, 4]),
         SET_SIZE => random.below(2),
         _ => 0,
     };
-    WishFields::of(which, value)
+    WishFields::of(which, channel, value)
 }
 
-/// Wishes of one number, or of all in random order.
-fn some_wishes(which: Option<u64>) -> Vec<WishFields> {
+/// Which wishes a row has.
+#[derive(Clone, Copy)]
+enum Among {
+    One(u64),
+    /// those of document 01, in random order
+    Old,
+    /// all, in random order
+    All,
+}
+
+fn some_wishes(among: Among, channel: u8) -> Vec<WishFields> {
     let mut random = Random::new(6);
-    let mut next = || some_wish(which.unwrap_or_else(|| random.below(18)), &mut random);
+    let mut next = || {
+        let which = match among {
+            Among::One(which) => which,
+            Among::Old => match random.below(WISHES - 2) {
+                before if before < SET_SETUP => before,
+                after => after + 2,
+            },
+            Among::All => random.below(WISHES),
+        };
+        some_wish(which, channel, &mut random)
+    };
     (0..CALLS).map(|_| next()).collect()
 }
 
-fn wish(what: &str, which: Option<u64>, rounds: usize) {
+fn wish(what: &str, wishes: &[WishFields], rounds: usize) {
     fn run(library: impl Library, wishes: &[WishFields], buffer: &mut [u8]) -> u64 {
         let written = wishes.iter().map(|fields| {
             let (code, wrote) = library.write_wish(*fields, buffer);
@@ -184,24 +230,25 @@ fn wish(what: &str, which: Option<u64>, rounds: usize) {
         });
         written.sum()
     }
-    let wishes = some_wishes(which);
     let mut rooms = Rooms::new(16);
     let found = time(
         &format!("wish, {what}"),
         CALLS,
         rounds,
-        || run(Proved, &wishes, black_box(&mut rooms.proved)),
-        || run(Plain, &wishes, black_box(&mut rooms.rust)),
+        || run(Proved, wishes, black_box(&mut rooms.proved)),
+        || run(Plain, wishes, black_box(&mut rooms.rust)),
     );
     rooms.agree(&found);
 }
 
-/// What a box of any rate and frequency answers to a wish.
+/// What a box of any rate and frequency, which has both channels open, answers to a wish.
 fn answer(fields: WishFields, random: &mut Random) -> Vec<u8> {
     let mut station = Station::fresh(SERIAL).0;
+    station.settings.setup = SETUP_DUAL;
     let (mut message, mut reply) = ([0; 16], [0; 64]);
     let mut wrote = 0;
-    for fields in [some_wish(SET_FREQUENCY, random), some_wish(SET_RATE, random), fields] {
+    let frequency = some_wish(SET_FREQUENCY, ALL_CHANNELS, random);
+    for fields in [frequency, some_wish(SET_RATE, CHANNEL_1, random), fields] {
         let (_, length) = Plain.write_wish(fields, black_box(&mut message));
         wrote = station.feed(&message[..length], &mut reply).wrote;
     }
@@ -225,13 +272,13 @@ fn reply(what: &str, wishes: &[WishFields], replies: &[Vec<u8>], rounds: usize) 
     );
 }
 
-/// A head of version 1, or one of version 2 that names a box and its clock.
-fn some_head(version: u32, random: &mut Random) -> Head {
+/// A head of version 1, or one of version 2 that names a box and its clock, with this bit in its mode byte.
+fn some_head(version: u32, channels: u8, random: &mut Random) -> Head {
     let old = Head {
         version,
         divisor: random.within(10, 625) as u32,
         frequency: random.within(100_000, 34_000_000),
-        mode: random.of(&[0x80, 0x00]),
+        mode: random.of(&[MODE_24, MODE_16]) | channels,
         size: random.of(&[0, 1]),
         serial: head::UNKNOWN,
         clock: head::USUAL_CLOCK,
@@ -243,8 +290,8 @@ fn some_head(version: u32, random: &mut Random) -> Head {
     Head { serial, clock: random.within(79_992_000, 80_008_000) as u32, ..old }
 }
 
-/// Writes and reads heads of one version; answers their bytes.
-fn heads(version: u32, rounds: usize) -> Vec<u8> {
+/// Writes and reads heads of one version and count of channels; answers their bytes.
+fn heads(what: &str, version: u32, channels: u8, rounds: usize) -> Vec<u8> {
     fn write(library: impl Library, heads: &[Head], length: usize, bytes: &mut [u8]) -> u64 {
         let written = heads.iter().zip(bytes.chunks_exact_mut(length));
         written.map(|(head, to)| u64::from(library.write_head(*head, to))).sum()
@@ -259,11 +306,11 @@ fn heads(version: u32, rounds: usize) -> Vec<u8> {
         found.fold(0, u64::wrapping_add)
     }
     let mut random = Random::new(7);
-    let heads: Vec<Head> = (0..CALLS).map(|_| some_head(version, &mut random)).collect();
+    let heads: Vec<Head> = (0..CALLS).map(|_| some_head(version, channels, &mut random)).collect();
     let length = black_box(heads[0].length());
     let mut rooms = Rooms::new(CALLS * length);
     let found = time(
-        &format!("write a capture head, version {version}"),
+        &format!("write a capture head, {what}"),
         CALLS,
         rounds,
         || write(Proved, &heads, length, black_box(&mut rooms.proved)),
@@ -272,7 +319,7 @@ fn heads(version: u32, rounds: usize) -> Vec<u8> {
     rooms.agree(&found);
     let bytes = &rooms.rust[..];
     time(
-        &format!("read a capture head, version {version}"),
+        &format!("read a capture head, {what}"),
         CALLS,
         rounds,
         || read(Proved, bytes, length),
@@ -321,40 +368,52 @@ fn main() {
     let rounds = if quick { 50 } else { 1000 };
     head("call over the boundary");
     fresh(rounds);
-    tuning_word(rounds);
-    for (what, form, mode, size) in FORMS {
-        cut(what, form, mode, size, rounds);
+    silent(rounds);
+    tuning_word("tuning word", SETUP_SINGLE, CHANNEL_1, rounds);
+    tuning_word("tuning word, the second of two channels", SETUP_DUAL, CHANNEL_2, rounds);
+    for (more, setup, _) in COUNTS {
+        for (what, form, mode, size) in FORMS {
+            cut(&format!("{what}{more}"), form, (mode, size, setup), rounds);
+        }
     }
-    for (what, form, ..) in FORMS {
-        read(what, form, &first_packets(form, PACKETS_READ), rounds);
+    for (more, _, channels) in COUNTS {
+        for (what, form, ..) in FORMS {
+            read(&format!("{what}{more}"), form, channels, &first_packets(form, PACKETS_READ), rounds);
+        }
     }
     for (what, form, ..) in FORMS {
         sample_bytes(what, form, &first_packets(form, PACKETS_READ), rounds);
     }
     let kinds = [
-        ("0001 name, request", Some(0)),
-        ("0004 versions, request", Some(ASK_VERSION)),
-        ("0018 state, set", Some(SET_STATE)),
-        ("0020 frequency, set", Some(SET_FREQUENCY)),
-        ("0020 frequency, request range", Some(9)),
-        ("0038 RF gain, set", Some(SET_GAIN)),
-        ("00B8 rate, set", Some(SET_RATE)),
-        ("00B8 rate, request", Some(ASK_RATE)),
-        ("all in random order", None),
+        ("0001 name, request", Among::One(0), CHANNEL_1),
+        ("0004 versions, request", Among::One(ASK_VERSION), CHANNEL_1),
+        ("0018 state, set", Among::One(SET_STATE), CHANNEL_1),
+        ("0019 channel setup, set", Among::One(SET_SETUP), CHANNEL_1),
+        ("0019 channel setup, request", Among::One(ASK_SETUP), CHANNEL_1),
+        ("0020 frequency, set", Among::One(SET_FREQUENCY), CHANNEL_1),
+        ("0020 frequency, set, both channels", Among::One(SET_FREQUENCY), ALL_CHANNELS),
+        ("0020 frequency, request range", Among::One(ASK_RANGE), CHANNEL_1),
+        ("0020 frequency, request range, the second channel", Among::One(ASK_RANGE), CHANNEL_2),
+        ("0038 RF gain, set", Among::One(SET_GAIN), CHANNEL_1),
+        ("00B8 rate, set", Among::One(SET_RATE), CHANNEL_1),
+        ("00B8 rate, request", Among::One(ASK_RATE), CHANNEL_1),
+        ("all in random order", Among::Old, CHANNEL_1),
+        ("all in random order, with 0019, the second channel", Among::All, CHANNEL_2),
     ];
-    for (what, which) in kinds {
-        wish(what, which, rounds);
+    for (what, among, channel) in kinds {
+        wish(what, &some_wishes(among, channel), rounds);
     }
     let mut random = Random::new(8);
-    for (what, which) in kinds {
-        let wishes = some_wishes(which);
+    for (what, among, channel) in kinds {
+        let wishes = some_wishes(among, channel);
         let replies: Vec<Vec<u8>> = wishes.iter().map(|fields| answer(*fields, &mut random)).collect();
         reply(what, &wishes, &replies, rounds);
     }
-    let wishes = some_wishes(None);
+    let wishes = some_wishes(Among::Old, CHANNEL_1);
     reply("NAK to any wish", &wishes, &vec![message::NAK.to_vec(); CALLS], rounds);
     reply("no reply to any wish", &wishes, &vec![vec![0; LONGEST_REPLY]; CALLS], rounds);
-    let old = heads(head::VERSION_1, rounds);
-    heads(head::VERSION_2, rounds);
+    let old = heads("version 1", head::VERSION_1, 0, rounds);
+    heads("version 2", head::VERSION_2, 0, rounds);
+    heads("version 1, two channels", head::VERSION_1, head::TWO_CHANNELS, rounds);
     moved(&old, rounds);
 }

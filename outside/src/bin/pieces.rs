@@ -7,8 +7,9 @@
 
 use std::hint::black_box;
 
-use outside::boundary::{Library, Plain, STATION_BYTES};
-use outside::talk::{frequencies, MESSAGE, MESSAGES};
+use outside::boundary::{Library, Plain, SETUP_AT, STATION_BYTES};
+use outside::item::{SETUP_DUAL, SETUP_SINGLE};
+use outside::talk::{frequencies, frequencies_of_both, Talk, MESSAGE, MESSAGES};
 use outside::timing::{best, head, row, runners, Rooms};
 
 #[cfg(not(proved))] // a name for what is then not called
@@ -34,14 +35,16 @@ mod peer {
 
 /// The same talk in pieces of one size, each handed over by a call of its own with the box in bytes, as a program that
 /// reads from a socket has to. Both peers keep the box in the same bytes between the calls.
-fn feed_pieces(what: &str, size: usize, rounds: usize) {
-    let talk = frequencies();
+fn feed_pieces(what: &str, talk: &Talk, setup: u8, size: usize, rounds: usize) {
     let (mut rooms, mut states) = (Rooms::new(talk.room()), Rooms::new(STATION_BYTES));
     let host = &talk.host[..];
+    let mut fresh = [0; STATION_BYTES];
+    Plain.fresh(b"MT123456", &mut fresh);
+    fresh[SETUP_AT] = setup;
     let mut runners = runners(
-        || by_pieces(host, size, &mut states.proved, &mut rooms.proved, |s, h, r| Proved.feed(s, h, r)),
-        || by_pieces(host, size, &mut states.rust, &mut rooms.rust, |s, h, r| Plain.feed(s, h, r)),
-        || by_pieces(host, size, &mut states.c, &mut rooms.c, c_feed),
+        || by_pieces(host, size, &fresh, &mut states.proved, &mut rooms.proved, |s, h, r| Proved.feed(s, h, r)),
+        || by_pieces(host, size, &fresh, &mut states.rust, &mut rooms.rust, |s, h, r| Plain.feed(s, h, r)),
+        || by_pieces(host, size, &fresh, &mut states.c, &mut rooms.c, c_feed),
     );
     let found = best(&mut runners, MESSAGES as f64, rounds);
     drop(runners);
@@ -54,12 +57,13 @@ fn feed_pieces(what: &str, size: usize, rounds: usize) {
 fn by_pieces(
     host: &[u8],
     size: usize,
+    fresh: &[u8],
     state: &mut [u8],
     replies: &mut [u8],
     feed: impl Fn(&mut [u8], &[u8], &mut [u8]) -> (u8, usize, usize),
 ) -> u64 {
     let (state, replies, size) = (black_box(state), black_box(replies), black_box(size));
-    Plain.fresh(b"MT123456", state);
+    state.copy_from_slice(fresh);
     let mut at = 0;
     for mut piece in host.chunks(size) {
         while !piece.is_empty() {
@@ -99,7 +103,13 @@ fn main() {
     let quick = std::env::args().any(|word| word == "--quick");
     let rounds = if quick { 50 } else { 1000 };
     head("message, over the boundary");
-    feed_pieces("feed, a message whole", MESSAGE, rounds);
-    feed_pieces("feed, in two pieces", MESSAGE / 2, rounds);
-    feed_pieces("feed, byte by byte", 1, rounds);
+    for (more, talk, setup) in
+        [("", frequencies(), SETUP_SINGLE), (", for both channels", frequencies_of_both(), SETUP_DUAL)]
+    {
+        for (what, size) in
+            [("feed, a message whole", MESSAGE), ("feed, in two pieces", MESSAGE / 2), ("feed, byte by byte", 1)]
+        {
+            feed_pieces(&format!("{what}{more}"), &talk, setup, size, rounds);
+        }
+    }
 }

@@ -8,11 +8,12 @@ use borrow.Author.Tests.{not-true, not-false}
 use borrow.Author.Needs.{needs}
 use Rattle.packets.specs.declared.Form.{Form}
 use Rattle.packets.specs.Forms.{wholeOf, sameForm}
+use Rattle.packets.specs.Channels.{isCount}
 use Rattle.packets.specs.Numbers.{numberIn, numberAt, stepOf}
 use Rattle.packets.proofs.Missed.{step-from, steps-give-within}
 use Rattle.reader.specs.declared.Reader.{Reader}
 use Rattle.reader.specs.Reading.{sound, heardAt}
-use Rattle.reader.proofs.Reading.{pairs-few, heard-within, broken, no-slice, first, unbegun, changed, past, next}
+use Rattle.reader.proofs.Reading.{pairs-few, sound-count, heard-within, broken, no-slice, first, unbegun, changed, past, next}
 use Rattle.reader.proofs.read.Statement.{statement}
 use Rattle.reader.proofs.read.Tie as tie
 
@@ -24,6 +25,9 @@ start c = c .before .before .before
 
 fine : (c : tie.Else1) → sound (start c .args .r) ≡ true
 fine c = sym (c .before .is-sound .ensures) ∙ not-false _ (c .if1 .left)
+
+told : (c : tie.Else1) → isCount (start c .args .r .channels) ≡ true
+told c = sound-count (start c .args .r) (fine c)
 
 -- the slice is a packet
 abbrev sound-at : tie.Else2 → tie.Else1
@@ -125,7 +129,9 @@ number-in-requires : tie.Need-number-in-requires
 number-in-requires c κs = search needs
 
 heard-at-requires : tie.Need-heard-at-requires
-heard-at-requires c κs = (omega arith, few (c .before .before))
+heard-at-requires c κs =
+    let p = c .before .before in
+    (told (sound-at p), omega arith, few p)
 
 returns-3 : tie.Need-returns-3
 returns-3 c =
@@ -133,7 +139,7 @@ returns-3 c =
     let p = n .before in
     let w = p .before .before in
     c .heard-at .ensures
-    ∙ ap (heardAt 0 0 0) (w .whole .ensures)
+    ∙ ap (heardAt (start (sound-at p) .args .r .channels) 0 0 0) (w .whole .ensures)
     ∙ first _ _ (fine (sound-at p)) (some p) (sym (n .number-in .ensures) ∙ c .before .if3 .taken)
 
 refused-requires-3 : tie.Need-refused-requires-3
@@ -192,7 +198,9 @@ add-heard-at c =
     omega (arith, further t .1, few-missed h, heard-within (given h) (fine (sound-at (packet-at (later-at h)))) (begun h) .0)
 
 heard-at-requires-2 : tie.Need-heard-at-requires-2
-heard-at-requires-2 c κs = (omega arith, few (packet-at (later-at (place (c .before .before .before .before)))))
+heard-at-requires-2 c κs =
+    let p = packet-at (later-at (place (c .before .before .before .before))) in
+    (told (sound-at p), omega arith, few p)
 
 returns-7 : tie.Need-returns-7
 returns-7 c =
@@ -203,7 +211,7 @@ returns-7 c =
     let p = packet-at n in
     let w = p .before .before in
     c .heard-at2 .ensures
-    ∙ ap (heardAt (t .position-after .result) _ _) (w .whole .ensures)
+    ∙ ap (heardAt (given h .channels) (t .position-after .result) _ _) (w .whole .ensures)
     ∙ next _ _ (fine (sound-at p)) (some p) (later n) (begun h) (same e) _ (leads t) (omega arith) _ refl
 
 pub read-spec : {M : Type 1} → statement M

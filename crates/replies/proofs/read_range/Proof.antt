@@ -3,6 +3,7 @@ use Prim.Native.Nat.{ℕ}
 use mathlib.Core.Path.{_≡_, refl, _∙_}
 use mathlib.Core.List.{List}
 use borrow.Author.Needs.{needs}
+use Rattle.wishes.specs.declared.Wish.{Wish}
 use Rattle.wishes.specs.declared.Wish.the-variants.{AskFrequencyRange}
 use Rattle.replies.specs.Reading.{isReply}
 use Rattle.replies.proofs.Recognised.{range-written, range-read}
@@ -16,10 +17,15 @@ start c = c .before .before .before .before .before .before
 abbrev came : tie.After-same → List ℕ
 came c = start c .args .bytes .now
 
-whole : (c : tie.After-same) → isReply AskFrequencyRange (came c) ≡ c .same .result
+abbrev wish : tie.After-same → Wish
+wish c = AskFrequencyRange (start c .args .channel)
+
+whole : (c : tie.After-same) → isReply (wish c) (came c) ≡ c .same .result
 whole c =
+    let channel = start c .args .channel in
     let put = c .before .before .before .put-range-reply in
-    range-read _ _ (c .same .result) (range-written _ _ (put .ensures .0) (put .ensures .1)) (c .same .ensures .0) (c .same .ensures .1)
+    let written = range-written channel _ _ (put .ensures .0) (put .ensures .1) in
+    range-read channel _ _ (c .same .result) written (c .same .ensures .0) (c .same .ensures .1)
 
 slice-aggregate-put-range-reply : tie.Need-slice-aggregate-put-range-reply
 slice-aggregate-put-range-reply c = search needs
@@ -38,10 +44,13 @@ same-requires c κs = search needs
 
 returns : tie.Need-returns
 returns c =
-    read-reply AskFrequencyRange (came (c .before)) refl (start (c .before) .pre) _ (whole (c .before) ∙ c .if1 .taken) refl
+    let p = start (c .before) .pre in
+    read-reply (wish (c .before)) (came (c .before)) (p .0) refl (p .1) _ (whole (c .before) ∙ c .if1 .taken) refl
 
 returns-2 : tie.Need-returns-2
-returns-2 c = read-none AskFrequencyRange (came (c .before)) refl (start (c .before) .pre) (whole (c .before) ∙ c .if1 .left)
+returns-2 c =
+    let p = start (c .before) .pre in
+    read-none (wish (c .before)) (came (c .before)) (p .0) refl (p .1) (whole (c .before) ∙ c .if1 .left)
 
 pub read-range-spec : {M : Type 1} → statement M
 read-range-spec =

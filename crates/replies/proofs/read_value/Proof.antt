@@ -47,36 +47,36 @@ given : (c : tie.Else1) → same (came (number c)) (replyBytes (wish (number c))
 given c = sym (tested (c .before)) ∙ not-false (c .before .gives .result) (c .if1 .left)
 
 word : (c : tie.Else1) → numberIn (wish (number c)) (came (number c)) ≡ eight (number c)
-word c = let n = number c in word-in (wish n) (came n) (start n .pre .1) (given c) (small n)
+word c = let n = number c in word-in (wish n) (came n) (start n .pre .2) (given c) (small n)
 
 fitting : (c : tie.Else1) → number c .number-in .result < 256 ^ awaited (wish (number c)) .width
 fitting c =
     let n = number c in
-    let fits = word-fits (wish n) (came n) (start n .pre .1) (given c) (small n) in
+    let fits = word-fits (wish n) (came n) (start n .pre .2) (given c) (small n) in
     subst (λ (v : ℕ). v < 256 ^ awaited (wish n) .width) (sym (n .number-in .ensures)) fits
 
 -- the bytes are a reply where the box could say so
 could : (c : tie.After-could-say) → isReply (wish (number (c .before))) (came (number (c .before))) ≡ c .could-say .result
 could c =
     let n = number (c .before) in
-    given-could (wish n) (came n) (start n .pre .1) (c .could-say .result) (given (c .before)) (word (c .before))
+    given-could (wish n) (came n) (start n .pre .2) (c .could-say .result) (given (c .before)) (word (c .before))
     (sym (c .could-say .ensures ∙ ap (awaited (wish n) .could) (n .number-in .ensures)))
 
 number-in-requires : tie.Need-number-in-requires
 number-in-requires c κs = search needs
 
 gives-requires : tie.Need-gives-requires
-gives-requires c κs = start c .pre .1
+gives-requires c κs = start c .pre .2
 
 returns : tie.Need-returns
 returns c =
     let n = c .before .before in
     let a = start n in
     let other = sym (tested (c .before)) ∙ not-true (c .before .gives .result) (c .if1 .taken) in
-    read-none (wish n) (came n) (a .pre .0) (a .pre .2) (not-given (wish n) (came n) (a .pre .1) (a .pre .0) other)
+    read-none (wish n) (came n) (a .pre .0) (a .pre .1) (a .pre .3) (not-given (wish n) (came n) (a .pre .2) (a .pre .1) other)
 
 could-say-requires : tie.Need-could-say-requires
-could-say-requires c κs = let a = start (number c) in (a .pre .0, a .pre .1, fitting c)
+could-say-requires c κs = let a = start (number c) in (a .pre .1, a .pre .2, fitting c)
 
 says-requires : tie.Need-says-requires
 says-requires c κs = fitting (c .before .before)
@@ -87,12 +87,12 @@ returns-2 c =
     let n = number e in
     let is = could (c .before .before) ∙ c .before .if2 .taken in
     ap replySays (c .says .ensures)
-    ∙ read-reply (wish n) (came n) (start n .pre .0) (start n .pre .2) _ is (word e ∙ sym (n .number-in .ensures))
+    ∙ read-reply (wish n) (came n) (start n .pre .0) (start n .pre .1) (start n .pre .3) _ is (word e ∙ sym (n .number-in .ensures))
 
 returns-3 : tie.Need-returns-3
 returns-3 c =
     let n = number (c .before .before) in
-    read-none (wish n) (came n) (start n .pre .0) (start n .pre .2) (could (c .before) ∙ c .if2 .left)
+    read-none (wish n) (came n) (start n .pre .0) (start n .pre .1) (start n .pre .3) (could (c .before) ∙ c .if2 .left)
 
 pub read-value-spec : {M : Type 1} → statement M
 read-value-spec =

@@ -12,28 +12,28 @@ use Rattle.wire.proofs.Stores.{part-sets, rest-long}
 use Rattle.station.specs.declared.Station.{Station}
 use Rattle.cutting.specs.declared.Cut.{Cut}
 use Rattle.cutting.specs.Cutting.{Cutting, cuttingOf}
-use Rattle.runs.specs.Cutting.{ran}
+use Rattle.runs.specs.Cutting.{started, ran}
 use Rattle.runs.proofs.Turns.{one-more}
 use Rattle.runs.proofs.Cuts.{none-cut, Under, no-samples, no-bytes, begins, over, refused, turns}
 use Rattle.runs.proofs.skvornela_cut_run.Statement.{statement}
 use Rattle.runs.proofs.skvornela_cut_run.Tie as tie
 
 abbrev Inv-loop : tie.InvT-loop
-Inv-loop mode size n total samples out₀ s₀ left₀ count₀ i₀ at₀ out s left count i at =
-    Under mode size n total samples out₀ out s left count i at
+Inv-loop mode size setup n total samples out₀ s₀ left₀ count₀ i₀ at₀ out s left count i at =
+    Under (started mode size setup) n total samples out₀ out s left count i at
 
 abbrev μ-loop : tie.MeasureT-loop
-μ-loop mode size n total samples out₀ s₀ left₀ count₀ i₀ at₀ out s left count i at = left
+μ-loop mode size setup n total samples out₀ s₀ left₀ count₀ i₀ at₀ out s left count i at = left
 
 -- the call's arguments, from the loop
 abbrev from : tie.At-loop Inv-loop μ-loop → tie.Start Inv-loop μ-loop
 from l = l .before .before .before .before .before .before
 
 returns : tie.Need-returns Inv-loop μ-loop
-returns c = no-samples _ _ _ _ _ _ (c .if1 .taken)
+returns c = no-samples _ _ _ _ _ (c .if1 .taken)
 
 returns-2 : tie.Need-returns-2 Inv-loop μ-loop
-returns-2 c = no-bytes _ _ _ _ _ _ (c .before .if1 .left) (c .if2 .taken)
+returns-2 c = no-bytes _ _ _ _ _ (c .before .if1 .left) (c .if2 .taken)
 
 started-requires : tie.Need-started-requires Inv-loop μ-loop
 started-requires c κs = search needs
@@ -114,7 +114,8 @@ calling c = cuttingOf (box c) (nexts c) (room c)
 going : (c : tie.After-cut-packet Inv-loop μ-loop)
     → (let a = start c .args in
     let l = turn c .loop in
-    Under (a .mode) (a .size) (a .n) (a .total) (a .samples .now) (a .out .now) (out c) (box c) (l .left) (l .count) (l .i) (place c))
+    Under (started (a .mode) (a .size) (a .setup)) (a .n) (a .total) (a .samples .now) (a .out .now) (out c) (box c)
+    (l .left) (l .count) (l .i) (place c))
 going c = turn c .loop .inv
 
 next : (c : tie.After-cut-packet Inv-loop μ-loop) → turn c .loop .i + start c .args .n - turn c .loop .i ≡ start c .args .n

@@ -13,11 +13,11 @@ use Rattle.runs.proofs.skvornela_read_run.Statement.{statement}
 use Rattle.runs.proofs.skvornela_read_run.Tie as tie
 
 abbrev Inv-loop : tie.InvT-loop
-Inv-loop packets each total₀ r₀ sample₀ lost₀ at₀ left₀ total r sample lost at left =
-    (at + left * each ≤ length packets) × (heardRun left each r (runRead sample lost) (drop at packets) ≡ readRun each packets)
+Inv-loop channels packets each total₀ r₀ sample₀ lost₀ at₀ left₀ total r sample lost at left =
+    (at + left * each ≤ length packets) × (heardRun left each r (runRead sample lost) (drop at packets) ≡ readRun channels each packets)
 
 abbrev μ-loop : tie.MeasureT-loop
-μ-loop packets each total₀ r₀ sample₀ lost₀ at₀ left₀ total r sample lost at left = left
+μ-loop channels packets each total₀ r₀ sample₀ lost₀ at₀ left₀ total r sample lost at left = left
 
 -- the call's arguments, from the loop
 abbrev from : tie.At-loop Inv-loop μ-loop → tie.Start Inv-loop μ-loop

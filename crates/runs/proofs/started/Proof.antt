@@ -1,4 +1,4 @@
--- The settings are those of a fresh box, but that it runs, with the mode and the size.
+-- The settings are those of a fresh box, but that it runs, with the mode, the size and the channel setup.
 use borrow.Author.Needs.{needs}
 use Rattle.runs.proofs.started.Statement.{statement}
 use Rattle.runs.proofs.started.Tie as tie

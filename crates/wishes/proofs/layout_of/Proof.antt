@@ -55,6 +55,9 @@ request-requires-6 c κs = search needs
 enum-known-w-3 : tie.Need-enum-known-w-3
 enum-known-w-3 c = search needs
 
+cast-setting : tie.Need-cast-setting
+cast-setting c = search needs
+
 setting-requires-2 : tie.Need-setting-requires-2
 setting-requires-2 c κs = search needs
 
@@ -64,29 +67,26 @@ enum-told-6 c = search needs
 request-requires-7 : tie.Need-request-requires-7
 request-requires-7 c κs = search needs
 
-enum-told-7 : tie.Need-enum-told-7
-enum-told-7 c = search needs
-
 enum-known-w-4 : tie.Need-enum-known-w-4
 enum-known-w-4 c = search needs
-
-gain-byte-requires : tie.Need-gain-byte-requires
-gain-byte-requires c κs = search needs
-
-cast-setting : tie.Need-cast-setting
-cast-setting c = search needs
 
 setting-requires-3 : tie.Need-setting-requires-3
 setting-requires-3 c κs = search needs
 
-enum-told-8 : tie.Need-enum-told-8
-enum-told-8 c = search needs
+enum-known-w-5 : tie.Need-enum-known-w-5
+enum-known-w-5 c = search needs
 
 request-requires-8 : tie.Need-request-requires-8
 request-requires-8 c κs = search needs
 
-enum-known-w-5 : tie.Need-enum-known-w-5
-enum-known-w-5 c = search needs
+enum-known-w-6 : tie.Need-enum-known-w-6
+enum-known-w-6 c = search needs
+
+enum-known-w-7 : tie.Need-enum-known-w-7
+enum-known-w-7 c = search needs
+
+gain-byte-requires : tie.Need-gain-byte-requires
+gain-byte-requires c κs = search needs
 
 cast-setting-2 : tie.Need-cast-setting-2
 cast-setting-2 c = search needs
@@ -94,14 +94,14 @@ cast-setting-2 c = search needs
 setting-requires-4 : tie.Need-setting-requires-4
 setting-requires-4 c κs = search needs
 
-enum-told-9 : tie.Need-enum-told-9
-enum-told-9 c = search needs
+enum-known-w-8 : tie.Need-enum-known-w-8
+enum-known-w-8 c = search needs
 
 request-requires-9 : tie.Need-request-requires-9
 request-requires-9 c κs = search needs
 
-enum-known-w-6 : tie.Need-enum-known-w-6
-enum-known-w-6 c = search needs
+enum-known-w-9 : tie.Need-enum-known-w-9
+enum-known-w-9 c = search needs
 
 cast-setting-3 : tie.Need-cast-setting-3
 cast-setting-3 c = search needs
@@ -109,14 +109,14 @@ cast-setting-3 c = search needs
 setting-requires-5 : tie.Need-setting-requires-5
 setting-requires-5 c κs = search needs
 
-enum-told-10 : tie.Need-enum-told-10
-enum-told-10 c = search needs
+enum-known-w-10 : tie.Need-enum-known-w-10
+enum-known-w-10 c = search needs
 
 request-requires-10 : tie.Need-request-requires-10
 request-requires-10 c κs = search needs
 
-enum-known-w-7 : tie.Need-enum-known-w-7
-enum-known-w-7 c = search needs
+enum-known-w-11 : tie.Need-enum-known-w-11
+enum-known-w-11 c = search needs
 
 cast-setting-4 : tie.Need-cast-setting-4
 cast-setting-4 c = search needs
@@ -124,11 +124,26 @@ cast-setting-4 c = search needs
 setting-requires-6 : tie.Need-setting-requires-6
 setting-requires-6 c κs = search needs
 
-enum-told-11 : tie.Need-enum-told-11
-enum-told-11 c = search needs
+enum-known-w-12 : tie.Need-enum-known-w-12
+enum-known-w-12 c = search needs
 
 request-requires-11 : tie.Need-request-requires-11
 request-requires-11 c κs = search needs
+
+enum-known-w-13 : tie.Need-enum-known-w-13
+enum-known-w-13 c = search needs
+
+cast-setting-5 : tie.Need-cast-setting-5
+cast-setting-5 c = search needs
+
+setting-requires-7 : tie.Need-setting-requires-7
+setting-requires-7 c κs = search needs
+
+enum-told-7 : tie.Need-enum-told-7
+enum-told-7 c = search needs
+
+request-requires-12 : tie.Need-request-requires-12
+request-requires-12 c κs = search needs
 
 returns : tie.Need-returns
 returns c = rw (c .before .enum-told .given .1) (c .request .ensures)
@@ -158,34 +173,40 @@ returns-9 : tie.Need-returns-9
 returns-9 c = rw (c .before .enum-told6 .given .1) (c .request7 .ensures)
 
 returns-10 : tie.Need-returns-10
-returns-10 c = rw (c .enum-told7 .given .1) refl
+returns-10 c = rw (c .before .before .w4 .given .1) (c .setting3 .ensures)
 
 returns-11 : tie.Need-returns-11
-returns-11 c =
-    let g = c .before .before .before .w4 .given .0 .0 in
-    let same : toZ w8 (ofZ w8 g) ≡ g = search needs in
-    rw (c .before .before .before .w4 .given .1, ← (c .before .gain-byte .ensures ∙ ap (coded 8) same)) (c .setting3 .ensures)
+returns-11 c = rw (c .before .before .w5 .given .1) (c .request8 .ensures)
 
 returns-12 : tie.Need-returns-12
-returns-12 c = rw (c .before .enum-told8 .given .1) (c .request8 .ensures)
+returns-12 c = rw (c .before .w6 .given .1) refl
 
 returns-13 : tie.Need-returns-13
-returns-13 c = rw (c .before .before .w5 .given .1) (c .setting4 .ensures)
+returns-13 c =
+    let g = c .before .before .before .w7 .given .0 .1 .0 in
+    let same : toZ w8 (ofZ w8 g) ≡ g = search needs in
+    rw (c .before .before .before .w7 .given .1, ← (c .before .gain-byte .ensures ∙ ap (coded 8) same)) (c .setting4 .ensures)
 
 returns-14 : tie.Need-returns-14
-returns-14 c = rw (c .before .enum-told9 .given .1) (c .request9 .ensures)
+returns-14 c = rw (c .before .before .w8 .given .1) (c .request9 .ensures)
 
 returns-15 : tie.Need-returns-15
-returns-15 c = rw (c .before .before .w6 .given .1) (c .setting5 .ensures)
+returns-15 c = rw (c .before .before .w9 .given .1) (c .setting5 .ensures)
 
 returns-16 : tie.Need-returns-16
-returns-16 c = rw (c .before .enum-told10 .given .1) (c .request10 .ensures)
+returns-16 c = rw (c .before .before .w10 .given .1) (c .request10 .ensures)
 
 returns-17 : tie.Need-returns-17
-returns-17 c = rw (c .before .before .w7 .given .1) (c .setting6 .ensures)
+returns-17 c = rw (c .before .before .w11 .given .1) (c .setting6 .ensures)
 
 returns-18 : tie.Need-returns-18
-returns-18 c = rw (c .before .enum-told11 .given .1) (c .request11 .ensures)
+returns-18 c = rw (c .before .before .w12 .given .1) (c .request11 .ensures)
+
+returns-19 : tie.Need-returns-19
+returns-19 c = rw (c .before .before .w13 .given .1) (c .setting7 .ensures)
+
+returns-20 : tie.Need-returns-20
+returns-20 c = rw (c .before .enum-told7 .given .1) (c .request12 .ensures)
 
 pub layout-of-spec : {M : Type 1} → statement M
 layout-of-spec =
@@ -207,31 +228,36 @@ layout-of-spec =
     enum-told-5
     request-requires-6
     enum-known-w-3
+    cast-setting
     setting-requires-2
     enum-told-6
     request-requires-7
-    enum-told-7
     enum-known-w-4
-    gain-byte-requires
-    cast-setting
     setting-requires-3
-    enum-told-8
-    request-requires-8
     enum-known-w-5
+    request-requires-8
+    enum-known-w-6
+    enum-known-w-7
+    gain-byte-requires
     cast-setting-2
     setting-requires-4
-    enum-told-9
+    enum-known-w-8
     request-requires-9
-    enum-known-w-6
+    enum-known-w-9
     cast-setting-3
     setting-requires-5
-    enum-told-10
+    enum-known-w-10
     request-requires-10
-    enum-known-w-7
+    enum-known-w-11
     cast-setting-4
     setting-requires-6
-    enum-told-11
+    enum-known-w-12
     request-requires-11
+    enum-known-w-13
+    cast-setting-5
+    setting-requires-7
+    enum-told-7
+    request-requires-12
     returns
     returns-2
     returns-3
@@ -249,4 +275,6 @@ layout-of-spec =
     returns-15
     returns-16
     returns-17
-    returns-18)
+    returns-18
+    returns-19
+    returns-20)

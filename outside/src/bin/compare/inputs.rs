@@ -1,10 +1,12 @@
 //! Inputs: values at every edge, messages, boxes, readers, packets, captures; sound ones and damaged ones.
 
-use outside::boundary::{reader_bytes, station_bytes, WishFields, READER_BYTES, STATION_BYTES};
-use outside::boundary::{ASK_VERSION, SET_CLOCK, SET_FREQUENCY, SET_GAIN, SET_RATE, SET_SIZE, SET_STATE};
+use outside::boundary::{reader_bytes, station_bytes, WishFields, HEARD_AT, READER_BYTES, RUNNING_AT, STATION_BYTES};
+use outside::boundary::{
+    ASK_VERSION, SET_CLOCK, SET_FREQUENCY, SET_GAIN, SET_RATE, SET_SETUP, SET_SIZE, SET_STATE, WISHES,
+};
 use outside::packet::number_at;
 use outside::random::Random;
-use outside::station::Settings;
+use outside::station::{Channel, Settings};
 use outside::{head, rate, Form, Head, Reader, Station};
 
 pub const FREQUENCIES: [u64; 14] = [
@@ -60,7 +62,13 @@ pub const VERSIONS: [u32; 14] = [0, 1, 2, 3, 255, 256, 257, 258, 512, 513, 65_53
 /// Bytes at the edges of what a serial has.
 pub const SERIAL_BYTES: [u8; 12] = *b"\0\x01/09:@AZ[a\xFF";
 pub const GAINS: [u8; 8] = [0x00, 0xF6, 0xEC, 0xE2, 0x01, 0xF0, 0x80, 0xFF];
-pub const ITEMS: [u16; 11] = [0x01, 0x02, 0x03, 0x04, 0x05, 0x18, 0x20, 0x38, 0xB0, 0xB8, 0xC4];
+/// Channel bytes: those that some box allows, and those beside them.
+pub const CHANNELS: [u8; 8] = [0x00, 0x01, 0x02, 0x03, 0x7F, 0x80, 0xFE, 0xFF];
+/// Counts of channels: both that a reader can be told, and others.
+pub const COUNTS: [u8; 6] = [0, 1, 2, 3, 4, 255];
+/// Channel setups: both, those that document 003 has besides, and others.
+pub const SETUPS: [u8; 11] = [0, 1, 2, 3, 4, 5, 6, 7, 8, 0x80, 0xFF];
+pub const ITEMS: [u16; 12] = [0x01, 0x02, 0x03, 0x04, 0x05, 0x18, 0x19, 0x20, 0x38, 0xB0, 0xB8, 0xC4];
 
 pub fn frequency(r: &mut Random) -> u64 {
     match r.below(4) {
@@ -100,22 +108,36 @@ pub fn mode(r: &mut Random) -> u8 {
     if r.once_in(6) {
         r.byte()
     } else {
-        r.of(&[0x80, 0x00, 0x80, 0x00, 0x01, 0x83])
+        r.of(&[0x80, 0x00, 0x80, 0x00, 0x80, 0x00, 0x01, 0x83, 0x40, 0xC0])
     }
 }
 
-fn channel(r: &mut Random) -> u8 {
+pub fn channel(r: &mut Random) -> u8 {
     if r.once_in(6) {
         r.byte()
     } else {
-        r.of(&[0, 0, 0, 0xFF, 0xFF, 2])
+        r.of(&[0, 0, 2, 2, 0xFF, 0xFF, 1, 3])
+    }
+}
+
+/// One of the two that are allowed.
+pub fn setup(r: &mut Random) -> u8 {
+    r.of(&[0, 4])
+}
+
+/// A count of channels, most often one of the two that a reader can be told.
+pub fn count(r: &mut Random) -> u8 {
+    match r.below(20) {
+        0 => r.of(&COUNTS),
+        1 => r.byte(),
+        _ => r.of(&[1, 2]),
     }
 }
 
 /// A control message, most often of the right length for its item and kind.
 fn control(r: &mut Random) -> Vec<u8> {
     let item = match r.below(12) {
-        0 => r.of(&[0x00, 0x06, 0x09, 0x19, 0x21, 0x44, 0xC5, 0x0120, 0x1800]),
+        0 => r.of(&[0x00, 0x06, 0x09, 0x17, 0x1A, 0x21, 0x44, 0xC5, 0x0119, 0x0120, 0x1800, 0x1900]),
         1 => r.any() as u16,
         _ => r.of(&ITEMS),
     };
@@ -123,6 +145,7 @@ fn control(r: &mut Random) -> Vec<u8> {
     let mut parameters = if kind == 0 {
         match item {
             0x18 => vec![r.of(&[0x80, 0x80, 0x80, 0x00, 0x81]), run_byte(r), mode(r), r.byte()],
+            0x19 => vec![if r.once_in(4) { r.of(&SETUPS) } else { setup(r) }],
             0x20 => {
                 let mut p = vec![channel(r)];
                 p.extend(&frequency(r).to_le_bytes()[..5]);
@@ -255,7 +278,7 @@ pub fn words(r: &mut Random, frequency: u64, clock: u32) -> Vec<u32> {
 pub fn sound(r: &mut Random) -> Station {
     let mut station = Station::fresh(&serial(r)).0;
     let s: &mut Settings = &mut station.settings;
-    let frequency = tuned(r);
+    let frequencies = (tuned(r), tuned(r));
     s.count = match r.below(4) {
         0 => r.of(&[0, 1, 65_534, 65_535, 65_536, 131_070, 131_071, 3_999_999_999, 4_000_000_000]),
         _ => r.below(4_000_000_001),
@@ -264,9 +287,12 @@ pub fn sound(r: &mut Random) -> Station {
     s.divisor = if r.once_in(4) { r.of(&[10, 11, 624, 625]) } else { r.within(10, 625) as u32 };
     s.running = r.once_in(2);
     s.mode = r.of(&[0x80, 0x00]);
-    s.first.gain = r.of(&[0, -10, -20, -30]);
     s.size = r.of(&[0, 1]);
-    s.first.tune(frequency, s.clock);
+    s.setup = setup(r);
+    s.first.gain = r.of(&[0, -10, -20, -30]);
+    s.second.gain = r.of(&[0, -10, -20, -30]);
+    s.first.tune(frequencies.0, s.clock);
+    s.second.tune(frequencies.1, s.clock);
     station
 }
 
@@ -277,18 +303,27 @@ pub fn interrupt(r: &mut Random, station: &mut Station) {
     station.feed(&bytes[..taken], &mut [0; 64]);
 }
 
+/// One of a box's channels.
+fn either<'a>(r: &mut Random, settings: &'a mut Settings) -> &'a mut Channel {
+    if r.once_in(2) {
+        &mut settings.first
+    } else {
+        &mut settings.second
+    }
+}
+
 /// Puts one field of a box out of its range, or its unfinished message beyond what bytes could leave. With a frequency or a
 /// clock out of its range the word at times goes along.
 pub fn harm(r: &mut Random, station: &mut Station) {
     let s = &mut station.settings;
-    let part = r.below(13);
-    match part {
-        0 => s.first.frequency = r.of(&[0, 99_999, 34_000_001, 139_999_999, 150_000_001, u64::MAX]),
+    let clock = s.clock;
+    match r.below(14) {
+        0 => harm_frequency(r, s),
         1 => s.count = r.of(&[4_000_000_001, 1 << 32, u64::MAX]),
-        2 => s.clock = r.of(&[0, 79_991_999, 80_008_001, u32::MAX]),
+        2 => harm_clock(r, s),
         3 => s.divisor = r.of(&[0, 9, 626, u32::MAX]),
-        4 => s.mode = r.of(&[0x01, 0x7F, 0x81, 0xFF]),
-        5 => s.first.gain = r.of(&[1, -1, -11, -29, 127, -128]),
+        4 => s.mode = r.of(&[0x01, 0x40, 0x7F, 0x81, 0xC0, 0xFF]),
+        5 => either(r, s).gain = r.of(&[1, -1, -11, -29, 127, -128]),
         6 => s.size = r.of(&[2, 0xFF]),
         7 => s.serial[r.size(8)] = r.of(b"@[/:az\x00\xFF"),
         8 => station.held[r.size(64)] ^= 1 << r.below(8),
@@ -302,17 +337,33 @@ pub fn harm(r: &mut Random, station: &mut Station) {
             station.taken = bytes.len() + r.size(2);
         }
         11 => {
-            let words = words(r, s.first.frequency, s.clock);
-            s.first.word = r.of(&words);
+            let channel = either(r, s);
+            let words = words(r, channel.frequency, clock);
+            channel.word = r.of(&words);
         }
+        12 => s.setup = if r.once_in(2) { r.byte() } else { r.of(&SETUPS) },
         _ => {
             station.taken = r.size(70);
             r.fill(&mut station.held);
         }
     }
-    let s = &mut station.settings;
-    if (part == 0 || part == 2) && r.once_in(2) {
-        s.first.word = r.of(&words_by_rule(s.first.frequency, s.clock));
+}
+
+fn harm_frequency(r: &mut Random, settings: &mut Settings) {
+    let clock = settings.clock;
+    let channel = either(r, settings);
+    channel.frequency = r.of(&[0, 99_999, 34_000_001, 139_999_999, 150_000_001, u64::MAX]);
+    if r.once_in(2) {
+        channel.word = r.of(&words_by_rule(channel.frequency, clock));
+    }
+}
+
+fn harm_clock(r: &mut Random, settings: &mut Settings) {
+    settings.clock = r.of(&[0, 79_991_999, 80_008_001, u32::MAX]);
+    if r.once_in(2) {
+        for channel in [&mut settings.first, &mut settings.second] {
+            channel.word = r.of(&words_by_rule(channel.frequency, settings.clock));
+        }
     }
 }
 
@@ -331,7 +382,7 @@ pub fn station_state(r: &mut Random) -> Vec<u8> {
         1 => bytes.push(0),
         2 => r.fill(&mut bytes),
         // running: 0 is no, any other byte is yes
-        3 => bytes[29] = r.byte(),
+        3 => bytes[RUNNING_AT] = r.byte(),
         _ => {}
     }
     bytes
@@ -437,7 +488,7 @@ fn total(r: &mut Random, position: u64) -> u64 {
 
 /// A reader in bytes and a packet for it to read.
 pub fn reading(r: &mut Random) -> (Vec<u8>, Vec<u8>) {
-    let mut reader = Reader::default();
+    let mut reader = Reader::new(count(r));
     if !r.once_in(8) {
         reader.heard = true;
         reader.form = form(r);
@@ -472,29 +523,30 @@ pub fn reading(r: &mut Random) -> (Vec<u8>, Vec<u8>) {
     let of_packet = if reader.heard && !r.once_in(8) { reader.form } else { form(r) };
     if r.once_in(8) {
         let (position, most) = (reader.position, most_missed(reader.position));
-        match r.below(7) {
+        match r.below(8) {
             0 => reader.position = r.of(&[4_000_000_000, 4_000_000_001, u64::MAX]),
             1 => reader.form.bits = r.of(&[0, 8, 16, 24, 32]),
             2 => reader.form.pairs = r.of(&[0, 63, 64, 128, 240, 256, u64::MAX]),
             3 => reader.heard = !reader.heard,
-            4 => reader = Reader { heard: false, position: r.below(2), total: r.below(2), form: reader.form },
+            4 => reader = Reader { heard: false, position: r.below(2), total: r.below(2), ..reader },
             5 => reader.total = r.of(&[most + 1, most + 2, position, position + 1, 4_000_000_000, u64::MAX]),
-            _ => reader = Reader { heard: true, ..Reader::default() },
+            6 => reader = Reader { heard: true, ..Reader::new(reader.channels) },
+            _ => reader.channels = if r.once_in(2) { r.byte() } else { r.of(&COUNTS) },
         }
     }
     let mut bytes = reader_bytes(&reader).to_vec();
     match r.below(200) {
         0 => bytes.truncate(r.size(READER_BYTES)),
         1 => bytes.push(0),
-        2 => bytes[READER_BYTES - 1] = r.byte(),
+        2 => bytes[HEARD_AT] = r.byte(),
         _ => {}
     }
     (bytes, packet(r, of_packet, number))
 }
 
-/// A wish as number and value.
-pub fn wish_numbers(r: &mut Random) -> (u64, u64) {
-    let which = if r.once_in(50) { r.of(&[18, 19, u64::MAX]) } else { r.below(18) };
+/// A wish as number, channel byte and value.
+pub fn wish_numbers(r: &mut Random) -> (u64, u8, u64) {
+    let which = if r.once_in(50) { r.of(&[WISHES, WISHES + 1, u64::MAX]) } else { r.below(WISHES) };
     let value = match which {
         ASK_VERSION => r.of(&[0, 1, 2, 3, 3, 4, 0xFF, 0x100]),
         SET_STATE => u64::from(run_byte(r)) + 256 * u64::from(mode(r)) + if r.once_in(40) { 1 << 16 } else { 0 },
@@ -508,23 +560,26 @@ pub fn wish_numbers(r: &mut Random) -> (u64, u64) {
         },
         SET_CLOCK => clock(r) + if r.once_in(40) { 1 << 32 } else { 0 },
         SET_RATE => sample_rate(r) + if r.once_in(40) { 1 << 32 } else { 0 },
+        SET_SETUP => r.of(&[0, 4, 0, 4, 1, 2, 3, 5, 6, 0xFF, 0x100, 0x104]),
         SET_SIZE => r.of(&[0, 1, 0, 1, 2, 0xFF, 0x100, 0x101]),
         _ => r.below(3),
     };
-    (which, value)
+    (which, channel(r), value)
 }
 
 /// What a box answers to a wish, or something that is no answer to it.
-pub fn answer(r: &mut Random, which: u64, value: u64) -> Vec<u8> {
+pub fn answer(r: &mut Random, (which, channel, value): (u64, u8, u64)) -> Vec<u8> {
     let mut station = sound(r);
-    let wished = match WishFields::of(which, value).wish() {
-        // at times the answer belongs to another wish
-        Some(wished) if !r.once_in(12) => Some(wished),
-        _ => {
-            let (which, value) = wish_numbers(r);
-            WishFields::of(which, value).wish()
+    let fields = match r.below(12) {
+        // at times the answer belongs to another wish, or to the same for another channel
+        0 => {
+            let (which, channel, value) = wish_numbers(r);
+            WishFields::of(which, channel, value)
         }
+        1 => WishFields::of(which, self::channel(r), value),
+        _ => WishFields::of(which, channel, value),
     };
+    let wished = fields.wish();
     let mut message = [0; 16];
     let mut reply = [0; 64];
     let wrote = match wished.map(|w| w.write(&mut message)) {
@@ -563,7 +618,7 @@ pub fn head(r: &mut Random) -> Head {
         version: head::VERSION_1,
         divisor: s.divisor,
         frequency: s.first.frequency,
-        mode: s.mode,
+        mode: s.mode | if s.channels() == 2 { head::TWO_CHANNELS } else { 0 },
         size: s.size,
         serial: head::UNKNOWN,
         clock: head::USUAL_CLOCK,
@@ -581,7 +636,7 @@ pub fn harm_head(r: &mut Random, head: &mut Head) {
     match r.below(7) {
         0 => head.divisor = r.of(&[0, 9, 626, 65_535, 65_536 + 100, u32::MAX]),
         1 => head.frequency = frequency(r),
-        2 => head.mode = mode(r),
+        2 => head.mode = if r.once_in(2) { head.mode ^ 1 << r.below(8) } else { mode(r) },
         3 => head.size = r.byte(),
         4 => head.version = r.of(&VERSIONS),
         5 => head.serial[r.size(8)] = if r.once_in(4) { r.byte() } else { r.of(&SERIAL_BYTES) },

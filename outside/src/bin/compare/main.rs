@@ -11,13 +11,17 @@ use std::collections::{BTreeMap, BTreeSet};
 use std::fmt::Debug;
 use std::process::{exit, ExitCode};
 
-use outside::boundary::{reader_bytes, station_bytes, station_in, Library, Plain, WishFields};
-use outside::boundary::{ASK_RATE, ASK_VERSION, SET_CLOCK, SET_FREQUENCY, SET_GAIN, SET_RATE, SET_SIZE, SET_STATE};
-use outside::boundary::{READER_BYTES, STATION_BYTES};
+use outside::boundary::{reader_bytes, station_bytes, station_in, Library, Plain, WishFields, WISHES};
+use outside::boundary::{ASK_CLOCK, ASK_FREQUENCY, ASK_GAIN, ASK_RANGE, ASK_RATE, ASK_VERSION};
+use outside::boundary::{READER_BYTES, SETUP_AT, STATION_BYTES};
+use outside::boundary::{SET_CLOCK, SET_FREQUENCY, SET_GAIN, SET_RATE, SET_SETUP, SET_SIZE, SET_STATE};
 use outside::packet::number_at;
 use outside::random::Random;
 use outside::station::Channel;
 use outside::{head, rate, Form, Head, Reader, Station};
+
+/// A wish as number, channel byte and value.
+type Wished = (u64, u8, u64);
 
 /// After so many differences the rest would say nothing new.
 const MOST_SHOWN: u64 = 10;
@@ -70,10 +74,17 @@ impl Comparison<'_> {
         (done.0, done.1)
     }
 
-    fn word(&mut self, state: &[u8]) {
-        let done = self.plain.word(state);
-        let other = self.other.word(state);
-        self.note("word", done.0, done, other, || format!("state {state:02X?}"));
+    fn word(&mut self, state: &[u8], channel: u8) {
+        let done = self.plain.word(state, channel);
+        let other = self.other.word(state, channel);
+        self.note("word", done.0, done, other, || format!("state {state:02X?} channel {channel:02X}"));
+    }
+
+    /// The words of both channels, and of what is no channel.
+    fn words(&mut self, state: &[u8]) {
+        for channel in [0x00, 0x02, 0x01, 0xFF] {
+            self.word(state, channel);
+        }
     }
 
     fn cut(&mut self, state: &[u8], samples: &[i32], room: usize) -> Vec<u8> {
@@ -86,6 +97,13 @@ impl Comparison<'_> {
         });
         ours.truncate(done.1);
         ours
+    }
+
+    fn silent(&mut self, channels: u8, room: usize) {
+        let (mut ours, mut theirs) = (vec![0xEE; room], vec![0xEE; room]);
+        let code = self.plain.silent(channels, &mut ours);
+        let other = self.other.silent(channels, &mut theirs);
+        self.note("silent", code, (code, ours), (other, theirs), || format!("channels {channels} room {room}"));
     }
 
     fn read(&mut self, reader: &[u8], packet: &[u8]) -> Vec<u8> {
@@ -112,19 +130,23 @@ impl Comparison<'_> {
         self.note("unpack", done.0, (done, ours), (other, theirs), || format!("packet {packet:02X?} room {room}"));
     }
 
-    fn write_wish(&mut self, which: u64, value: u64, room: usize) {
+    fn write_wish(&mut self, (which, channel, value): Wished, room: usize) {
         let (mut ours, mut theirs) = (vec![0xEE; room], vec![0xEE; room]);
-        let fields = WishFields::of(which, value);
+        let fields = WishFields::of(which, channel, value);
         let done = self.plain.write_wish(fields, &mut ours);
         let other = self.other.write_wish(fields, &mut theirs);
-        self.note("wish", done.0, (done, ours), (other, theirs), || format!("wish {which} value {value} room {room}"));
+        self.note("wish", done.0, (done, ours), (other, theirs), || {
+            format!("wish {which} channel {channel:02X} value {value} room {room}")
+        });
     }
 
-    fn read_reply(&mut self, which: u64, value: u64, bytes: &[u8]) {
-        let fields = WishFields::of(which, value);
+    fn read_reply(&mut self, (which, channel, value): Wished, bytes: &[u8]) {
+        let fields = WishFields::of(which, channel, value);
         let done = self.plain.read_reply(fields, bytes);
         let other = self.other.read_reply(fields, bytes);
-        self.note("reply", done.0, done, other, || format!("wish {which} value {value} bytes {bytes:02X?}"));
+        self.note("reply", done.0, done, other, || {
+            format!("wish {which} channel {channel:02X} value {value} bytes {bytes:02X?}")
+        });
     }
 
     fn write_head(&mut self, head: Head, room: usize) {
@@ -168,12 +190,21 @@ impl Comparison<'_> {
         self.note("serve", 1, (done, ours), (other, theirs), || format!("host {host:02X?} room {room}"));
     }
 
-    fn read_run(&mut self, packets: &[u8], each: usize) {
-        let done = self.plain.read_run(packets, each);
-        let other = self.other.read_run(packets, each);
+    fn cut_run(&mut self, (mode, size, setup): (u8, u8, u8), samples: &[i32], room: usize) {
+        let (mut ours, mut theirs) = (vec![0xEE; room], vec![0xEE; room]);
+        let done = self.plain.cut_run(mode, size, setup, samples, &mut ours);
+        let other = self.other.cut_run(mode, size, setup, samples, &mut theirs);
+        self.note("cut run", 1, (done, ours), (other, theirs), || {
+            format!("mode {mode:02X} size {size} setup {setup} samples {samples:?} room {room}")
+        });
+    }
+
+    fn read_run(&mut self, channels: u8, packets: &[u8], each: usize) {
+        let done = self.plain.read_run(channels, packets, each);
+        let other = self.other.read_run(channels, packets, each);
         self.note("read run", 1, done, other, || {
             let starts = packets.chunks(each.max(1)).map(|packet| &packet[..packet.len().min(4)]);
-            format!("packets of {each} in {} {:02X?}", packets.len(), starts.collect::<Vec<_>>())
+            format!("channels {channels} packets of {each} in {} {:02X?}", packets.len(), starts.collect::<Vec<_>>())
         });
     }
 
@@ -225,7 +256,7 @@ fn random_feeding(c: &mut Comparison, r: &mut Random, times: u64) {
             at += consumed;
             stuck = if code >= 20 || consumed == 0 { stuck + 1 } else { 0 };
             if r.once_in(8) {
-                c.word(&states.0);
+                c.word(&states.0, inputs::channel(r));
             }
         }
     }
@@ -245,20 +276,23 @@ fn random_serving(c: &mut Comparison, r: &mut Random, times: u64) {
 fn random_words(c: &mut Comparison, r: &mut Random, times: u64) {
     for _ in 0..times {
         let state = inputs::station_state(r);
-        c.word(&state);
+        c.word(&state, inputs::channel(r));
     }
 }
 
-/// One box, tuned again and again: after each message both boxes hold the same word.
+/// One box, tuned again and again, with one channel open or with both: after each message both boxes hold the same words.
 fn random_tuning(c: &mut Comparison, r: &mut Random, times: u64) {
     let state = fresh_state();
     let mut states = (state.clone(), state);
     for _ in 0..times {
+        if r.once_in(4) {
+            c.feed(&mut states, &set_setup(inputs::setup(r)), 64);
+        }
         let frequency = if r.once_in(8) { inputs::frequency(r) } else { inputs::tuned(r) };
-        c.feed(&mut states, &set_frequency(0x00, frequency), 64);
+        c.feed(&mut states, &set_frequency(inputs::channel(r), frequency), 64);
         let clock = if r.once_in(8) { inputs::clock(r) } else { r.within(79_992_000, 80_008_000) };
-        c.feed(&mut states, &set_clock(0x00, clock), 64);
-        c.word(&states.0);
+        c.feed(&mut states, &set_clock(inputs::channel(r), clock), 64);
+        c.word(&states.0, inputs::channel(r));
     }
 }
 
@@ -266,9 +300,9 @@ fn random_tuning(c: &mut Comparison, r: &mut Random, times: u64) {
 fn random_cutting(c: &mut Comparison, r: &mut Random, times: u64) {
     for _ in 0..times {
         let state = inputs::cutting_state(r);
-        let form = match state.len() {
-            STATION_BYTES => station_in(&state).settings.form(),
-            _ => inputs::form(r),
+        let form = match state[..].try_into() {
+            Ok(state) => station_in(state).settings.form(),
+            Err(_) => inputs::form(r),
         };
         let samples = inputs::samples(r, form);
         let room = inputs::room(r, form.total());
@@ -294,13 +328,32 @@ fn random_reading(c: &mut Comparison, r: &mut Random, times: u64) {
     }
 }
 
+/// Some packets from a box of any mode, size and setup, with one sample too few at times, a bad one, or too little room.
+fn random_cut_runs(c: &mut Comparison, r: &mut Random, times: u64) {
+    for _ in 0..times {
+        let mode = if r.once_in(12) { inputs::mode(r) } else { r.of(&[0x80, 0x00]) };
+        let size = if r.once_in(12) { r.of(&[0, 1, 2, 0xFF]) } else { r.of(&[0, 1]) };
+        let setup = if r.once_in(12) { r.of(&inputs::SETUPS) } else { inputs::setup(r) };
+        let form = Form::of_settings(mode, size);
+        let count = r.size(4);
+        let mut samples: Vec<i32> = (0..count * form.samples()).map(|_| inputs::sample(r)).collect();
+        match r.below(8) {
+            0 => drop(samples.pop()),
+            1 if count > 0 => samples[r.size(count * form.samples())] = r.of(&[-8_388_609, 8_388_608]),
+            _ => {}
+        }
+        let room = inputs::room(r, count * form.total());
+        c.cut_run((mode, size, setup), &samples, room);
+    }
+}
+
 /// The packets of a capture, now and then cut by another length than theirs.
 fn random_runs(c: &mut Comparison, r: &mut Random, times: u64) {
     for _ in 0..times {
         let form = inputs::form(r);
         let packets = inputs::packets(r, form);
         let each = if r.once_in(12) { r.of(&[0, 1, 4, form.total() - 1, form.total() + 1]) } else { form.total() };
-        c.read_run(&packets, each);
+        c.read_run(inputs::count(r), &packets, each);
     }
 }
 
@@ -321,11 +374,11 @@ fn random_unpacking(c: &mut Comparison, r: &mut Random, times: u64) {
 
 fn random_wishes(c: &mut Comparison, r: &mut Random, times: u64) {
     for _ in 0..times {
-        let (which, value) = inputs::wish_numbers(r);
+        let wished = inputs::wish_numbers(r);
         let room = if r.once_in(3) { r.size(16) } else { 16 + r.size(4) };
-        c.write_wish(which, value, room);
-        let bytes = inputs::answer(r, which, value);
-        c.read_reply(which, value, &bytes);
+        c.write_wish(wished, room);
+        let bytes = inputs::answer(r, wished);
+        c.read_reply(wished, &bytes);
     }
 }
 
@@ -410,16 +463,37 @@ fn every_rate(c: &mut Comparison) {
     }
 }
 
-/// The settings of one byte: every gain with every channel, every state's run byte and mode, every size, every version.
+/// Boxes with either setup, idle and running, whose two channels have values of their own.
+fn some_boxes() -> Vec<Station> {
+    let mut boxes = Vec::new();
+    for setup in [0, 4] {
+        for running in [false, true] {
+            let mut station = Station::fresh(b"MT123456").0;
+            let settings = &mut station.settings;
+            settings.setup = setup;
+            settings.running = running;
+            settings.mode = if running { 0x00 } else { 0x80 };
+            settings.first.gain = -30;
+            settings.second.gain = -10;
+            settings.first.tune(145_000_000, settings.clock);
+            settings.second.tune(7_050_000, settings.clock);
+            boxes.push(station);
+        }
+    }
+    boxes
+}
+
+/// The settings of one byte: every gain with every channel, every state's run byte and mode, every setup, every size, every
+/// version; and the word of every channel.
 fn every_byte(c: &mut Comparison) {
-    let idle = fresh_state();
-    let mut running = idle.clone();
-    Plain.feed(&mut running, &[0x08, 0x00, 0x18, 0x00, 0x80, 0x02, 0x00, 0x00], &mut [0; 64]);
-    for state in [idle, running] {
+    for station in some_boxes() {
+        let state = station_bytes(&station).to_vec();
         let mut tell = |message: &[u8]| {
             c.feed(&mut (state.clone(), state.clone()), message, 64);
         };
         for a in 0..=255 {
+            tell(&[0x05, 0x00, 0x19, 0x00, a]);
+            tell(&[0x05, 0x20, 0x19, 0x00, a]);
             tell(&[0x05, 0x00, 0xC4, 0x00, a]);
             for item in [0x04, 0x20, 0x38, 0xB0, 0xB8] {
                 tell(&[0x05, 0x20, item, 0x00, a]);
@@ -435,6 +509,62 @@ fn every_byte(c: &mut Comparison) {
                 }
             }
         }
+        for channel in 0..=255 {
+            c.word(&state, channel);
+        }
+    }
+}
+
+/// Every channel byte in every message that has one, with a value that is allowed and one that is not; then the setup is
+/// changed over and back, and after each message both channels are asked for, with what they can show.
+fn every_channel(c: &mut Comparison) {
+    for station in some_boxes() {
+        let state = station_bytes(&station).to_vec();
+        for channel in 0..=255 {
+            for first in [
+                set_frequency(channel, 14_010_000),
+                set_frequency(channel, 140_000_000),
+                set_frequency(channel, 34_000_001),
+                set_gain(channel, 0xEC),
+                set_gain(channel, 0xED),
+                set_clock(channel, 79_992_000),
+                set_clock(channel, 79_991_999),
+            ] {
+                let mut states = (state.clone(), state.clone());
+                for message in [&first, &set_setup(4), &first, &set_setup(0), &first, &set_setup(4)] {
+                    c.feed(&mut states, message, 64);
+                    ask_both(c, &mut states);
+                }
+            }
+        }
+    }
+}
+
+/// Asks for all that two channels can show.
+fn ask_both(c: &mut Comparison, states: &mut (Vec<u8>, Vec<u8>)) {
+    c.feed(states, &[0x04, 0x20, 0x19, 0x00], 64);
+    for channel in [0x00, 0x02] {
+        c.feed(states, &[0x05, 0x20, 0x20, 0x00, channel], 64);
+        c.feed(states, &[0x05, 0x20, 0x38, 0x00, channel], 64);
+        c.feed(states, &[0x05, 0x40, 0x20, 0x00, channel], 64);
+        c.word(&states.0, channel);
+    }
+}
+
+/// Boxes with every setup, idle and running: only two of them are not broken.
+fn every_setup(c: &mut Comparison) {
+    for mut station in some_boxes() {
+        let form = station.settings.form();
+        for setup in 0..=255 {
+            station.settings.setup = setup;
+            let state = station_bytes(&station).to_vec();
+            for message in [vec![0x04, 0x20, 0x01, 0x00], vec![0x04, 0x20, 0x19, 0x00], set_setup(0), set_setup(setup)]
+            {
+                c.feed(&mut (state.clone(), state.clone()), &message, 64);
+            }
+            c.words(&state);
+            c.cut(&state, &vec![0; form.samples()], form.total());
+        }
     }
 }
 
@@ -444,37 +574,53 @@ fn every_edge_of_bands(c: &mut Comparison) {
     for centre in inputs::FREQUENCIES {
         for frequency in centre.saturating_sub(50)..=(centre + 50).min(0xFF_FFFF_FFFF) {
             for clock in inputs::CLOCKS {
-                let mut states = (state.clone(), state.clone());
-                c.feed(&mut states, &set_clock(0x00, clock), 64);
-                c.feed(&mut states, &set_frequency(0xFF, frequency), 64);
-                c.word(&states.0);
+                for (setup, channel) in [(0, 0xFF), (4, 0xFF), (4, 0x02)] {
+                    let mut states = (state.clone(), state.clone());
+                    c.feed(&mut states, &set_setup(setup), 64);
+                    c.feed(&mut states, &set_clock(0x00, clock), 64);
+                    c.feed(&mut states, &set_frequency(channel, frequency), 64);
+                    c.words(&states.0);
+                }
             }
         }
     }
 }
 
-/// Boxes with the word of their frequency and clock and with others, at the edges of bands and clock and beside them: fed,
-/// cut, and asked for the word.
+/// Boxes with the word of their frequency and clock and with others, in either channel, at the edges of bands and clock and
+/// beside them: fed, cut, and asked for the word.
 fn every_word(c: &mut Comparison, r: &mut Random) {
     let form = Form::LARGE_24;
     let samples = vec![0; form.samples()];
     for frequency in inputs::FREQUENCIES.into_iter().chain(inputs::TUNED) {
         for clock in inputs::CLOCKS.map(|clock| clock as u32) {
             for word in inputs::words(r, frequency, clock) {
-                let mut station = Station::fresh(b"MT123456").0;
-                station.settings.first = Channel { frequency, word, gain: 0 };
-                station.settings.clock = clock;
-                station.settings.running = true;
-                let state = station_bytes(&station).to_vec();
-                c.feed(&mut (state.clone(), state.clone()), &[0x04, 0x20, 0x01, 0x00], 64);
-                c.cut(&state, &samples, form.total());
-                c.word(&state);
+                let tuned = Channel { frequency, word, gain: 0 };
+                let right = right_channel(clock);
+                for (first, second) in [(&tuned, &right), (&right, &tuned)] {
+                    let mut station = Station::fresh(b"MT123456").0;
+                    station.settings.first = first.clone();
+                    station.settings.second = second.clone();
+                    station.settings.clock = clock;
+                    station.settings.running = true;
+                    station.settings.setup = inputs::setup(r);
+                    let state = station_bytes(&station).to_vec();
+                    c.feed(&mut (state.clone(), state.clone()), &[0x04, 0x20, 0x01, 0x00], 64);
+                    c.cut(&state, &samples, form.total());
+                    c.words(&state);
+                }
             }
         }
     }
 }
 
-/// Talks after which a box has another word or, where it refuses, the same one; each message without room for its reply too.
+/// A channel that is in order in a box with this clock, if any is.
+fn right_channel(clock: u32) -> Channel {
+    let mut channel = Channel { frequency: 0, word: 0, gain: -10 };
+    channel.tune(14_010_000, clock.max(1));
+    channel
+}
+
+/// Talks after which a box has other words or, where it refuses, the same; each message without room for its reply too.
 fn every_tuning(c: &mut Comparison) {
     let mut talks = vec![
         vec![
@@ -486,11 +632,33 @@ fn every_tuning(c: &mut Comparison) {
             set_frequency(0x02, 14_010_000),
         ],
         vec![set_frequency(0x00, 145_000_000)],
+        // the second channel is set, closed, kept while the clock and the first one change, and opened again
+        vec![
+            set_setup(4),
+            set_frequency(0x02, 14_010_000),
+            set_gain(0xFF, 0xEC),
+            set_setup(1),
+            set_setup(0),
+            set_frequency(0x02, 7_050_000),
+            set_frequency(0xFF, 20_000_000),
+            set_gain(0xFF, 0xF6),
+            set_clock(0x02, 80_000_123),
+            set_setup(4),
+            set_frequency(0xFF, 145_000_000),
+            set_clock(0xFF, 79_992_000),
+            set_frequency(0x02, 34_000_001),
+            vec![0x08, 0x00, 0x18, 0x00, 0x80, 0x02, 0x80, 0x00],
+            set_setup(4),
+            set_setup(0),
+            set_setup(5),
+            set_frequency(0x02, 100_000),
+        ],
     ];
     for frequency in inputs::TUNED {
         for clock in inputs::CLOCKS {
             talks.push(vec![set_frequency(0x00, frequency), set_clock(0x00, clock)]);
             talks.push(vec![set_clock(0xFF, clock), set_frequency(0xFF, frequency)]);
+            talks.push(vec![set_setup(4), set_frequency(0x02, frequency), set_setup(0), set_clock(0x02, clock)]);
         }
     }
     for talk in talks {
@@ -499,22 +667,26 @@ fn every_tuning(c: &mut Comparison) {
         for message in talk {
             for room in [0, 1, 64] {
                 c.feed(&mut states, &message, room);
-                c.word(&states.0);
+                c.words(&states.0);
             }
         }
     }
 }
 
-/// Every clock that is allowed and those beside them, set one after the other at frequencies of both bands.
+/// Every clock that is allowed and those beside them, set one after the other at frequencies of both bands, with the second
+/// channel open or closed.
 fn every_clock(c: &mut Comparison) {
-    for frequency in inputs::TUNED {
+    let others = inputs::TUNED.into_iter().rev();
+    for ((frequency, other), setup) in inputs::TUNED.into_iter().zip(others).zip([0, 4].into_iter().cycle()) {
         let state = fresh_state();
         let mut states = (state.clone(), state);
-        c.feed(&mut states, &set_frequency(0x00, frequency), 64);
+        for message in [set_setup(4), set_frequency(0x00, frequency), set_frequency(0x02, other), set_setup(setup)] {
+            c.feed(&mut states, &message, 64);
+        }
         for clock in 79_991_990..=80_008_010 {
             c.feed(&mut states, &set_clock(0x5A, clock), 64);
         }
-        c.word(&states.0);
+        c.words(&states.0);
     }
 }
 
@@ -526,6 +698,8 @@ fn every_room(c: &mut Comparison) {
         messages.push(vec![0x05, 0x20, item, 0x00, 0x00]);
     }
     messages.push(vec![0x05, 0x40, 0x20, 0x00, 0x00]);
+    messages.push(vec![0x05, 0x40, 0x20, 0x00, 0x02]);
+    messages.push(set_setup(4));
     messages.push(vec![0x02, 0x00]);
     messages.push(vec![0x00, 0x00]);
     for message in &messages {
@@ -537,12 +711,17 @@ fn every_room(c: &mut Comparison) {
         let mut odd = state.clone();
         odd.resize(length, 0);
         c.feed(&mut (odd.clone(), odd.clone()), &messages[0], 64);
-        c.word(&odd);
+        c.words(&odd);
         c.cut(&odd, &[], 0);
         c.fresh(b"MT123456", length);
     }
-    for length in 0..=2 * READER_BYTES {
-        c.read(&vec![0; length], &[]);
+    for channels in 0..=255 {
+        for length in 0..=2 * READER_BYTES {
+            let mut odd = reader_bytes(&Reader::new(channels)).to_vec();
+            odd.resize(length, 0);
+            c.read(&odd, &[]);
+            c.silent(channels, length);
+        }
     }
 }
 
@@ -561,16 +740,20 @@ fn every_serial(c: &mut Comparison, r: &mut Random) {
     }
 }
 
-/// Each number after each of some positions, in each form; around the last position too.
+/// Each number after each of some positions, in each form, with one channel and with two; around the last position too. And
+/// some of them to readers that were told no such count.
 fn every_number(c: &mut Comparison, r: &mut Random) {
     for form in Form::LISTED {
         let mut packet = inputs::plain_packet(r, form, 0);
         for position in [0, 1, 65_535, 65_536, 131_071, 3_999_934_000, 3_999_999_999] {
             let total = inputs::most_missed(position);
-            let reader = reader_bytes(&Reader { heard: true, position, total, form });
-            for number in 0..=u16::MAX {
-                packet[2..4].copy_from_slice(&number.to_le_bytes());
-                c.read(&reader, &packet);
+            for channels in 0..=255 {
+                let reader = reader_bytes(&Reader { heard: true, position, total, form, channels });
+                let step = if matches!(channels, 1 | 2) { 1 } else { 1021 };
+                for number in (0..=u16::MAX).step_by(step) {
+                    packet[2..4].copy_from_slice(&number.to_le_bytes());
+                    c.read(&reader, &packet);
+                }
             }
         }
     }
@@ -597,7 +780,7 @@ fn every_total(c: &mut Comparison, r: &mut Random) {
         u64::MAX - 1,
         u64::MAX,
     ];
-    let none = Reader::default().form;
+    let none = Reader::new(1).form;
     for form in [none].into_iter().chain(Form::LISTED) {
         let packet = inputs::plain_packet(r, if form == none { Form::LARGE_24 } else { form }, 0);
         for position in POSITIONS {
@@ -605,8 +788,8 @@ fn every_total(c: &mut Comparison, r: &mut Random) {
             let totals: BTreeSet<u64> =
                 bounds.iter().flat_map(|bound| bound.saturating_sub(2)..=bound.saturating_add(2)).collect();
             for total in totals {
-                for heard in [false, true] {
-                    let reader = reader_bytes(&Reader { heard, position, total, form });
+                for (heard, channels) in inputs::COUNTS.into_iter().flat_map(|count| [(false, count), (true, count)]) {
+                    let reader = reader_bytes(&Reader { heard, position, total, form, channels });
                     for number in [0, 1, number_at(position), number_at(position.saturating_add(1)), 65_535] {
                         let mut packet = packet.clone();
                         packet[2..4].copy_from_slice(&number.to_le_bytes());
@@ -622,7 +805,7 @@ fn every_total(c: &mut Comparison, r: &mut Random) {
 
 /// Each packet header with each listed length.
 fn every_packet_header(c: &mut Comparison) {
-    let silent = vec![0; READER_BYTES];
+    let silent = reader_bytes(&Reader::new(1));
     for header in 0..=u16::MAX {
         for total in [0, 1, 2, 3, 4, 388, 516, 1028, 1444, 1445] {
             let mut packet = vec![0; total];
@@ -634,16 +817,17 @@ fn every_packet_header(c: &mut Comparison) {
     }
 }
 
-/// A sample of each 24-bit value, cut in every form and unpacked.
+/// A sample of each 24-bit value, cut in every form and unpacked; packets with one channel and with two in turn.
 fn every_sample(c: &mut Comparison) {
     for form in Form::LISTED {
         let mut station = Station::fresh(b"MT123456").0;
         station.settings.running = true;
         station.settings.mode = if form.bits == 24 { 0x80 } else { 0x00 };
         station.settings.size = (form == Form::SMALL_24 || form == Form::SMALL_16).into();
-        let state = station_bytes(&station).to_vec();
+        let mut state = station_bytes(&station).to_vec();
         let mut next = -8_388_608;
         while next <= 8_388_607 {
+            state[SETUP_AT] ^= 4;
             let samples: Vec<i32> = (0..form.samples() as i32).map(|i| (next + i).min(8_388_607)).collect();
             next += form.samples() as i32;
             let packet = c.cut(&state, &samples, form.total());
@@ -653,86 +837,147 @@ fn every_sample(c: &mut Comparison) {
 }
 
 fn every_wish(c: &mut Comparison) {
-    for which in 0..20 {
-        for value in 0..0x300 {
-            c.write_wish(which, value, 16);
-            c.read_reply(which, value, &[0x02, 0x00]);
-        }
-        for room in 0..20 {
-            c.write_wish(which, 1, room);
-            c.write_wish(which, 5, room);
-        }
-    }
-    for state in 0..=u64::from(u16::MAX) {
-        c.write_wish(SET_STATE, state, 16);
-        for run in [1, 2, 3] {
-            for mode in [0x00, 0x80, 0x01] {
-                c.read_reply(SET_STATE, state, &[0x08, 0x00, 0x18, 0x00, 0x80, run, mode, 0x00]);
+    for which in 0..WISHES + 2 {
+        for channel in inputs::CHANNELS {
+            for value in 0..0x300 {
+                c.write_wish((which, channel, value), 16);
+                c.read_reply((which, channel, value), &[0x02, 0x00]);
+            }
+            for room in 0..20 {
+                c.write_wish((which, channel, 1), room);
+                c.write_wish((which, channel, 5), room);
             }
         }
     }
-    for frequency in inputs::FREQUENCIES {
-        for value in frequency.saturating_sub(20)..frequency + 20 {
-            c.write_wish(SET_FREQUENCY, value, 16);
+    for state in 0..=u64::from(u16::MAX) {
+        c.write_wish((SET_STATE, 0, state), 16);
+        for run in [1, 2, 3] {
+            for mode in [0x00, 0x80, 0x01] {
+                c.read_reply((SET_STATE, 0, state), &[0x08, 0x00, 0x18, 0x00, 0x80, run, mode, 0x00]);
+            }
         }
     }
-    for clock in inputs::CLOCKS {
-        for value in clock.saturating_sub(20)..clock + 20 {
-            c.write_wish(SET_CLOCK, value, 16);
+    for channel in inputs::CHANNELS {
+        for frequency in inputs::FREQUENCIES {
+            for value in frequency.saturating_sub(20)..frequency + 20 {
+                c.write_wish((SET_FREQUENCY, channel, value), 16);
+            }
         }
+        for clock in inputs::CLOCKS {
+            for value in clock.saturating_sub(20)..clock + 20 {
+                c.write_wish((SET_CLOCK, channel, value), 16);
+            }
+        }
+    }
+}
+
+/// Every wish for every channel, with a value that is allowed and one that is not, with room for it and without; and what it
+/// makes of NAK, of no reply, and of a reply that repeats its own channel byte, or another.
+fn every_wished_channel(c: &mut Comparison) {
+    for which in 0..WISHES + 1 {
+        let (right, wrong) = values_of(which);
+        for channel in 0..=255 {
+            for value in right.iter().chain(wrong) {
+                let wished = (which, channel, *value);
+                for room in [0, 15, 16] {
+                    c.write_wish(wished, room);
+                }
+                c.read_reply(wished, &[0x02, 0x00]);
+                c.read_reply(wished, &[]);
+            }
+            let shown = shown_for(which, channel, right[0]);
+            for echoed in inputs::CHANNELS.into_iter().chain([channel]) {
+                let mut reply = shown.clone();
+                reply[4] = echoed;
+                c.read_reply((which, channel, right[0]), &reply);
+            }
+        }
+    }
+}
+
+/// What a box with both channels open answers to a wish, that for channel 00 where the wish has one that no box allows; never
+/// shorter than five bytes.
+fn shown_for(which: u64, channel: u8, value: u64) -> Vec<u8> {
+    let (mut message, mut reply) = ([0; 16], [0; 64]);
+    let mut station = Station::fresh(b"MT123456").0;
+    station.settings.setup = 4;
+    let written = [channel, 0].into_iter().find_map(|channel| {
+        let (code, length) = Plain.write_wish(WishFields::of(which, channel, value), &mut message);
+        (code == 1).then_some(length)
+    });
+    let wrote = station.feed(&message[..written.unwrap_or(0)], &mut reply).wrote;
+    reply[..wrote.max(5)].to_vec()
+}
+
+/// Some values that a wish of this number can have, and some that it cannot.
+fn values_of(which: u64) -> (&'static [u64], &'static [u64]) {
+    match which {
+        ASK_VERSION => (&[0, 1, 2, 3], &[4, 0xFF]),
+        SET_STATE => (&[0x0001, 0x8002, 0x0002], &[0x0000, 0x4002, 0xC002, 0x0003]),
+        SET_SETUP => (&[0, 4], &[1, 2, 3, 5, 6, 0xFF]),
+        SET_FREQUENCY => (&[14_010_000, 145_000_000], &[34_000_001, 0]),
+        SET_GAIN => (&[0xEC], &[0xED]),
+        SET_CLOCK => (&[80_000_123], &[80_008_001]),
+        SET_RATE => (&[1_907_000], &[31_999]),
+        SET_SIZE => (&[1], &[2]),
+        _ => (&[0], &[]),
     }
 }
 
 /// Each rate wished for, answered with the achieved rate and its neighbours; and every answer to a request for the rate.
 fn every_rate_reply(c: &mut Comparison) {
-    let answer = |rate: u32| {
-        let [a, b, d, e] = rate.to_le_bytes();
-        [0x09, 0x00, 0xB8, 0x00, 0x00, a, b, d, e]
-    };
     for wished in 31_998..=2_000_002u32 {
-        c.write_wish(SET_RATE, wished.into(), 16);
+        // any channel byte is allowed: another for each rate
+        let channel = wished as u8;
+        let answer = |rate: u32| {
+            let [a, b, d, e] = rate.to_le_bytes();
+            [0x09, 0x00, 0xB8, 0x00, channel, a, b, d, e]
+        };
+        let (set, asked) = ((SET_RATE, channel, wished.into()), (ASK_RATE, channel, 0));
+        c.write_wish(set, 16);
         let right = if rate::rate_allowed(wished) { rate::achieved(rate::nearest(wished)) } else { wished };
-        c.read_reply(SET_RATE, wished.into(), &answer(right));
-        c.read_reply(SET_RATE, wished.into(), &answer(right + 1));
-        c.read_reply(SET_RATE, wished.into(), &answer(wished));
-        c.read_reply(ASK_RATE, 0, &answer(wished));
+        c.read_reply(set, &answer(right));
+        c.read_reply(set, &answer(right + 1));
+        c.read_reply(set, &answer(wished));
+        c.read_reply(asked, &answer(wished));
+    }
+}
+
+/// The channel bytes that some box allows in a wish; one where it has none.
+fn channels_of(which: u64) -> &'static [u8] {
+    match which {
+        SET_FREQUENCY | SET_GAIN => &[0x00, 0x02, 0xFF],
+        ASK_FREQUENCY | ASK_RANGE | ASK_GAIN => &[0x00, 0x02],
+        SET_CLOCK | ASK_CLOCK | SET_RATE | ASK_RATE => &[0x00, 0x02, 0x5A, 0xFF],
+        _ => &[0x00],
     }
 }
 
 /// Each wish answered by each reply of a box, each bit of it turned over, and each length.
 fn every_reply(c: &mut Comparison, r: &mut Random) {
-    let wishes: Vec<(u64, u64)> = (0..18)
-        .flat_map(|which| {
-            let values: &[u64] = match which {
-                ASK_VERSION => &[0, 1, 2, 3],
-                SET_STATE => &[0x0001, 0x8002, 0x0002],
-                SET_FREQUENCY => &[14_010_000, 145_000_000],
-                SET_GAIN => &[0xEC],
-                SET_CLOCK => &[80_000_123],
-                SET_RATE => &[1_907_000],
-                SET_SIZE => &[1],
-                _ => &[0],
-            };
-            values.iter().map(move |&value| (which, value))
-        })
-        .collect();
+    let mut wishes: Vec<Wished> = Vec::new();
+    for which in 0..WISHES {
+        for channel in channels_of(which) {
+            wishes.extend(values_of(which).0.iter().map(|value| (which, *channel, *value)));
+        }
+    }
     for _ in 0..20 {
         let station = inputs::sound(r);
-        for &(which, value) in &wishes {
+        for &(which, channel, value) in &wishes {
             let mut message = [0; 16];
-            let length = WishFields::of(which, value).wish().unwrap().write(&mut message).unwrap();
+            let length = WishFields::of(which, channel, value).wish().unwrap().write(&mut message).unwrap();
             let mut reply = [0; 64];
             let wrote = station.clone().feed(&message[..length], &mut reply).wrote;
-            for &(other, with) in &wishes {
-                c.read_reply(other, with, &reply[..wrote]);
+            for &other in &wishes {
+                c.read_reply(other, &reply[..wrote]);
             }
             for length in 0..=wrote + 3 {
-                c.read_reply(which, value, &reply[..length]);
+                c.read_reply((which, channel, value), &reply[..length]);
             }
             for bit in 0..8 * wrote {
                 let mut turned = reply;
                 turned[bit / 8] ^= 1 << (bit % 8);
-                c.read_reply(which, value, &turned[..wrote]);
+                c.read_reply((which, channel, value), &turned[..wrote]);
             }
         }
     }
@@ -752,14 +997,24 @@ fn some_heads() -> [Head; 3] {
     [old, old.newer(), Head { version: head::VERSION_2, serial: *b"MT123456", clock: 79_992_000, ..old }]
 }
 
+/// The same head of a capture with two channels.
+fn with_two(head: Head) -> Head {
+    Head { mode: head.mode | head::TWO_CHANNELS, ..head }
+}
+
+/// Those heads, of captures with one channel and with two.
+fn heads_of_both() -> impl Iterator<Item = Head> {
+    some_heads().into_iter().flat_map(|head| [head, with_two(head)])
+}
+
 /// The values that both versions have.
 fn every_head(c: &mut Comparison) {
-    for head in some_heads() {
+    for head in heads_of_both() {
         for divisor in 0..=u16::MAX {
             let mut bytes = inputs::head_bytes(&head);
             bytes[5..7].copy_from_slice(&divisor.to_le_bytes());
             c.read_head(&bytes);
-            c.write_head(Head { divisor: divisor.into(), mode: 0, size: 0, ..head }, 26);
+            c.write_head(Head { divisor: divisor.into(), mode: head.mode & 0x7F, size: 0, ..head }, 26);
         }
         for frequency in inputs::FREQUENCIES {
             for value in frequency.saturating_sub(20)..frequency + 20 {
@@ -776,7 +1031,7 @@ fn every_head(c: &mut Comparison) {
 
 /// Each byte of a head changed, each length and each room, beside what else is refused.
 fn every_head_byte(c: &mut Comparison) {
-    for head in some_heads() {
+    for head in heads_of_both() {
         let bytes = inputs::head_bytes(&head);
         for place in 0..bytes.len() {
             for byte in 0..=255 {
@@ -807,7 +1062,7 @@ fn every_head_byte(c: &mut Comparison) {
 
 /// Every version of 16 bits, and some that are longer: with values that are allowed and with one that is not, of each length.
 fn every_version(c: &mut Comparison) {
-    for head in some_heads() {
+    for head in heads_of_both() {
         let mut bytes = inputs::head_bytes(&head);
         for version in 0..=u16::MAX {
             bytes[3..5].copy_from_slice(&version.to_le_bytes());
@@ -892,6 +1147,8 @@ fn every_span(c: &mut Comparison, r: &mut Random) {
         for length in 0..=bytes.len() {
             c.span(&bytes[..length]);
         }
+    }
+    for head in [old, known, with_two(old), with_two(known)] {
         for numbers in [
             &[0, 65_535, 65_535, 1, 1, 65_534][..],
             &[0, 0, 0],
@@ -919,12 +1176,29 @@ fn every_span(c: &mut Comparison, r: &mut Random) {
         let long = capture(r, &head, &numbers);
         c.span(&long);
     }
-    for head in [old, unknown, known] {
+    for head in [old, unknown, known, with_two(old), with_two(known)] {
         every_span_head(c, r, &head);
     }
+    every_span_mode(c, r);
     let noise = r.bytes(1 << 20);
     c.span(&noise);
     c.span(b"This is a text file and no capture.\n");
+}
+
+/// Every mode byte, in both versions, before packets of each form.
+fn every_span_mode(c: &mut Comparison, r: &mut Random) {
+    for head in some_heads() {
+        for form in Form::LISTED {
+            let size = (form.pairs < 200).into();
+            let packets: Vec<u8> = [0, 1, 4].iter().flat_map(|&number| inputs::plain_packet(r, form, number)).collect();
+            for mode in 0..=255 {
+                let mut bytes = inputs::head_bytes(&Head { size, ..head });
+                bytes[12] = mode;
+                bytes.extend(&packets);
+                c.span(&bytes);
+            }
+        }
+    }
 }
 
 /// A capture's head of another version, with a field changed, and with no packet behind it.
@@ -949,7 +1223,8 @@ fn every_span_head(c: &mut Comparison, r: &mut Random, head: &Head) {
     }
 }
 
-/// End times at the edges of clock and D and beside them, in each form, of captures so long that the clocks differ in them.
+/// End times at the edges of clock and D and beside them, in each form, with one channel and with two, of captures so long that
+/// the clocks differ in them.
 fn every_end_time(c: &mut Comparison, r: &mut Random) {
     let [.., known] = some_heads();
     for form in Form::LISTED {
@@ -957,11 +1232,21 @@ fn every_end_time(c: &mut Comparison, r: &mut Random) {
         for divisor in [10, 11, 100, 624, 625] {
             for clock in inputs::HEAD_CLOCKS {
                 let head = Head { divisor, mode, size, clock, ..known };
-                let bytes = capture(r, &head, &[0, 0, 9, 0, 1, 65_535, 65_535, 1]);
-                c.span(&bytes);
+                for head in [head, with_two(head)] {
+                    let bytes = capture(r, &head, &[0, 0, 9, 0, 1, 65_535, 65_535, 1]);
+                    c.span(&bytes);
+                }
             }
         }
     }
+}
+
+fn set_setup(setup: u8) -> Vec<u8> {
+    vec![0x05, 0x00, 0x19, 0x00, setup]
+}
+
+fn set_gain(channel: u8, gain: u8) -> Vec<u8> {
+    vec![0x06, 0x00, 0x38, 0x00, channel, gain]
 }
 
 fn set_frequency(channel: u8, frequency: u64) -> Vec<u8> {
@@ -979,21 +1264,23 @@ fn fresh_state() -> Vec<u8> {
 }
 
 /// The codes that a call can give at all; each has to have been seen.
-const POSSIBLE: [(&str, &[u8]); 16] = [
+const POSSIBLE: [(&str, &[u8]); 18] = [
     ("fresh", &[1, 21, 26]),
     ("feed", &[0, 1, 2, 10, 11, 12, 13, 14, 15, 16, 17, 20, 21]),
-    ("word", &[1, 21]),
+    ("word", &[1, 15, 21]),
     ("cut", &[1, 20, 21, 22, 23, 24, 25]),
+    ("silent", &[1, 21]),
     ("read", &[1, 21, 30, 31, 32, 33]),
     ("sample bytes", &[1, 30]),
     ("unpack", &[1, 20, 30]),
-    ("wish", &[1, 16, 20]),
-    ("reply", &[1, 16, 28]),
+    ("wish", &[1, 15, 16, 20]),
+    ("reply", &[1, 15, 16, 28]),
     ("head written", &[1, 16, 20]),
     ("head read", &[1, 40, 41]),
     ("head newer", &[1, 20, 40, 41]),
     ("head older", &[1, 20, 40, 41, 42]),
     ("serve", &[1]),
+    ("cut run", &[1]),
     ("read run", &[1]),
     ("span", &[1, 30, 31, 32, 33, 40, 41]),
 ];
@@ -1012,6 +1299,8 @@ fn main() -> ExitCode {
     every_item(&mut c);
     every_rate(&mut c);
     every_byte(&mut c);
+    every_channel(&mut c);
+    every_setup(&mut c);
     every_edge_of_bands(&mut c);
     every_word(&mut c, r);
     every_tuning(&mut c);
@@ -1023,6 +1312,7 @@ fn main() -> ExitCode {
     every_packet_header(&mut c);
     every_sample(&mut c);
     every_wish(&mut c);
+    every_wished_channel(&mut c);
     every_rate_reply(&mut c);
     every_reply(&mut c, r);
     every_head(&mut c);
@@ -1039,6 +1329,7 @@ fn main() -> ExitCode {
         random_tuning(&mut c, r, 200_000);
         random_cutting(&mut c, r, 100_000);
         random_reading(&mut c, r, 200_000);
+        random_cut_runs(&mut c, r, 20_000);
         random_runs(&mut c, r, 20_000);
         random_unpacking(&mut c, r, 100_000);
         random_wishes(&mut c, r, 500_000);

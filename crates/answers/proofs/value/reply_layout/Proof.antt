@@ -44,8 +44,20 @@ state-value-requires c κs = search needs
 plain-requires-5 : tie.Need-plain-requires-5
 plain-requires-5 c κs = search needs
 
+cast-plain : tie.Need-cast-plain
+cast-plain c = search needs
+
+plain-requires-6 : tie.Need-plain-requires-6
+plain-requires-6 c κs = search needs
+
+channel-at-requires : tie.Need-channel-at-requires
+channel-at-requires c κs = search needs
+
 with-echo-requires : tie.Need-with-echo-requires
 with-echo-requires c κs = search needs
+
+channel-at-requires-2 : tie.Need-channel-at-requires-2
+channel-at-requires-2 c κs = search needs
 
 cast-with-echo : tie.Need-cast-with-echo
 cast-with-echo c = search needs
@@ -68,14 +80,14 @@ cast-with-echo-3 c = search needs
 with-echo-requires-4 : tie.Need-with-echo-requires-4
 with-echo-requires-4 c κs = search needs
 
-cast-plain : tie.Need-cast-plain
-cast-plain c = search needs
-
-plain-requires-6 : tie.Need-plain-requires-6
-plain-requires-6 c κs = search needs
+cast-plain-2 : tie.Need-cast-plain-2
+cast-plain-2 c = search needs
 
 plain-requires-7 : tie.Need-plain-requires-7
 plain-requires-7 c κs = search needs
+
+plain-requires-8 : tie.Need-plain-requires-8
+plain-requires-8 c κs = search needs
 
 -- the item's value in so many bytes is the reply, without the byte that is echoed or with it
 module _ (a : tie.Start) (width value : ℕ)
@@ -140,55 +152,67 @@ returns-6 c =
 returns-7 : tie.Need-returns-7
 unfolding rowOf
 returns-7 c =
-    let a = c .before .before in
-    let key = c .before .match .keys7 in
-    ap laid (c .with-echo .ensures)
-    ∙ echo-at a 5 (a .args .s .first .frequency) (rw key refl) (rw key refl)
+    let a = c .before .before .before in
+    let key = c .before .before .match .keys7 in
+    ap laid (c .plain6 .ensures)
+    ∙ plain-at a 1 (a .args .s .setup) (rw key refl) (rw key refl)
 
 returns-8 : tie.Need-returns-8
 unfolding rowOf
 returns-8 c =
-    let a = c .before .before .before in
-    let key = c .before .before .match .keys8 in
-    ap laid (c .with-echo2 .ensures)
-    ∙ echo-at a 1 (a .args .s .first .gain) (rw key refl) (rw key refl)
+    let named = c .before in
+    let a = named .before .before in
+    let key = named .before .match .keys8 in
+    ap laid (c .with-echo .ensures)
+    ∙ echo-at a 5 (named .channel-at .result .frequency)
+    (rw (key, named .channel-at .ensures) refl) (rw key refl)
 
 returns-9 : tie.Need-returns-9
 unfolding rowOf
 returns-9 c =
-    let a = c .before .before .before in
-    let key = c .before .before .match .keys9 in
-    ap laid (c .with-echo3 .ensures)
-    ∙ echo-at a 4 (a .args .s .clock) (rw key refl) (rw key refl)
+    let named = c .before .before in
+    let a = named .before .before in
+    let key = named .before .match .keys9 in
+    ap laid (c .with-echo2 .ensures)
+    ∙ echo-at a 1 (named .channel-at2 .result .gain)
+    (rw (key, named .channel-at2 .ensures) refl) (rw key refl)
 
 returns-10 : tie.Need-returns-10
 unfolding rowOf
 returns-10 c =
     let a = c .before .before .before in
     let key = c .before .before .match .keys10 in
-    ap laid (c .with-echo4 .ensures)
-    ∙ echo-at a 4 (c .before .achieved .result) (rw key (ap (bytes 4) (sym (c .before .achieved .ensures)))) (rw key refl)
+    ap laid (c .with-echo3 .ensures)
+    ∙ echo-at a 4 (a .args .s .clock) (rw key refl) (rw key refl)
 
 returns-11 : tie.Need-returns-11
 unfolding rowOf
 returns-11 c =
     let a = c .before .before .before in
     let key = c .before .before .match .keys11 in
-    ap laid (c .plain6 .ensures)
-    ∙ plain-at a 1 (a .args .s .size) (rw key refl) (rw key refl)
+    ap laid (c .with-echo4 .ensures)
+    ∙ echo-at a 4 (c .before .achieved .result) (rw key (ap (bytes 4) (sym (c .before .achieved .ensures)))) (rw key refl)
 
 returns-12 : tie.Need-returns-12
+unfolding rowOf
 returns-12 c =
+    let a = c .before .before .before in
+    let key = c .before .before .match .keys12 in
+    ap laid (c .plain7 .ensures)
+    ∙ plain-at a 1 (a .args .s .size) (rw key refl) (rw key refl)
+
+returns-13 : tie.Need-returns-13
+returns-13 c =
     let a = c .before .before in
     let r = c .before .match .rest in
-    -- the codes before the last two, the last five, the last eight
-    let r9 = r .0 .0 in
+    -- the codes before the last three, the last six, the last nine
+    let r9 = r .0 .0 .0 in
     let r6 = r9 .0 .0 .0 in
     let r3 = r6 .0 .0 .0 in
     let none =
     no-row (a .args .item) (r3 .0 .0 .1) (r3 .0 .1) (r3 .1) (r6 .0 .0 .1) (r6 .0 .1) (r6 .1) (r9 .0 .0 .1) (r9 .0 .1) (r9 .1)
-    (r .0 .1) (r .1) in
-    ap laid (c .plain7 .ensures)
+    (r .0 .0 .1) (r .0 .1) (r .1) in
+    ap laid (c .plain8 .ensures)
     ∙ plain-at a 0 0 (rw none refl) (rw none refl)
 
 pub reply-layout-spec : {M : Type 1} → statement M
@@ -205,7 +229,11 @@ reply-layout-spec =
     plain-requires-4
     state-value-requires
     plain-requires-5
+    cast-plain
+    plain-requires-6
+    channel-at-requires
     with-echo-requires
+    channel-at-requires-2
     cast-with-echo
     with-echo-requires-2
     cast-with-echo-2
@@ -213,9 +241,9 @@ reply-layout-spec =
     achieved-requires
     cast-with-echo-3
     with-echo-requires-4
-    cast-plain
-    plain-requires-6
+    cast-plain-2
     plain-requires-7
+    plain-requires-8
     returns
     returns-2
     returns-3
@@ -227,4 +255,5 @@ reply-layout-spec =
     returns-9
     returns-10
     returns-11
-    returns-12)
+    returns-12
+    returns-13)

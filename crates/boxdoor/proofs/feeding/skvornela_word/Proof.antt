@@ -18,11 +18,12 @@ returns c =
     let tuning = c .before in
     let station = tuning .before in
     let whole = station .before in
-    word-whole (whole .before .before .args .state .now) _ _ (whole .if1 .taken) (station .station-in .ensures)
+    let a = whole .before .before .args in
+    word-whole (a .state .now) (a .channel) _ _ (whole .if1 .taken) (station .station-in .ensures)
     (tuning .tuning-word .ensures) (c .tuned-by .ensures)
 
 returns-2 : tie.Need-returns-2
-returns-2 c = word-broken _ (c .if1 .left)
+returns-2 c = word-broken _ _ (c .if1 .left)
 
 pub skvornela-word-spec : {M : Type 1} → statement M
 skvornela-word-spec =

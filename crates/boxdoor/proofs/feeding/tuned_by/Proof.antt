@@ -9,11 +9,17 @@ enum-known-t c = search needs
 enum-told : tie.Need-enum-told
 enum-told c = search needs
 
+enum-told-2 : tie.Need-enum-told-2
+enum-told-2 c = search needs
+
 returns : tie.Need-returns
 returns c = rw (c .before .t .given .1)
 
 returns-2 : tie.Need-returns-2
 returns-2 c = rw (c .enum-told .given .1)
 
+returns-3 : tie.Need-returns-3
+returns-3 c = rw (c .enum-told2 .given .1)
+
 pub tuned-by-spec : {M : Type 1} → statement M
-tuned-by-spec = tie.close (tie.spec enum-known-t enum-told returns returns-2)
+tuned-by-spec = tie.close (tie.spec enum-known-t enum-told enum-told-2 returns returns-2 returns-3)

@@ -1,9 +1,9 @@
--- `boxdoor::states::put_common` meets its contract: six fields, one behind the other.
+-- `boxdoor::states::put_common` meets its contract: seven fields, one behind the other.
 use mathlib.Core.Path.{_≡_, ap, _∙_}
 use denote.Ref.{now}
 use lib.ListN.{length}
 use lib.Seq.{sets, length-sets}
-use Rattle.boxdoor.specs.States.{commonBytes}
+use Rattle.boxdoor.specs.States.{commonFrom, commonBytes}
 use Rattle.boxdoor.proofs.Fields.{common-stored}
 use borrow.Author.Needs.{needs}
 use Rattle.boxdoor.proofs.states.put_common.Statement.{statement}
@@ -42,34 +42,43 @@ cast-put-5 c = search needs
 put-requires-6 : tie.Need-put-requires-6
 put-requires-6 c κs = search needs
 
--- the stores on the way, from the last back
-abbrev fifth : tie.After-put6 → tie.After-put5
-fifth c = c .before .before .before .before .before
+cast-put-6 : tie.Need-cast-put-6
+cast-put-6 c = search needs
 
-abbrev fourth : tie.After-put6 → tie.After-put4
+put-requires-7 : tie.Need-put-requires-7
+put-requires-7 c κs = search needs
+
+-- the stores on the way, from the last back
+abbrev sixth : tie.After-put7 → tie.After-put6
+sixth c = c .before .before .before .before .before
+
+abbrev fifth : tie.After-put7 → tie.After-put5
+fifth c = sixth c .before .before .before .before .before
+
+abbrev fourth : tie.After-put7 → tie.After-put4
 fourth c = fifth c .before .before .before .before .before
 
-abbrev third : tie.After-put6 → tie.After-put3
+abbrev third : tie.After-put7 → tie.After-put3
 third c = fourth c .before .before .before .before .before
 
-abbrev second : tie.After-put6 → tie.After-put2
+abbrev second : tie.After-put7 → tie.After-put2
 second c = third c .before .before .before .before .before
 
-abbrev first : tie.After-put6 → tie.After-put
+abbrev first : tie.After-put7 → tie.After-put
 first c = second c .before .before .before .before .before
 
-abbrev start : tie.After-put6 → tie.Start
+abbrev start : tie.After-put7 → tie.Start
 start c = first c .before .before .before
 
-stored : (c : tie.After-put6) → c .put6 .last .0 ≡ sets (now (start c .args .b)) 13 (commonBytes (start c .args .s))
+stored : (c : tie.After-put7) → c .put7 .last .0 ≡ sets (now (start c .args .b)) commonFrom (commonBytes (start c .args .s))
 stored c =
-    common-stored _ _ _ _ _ _ _ _ (first c .put .ensures) (second c .put2 .ensures) (third c .put3 .ensures) (fourth c .put4 .ensures)
-    (fifth c .put5 .ensures) (c .put6 .ensures)
+    common-stored _ _ _ _ _ _ _ _ _ (first c .put .ensures) (second c .put2 .ensures) (third c .put3 .ensures) (fourth c .put4 .ensures)
+    (fifth c .put5 .ensures) (sixth c .put6 .ensures) (c .put7 .ensures)
 
 same-length : tie.Need-same-length
 same-length c =
     let a = start (c .before .before) .args in
-    ap length (stored (c .before .before)) ∙ length-sets (now (a .b)) 13 (commonBytes (a .s))
+    ap length (stored (c .before .before)) ∙ length-sets (now (a .b)) commonFrom (commonBytes (a .s))
 
 returns : tie.Need-returns
 returns c = stored (c .before .before)
@@ -89,5 +98,7 @@ put-common-spec =
     put-requires-5
     cast-put-5
     put-requires-6
+    cast-put-6
+    put-requires-7
     same-length
     returns)

@@ -6,7 +6,7 @@ use native.Mathlib.Omega.{arith}
 use denote.Ref.{now}
 use lib.ListN.{length}
 use Rattle.wire.specs.Number.{bytes}
-use Rattle.boxdoor.specs.States.{settingsBytes}
+use Rattle.boxdoor.specs.States.{heldFrom, takenFrom, settingsBytes}
 use lib.Seq.{sets, length-sets}
 use Rattle.wire.proofs.Stores.{sets-taken}
 use Rattle.boxdoor.proofs.Fields.{parts-stored}
@@ -39,11 +39,11 @@ returns c =
     let start = copied .before .before .before .before .before .before .before in
     let s = start .args .s in
     let l = now (start .args .b) in
-    let placed = rw (held-long start) at (sets-taken l 40 (s .store .held) (omega (arith, held-long start, start .pre))) in
+    let placed = rw (held-long start) at (sets-taken l heldFrom (s .store .held) (omega (arith, held-long start, start .pre))) in
     parts .put-parts .ensures
-    ∙ ap (λ (r : List ℕ). sets (sets r 0 (settingsBytes (s .settings))) 104 (bytes 8 (s .store .taken))) (copied .copy .ensures)
-    ∙ parts-stored (s .settings) (s .store .held) (sets l 40 (s .store .held)) (s .store .taken)
-    (length-sets l 40 (s .store .held) ∙ start .pre) (serial-long start) placed
+    ∙ ap (λ (r : List ℕ). sets (sets r 0 (settingsBytes (s .settings))) takenFrom (bytes 8 (s .store .taken))) (copied .copy .ensures)
+    ∙ parts-stored (s .settings) (s .store .held) (sets l heldFrom (s .store .held)) (s .store .taken)
+    (length-sets l heldFrom (s .store .held) ∙ start .pre) (serial-long start) placed
 
 pub put-station-spec : {M : Type 1} → statement M
 put-station-spec =

@@ -8,7 +8,7 @@ use mathlib.Core.Path.{_≡_, refl, sym, _∙_}
 use mathlib.Core.List.{List}
 use native.Mathlib.Omega.{arith}
 use denote.Ref.{now}
-use Rattle.boxdoor.specs.States.{channelIn}
+use Rattle.boxdoor.specs.States.{commonFrom, heldFrom, channelIn}
 use Rattle.boxdoor.proofs.Fields.{settings-read}
 use Rattle.boxdoor.proofs.Parts.{filled}
 use borrow.Author.Needs.{needs}
@@ -29,14 +29,19 @@ known c = c .before .before .before .before .before
 abbrev bytes : tie.After-front → List ℕ
 bytes c = now (known c .before .args .b)
 
-front-long : (c : tie.After-front) → length (take 40 (bytes c)) ≡ 40
-front-long c = length-take-le 40 (bytes c) (omega (arith, known c .before .pre))
+front-long : (c : tie.After-front) → length (take heldFrom (bytes c)) ≡ heldFrom
+front-long c = length-take-le heldFrom (bytes c) (omega (arith, known c .before .pre))
 
-in-front : (c : tie.After-front) (at n : ℕ) → at + n ≤ 40 → field at n (take 40 (bytes c)) ≡ field at n (bytes c)
-in-front c at n inside = field-front at n 40 (bytes c) inside
+in-front : (c : tie.After-front) (at n : ℕ) → at + n ≤ heldFrom → field at n (take heldFrom (bytes c)) ≡ field at n (bytes c)
+in-front c at n inside = field-front at n heldFrom (bytes c) inside
 
-channel-front : (l : List ℕ) → channelIn 0 (take 40 l) ≡ channelIn 0 l
-channel-front l = rw (field-front 0 8 40 l (omega arith), field-front 8 4 40 l (omega arith), getD-take 40 l 12 0 (omega arith)) refl
+channel-front : (at : ℕ) (l : List ℕ) → at + 13 ≤ heldFrom → channelIn at (take heldFrom l) ≡ channelIn at l
+channel-front at l inside =
+    rw (
+      field-front at 8 heldFrom l (omega arith),
+      field-front (at + 8) 4 heldFrom l (omega arith),
+      getD-take heldFrom l (at + 12) 0 (omega arith),
+    ) refl
 
 sub-copy : tie.Need-sub-copy
 sub-copy c = search needs
@@ -59,50 +64,62 @@ slice-aggregate-front c = sym (front-long c)
 channel-at-requires : tie.Need-channel-at-requires
 channel-at-requires c κs = omega (arith, front-long c)
 
+channel-at-requires-2 : tie.Need-channel-at-requires-2
+channel-at-requires-2 c κs = omega (arith, front-long (c .before))
+
 number-at-requires : tie.Need-number-at-requires
 number-at-requires c κs = search needs
 
 number-at-requires-2 : tie.Need-number-at-requires-2
 number-at-requires-2 c κs = search needs
 
-cast-t15 : tie.Need-cast-t15
-cast-t15 c =
-    let f = c .before .before .before in
-    omega (arith, c .number-at2 .ensures, in-front f 21 4 (omega arith), below (known f) 21 4)
+cast-t16 : tie.Need-cast-t16
+cast-t16 c =
+    let f = c .before .before .before .before in
+    omega (arith, c .number-at2 .ensures, in-front f 34 4 (omega arith), below (known f) 34 4)
 
 number-at-requires-3 : tie.Need-number-at-requires-3
 number-at-requires-3 c κs = search needs
 
-cast-t17 : tie.Need-cast-t17
-cast-t17 c =
-    let f = c .before .before .before .before in
-    omega (arith, c .number-at3 .ensures, in-front f 25 4 (omega arith), below (known f) 25 4)
+cast-t18 : tie.Need-cast-t18
+cast-t18 c =
+    let f = c .before .before .before .before .before in
+    omega (arith, c .number-at3 .ensures, in-front f 38 4 (omega arith), below (known f) 38 4)
 
-shared-slice-read-t19 : tie.Need-shared-slice-read-t19
-shared-slice-read-t19 c = search needs
+shared-slice-read-t20 : tie.Need-shared-slice-read-t20
+shared-slice-read-t20 c = search needs
 
-cast-t20 : tie.Need-cast-t20
-cast-t20 c = omega (arith, are-bytes (known (c .before .before .before .before .before)) 31)
+cast-t21 : tie.Need-cast-t21
+cast-t21 c = omega (arith, are-bytes (known (c .before .before .before .before .before .before)) 44)
 
-shared-slice-read-t22 : tie.Need-shared-slice-read-t22
-shared-slice-read-t22 c = search needs
+shared-slice-read-t23 : tie.Need-shared-slice-read-t23
+shared-slice-read-t23 c = search needs
 
-shared-slice-read-t25 : tie.Need-shared-slice-read-t25
-shared-slice-read-t25 c = search needs
+cast-t24 : tie.Need-cast-t24
+cast-t24 c = omega (arith, are-bytes (known (c .before .before .before .before .before .before .before)) 45)
+
+shared-slice-read-t26 : tie.Need-shared-slice-read-t26
+shared-slice-read-t26 c = search needs
+
+shared-slice-read-t29 : tie.Need-shared-slice-read-t29
+shared-slice-read-t29 c = search needs
 
 returns : tie.Need-returns
 returns c =
-    let divisor = c .before .before .before in
+    let divisor = c .before .before .before .before in
     let clock = divisor .before in
     let count = clock .before in
-    let channel = count .before in
-    let front = channel .before in
+    let second = count .before in
+    let first = second .before in
+    let front = first .before in
     let serial = front .before .before in
-    settings-read (bytes front) (channel .channel-at .ensures ∙ channel-front (bytes front))
-    (count .number-at .ensures ∙ in-front front 13 8 (omega arith))
-    (clock .number-at2 .ensures ∙ in-front front 21 4 (omega arith))
-    (divisor .number-at3 .ensures ∙ in-front front 25 4 (omega arith))
-    (filled 32 8 (bytes front) _ refl (omega (arith, known front .before .pre)) (serial .copy .ensures))
+    let b = bytes front in
+    settings-read b (first .channel-at .ensures ∙ channel-front 0 b (omega arith))
+    (second .channel-at2 .ensures ∙ channel-front 13 b (omega arith))
+    (count .number-at .ensures ∙ in-front front commonFrom 8 (omega arith))
+    (clock .number-at2 .ensures ∙ in-front front 34 4 (omega arith))
+    (divisor .number-at3 .ensures ∙ in-front front 38 4 (omega arith))
+    (filled 46 8 b _ refl (omega (arith, known front .before .pre)) (serial .copy .ensures))
 
 pub settings-of-spec : {M : Type 1} → statement M
 settings-of-spec =
@@ -115,13 +132,16 @@ settings-of-spec =
     copy-requires
     slice-aggregate-front
     channel-at-requires
+    channel-at-requires-2
     number-at-requires
     number-at-requires-2
-    cast-t15
+    cast-t16
     number-at-requires-3
-    cast-t17
-    shared-slice-read-t19
-    cast-t20
-    shared-slice-read-t22
-    shared-slice-read-t25
+    cast-t18
+    shared-slice-read-t20
+    cast-t21
+    shared-slice-read-t23
+    cast-t24
+    shared-slice-read-t26
+    shared-slice-read-t29
     returns)

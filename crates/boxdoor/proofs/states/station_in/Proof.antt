@@ -2,7 +2,7 @@
 use mathlib.Core.Path.{refl}
 use native.Mathlib.Omega.{arith}
 use denote.Ref.{now}
-use Rattle.boxdoor.specs.States.{storeIn}
+use Rattle.boxdoor.specs.States.{heldFrom, storeIn}
 use Rattle.boxdoor.proofs.Parts.{filled}
 use borrow.Author.Needs.{needs}
 use Rattle.boxdoor.proofs.states.station_in.Statement.{statement}
@@ -35,7 +35,7 @@ returns c =
     let copied = c .before .before .before in
     let start = copied .before .before .before .before in
     let b = now (start .args .b) in
-    let held = filled 40 64 b _ refl (omega (arith, start .pre)) (copied .copy .ensures) in
+    let held = filled heldFrom 64 b _ refl (omega (arith, start .pre)) (copied .copy .ensures) in
     rw (c .settings-of .ensures, c .before .taken-of .ensures, held) refl
 
 pub station-in-spec : {M : Type 1} → statement M

@@ -48,6 +48,15 @@ slice-aggregate-tell-2 c = search needs
 tell-requires-3 : tie.Need-tell-requires-3
 tell-requires-3 c κs = search needs
 
+enum-told-3 : tie.Need-enum-told-3
+enum-told-3 c = search needs
+
+slice-aggregate-tell-3 : tie.Need-slice-aggregate-tell-3
+slice-aggregate-tell-3 c = search needs
+
+tell-requires-4 : tie.Need-tell-requires-4
+tell-requires-4 c κs = search needs
+
 returns-2 : tie.Need-returns-2
 returns-2 c = search needs
 
@@ -56,6 +65,9 @@ returns-3 c = search needs
 
 returns-4 : tie.Need-returns-4
 returns-4 c = search needs
+
+returns-5 : tie.Need-returns-5
+returns-5 c = search needs
 
 pub write-spec : {M : Type 1} → statement M
 write-spec =
@@ -75,6 +87,10 @@ write-spec =
     enum-told-2
     slice-aggregate-tell-2
     tell-requires-3
+    enum-told-3
+    slice-aggregate-tell-3
+    tell-requires-4
     returns-2
     returns-3
-    returns-4)
+    returns-4
+    returns-5)

@@ -70,26 +70,26 @@ saying-requires-7 c κs = search needs
 enum-known-reply-6 : tie.Need-enum-known-reply-6
 enum-known-reply-6 c = search needs
 
+cast-saying-6 : tie.Need-cast-saying-6
+cast-saying-6 c = search needs
+
 saying-requires-8 : tie.Need-saying-requires-8
 saying-requires-8 c κs = search needs
-
-enum-told-3 : tie.Need-enum-told-3
-enum-told-3 c = search needs
-
-saying-requires-9 : tie.Need-saying-requires-9
-saying-requires-9 c κs = search needs
 
 enum-known-reply-7 : tie.Need-enum-known-reply-7
 enum-known-reply-7 c = search needs
 
-enum-known-reply-8 : tie.Need-enum-known-reply-8
-enum-known-reply-8 c = search needs
+saying-requires-9 : tie.Need-saying-requires-9
+saying-requires-9 c κs = search needs
 
-cast-saying-6 : tie.Need-cast-saying-6
-cast-saying-6 c = search needs
+enum-told-3 : tie.Need-enum-told-3
+enum-told-3 c = search needs
 
 saying-requires-10 : tie.Need-saying-requires-10
 saying-requires-10 c κs = search needs
+
+enum-known-reply-8 : tie.Need-enum-known-reply-8
+enum-known-reply-8 c = search needs
 
 enum-known-reply-9 : tie.Need-enum-known-reply-9
 enum-known-reply-9 c = search needs
@@ -109,6 +109,15 @@ cast-saying-8 c = search needs
 saying-requires-12 : tie.Need-saying-requires-12
 saying-requires-12 c κs = search needs
 
+enum-known-reply-11 : tie.Need-enum-known-reply-11
+enum-known-reply-11 c = search needs
+
+cast-saying-9 : tie.Need-cast-saying-9
+cast-saying-9 c = search needs
+
+saying-requires-13 : tie.Need-saying-requires-13
+saying-requires-13 c κs = search needs
+
 enum-told-4 : tie.Need-enum-told-4
 enum-told-4 c = search needs
 
@@ -120,6 +129,12 @@ enum-told-5 c = search needs
 
 refusing-requires-2 : tie.Need-refusing-requires-2
 refusing-requires-2 c κs = search needs
+
+enum-told-6 : tie.Need-enum-told-6
+enum-told-6 c = search needs
+
+refusing-requires-3 : tie.Need-refusing-requires-3
+refusing-requires-3 c κs = search needs
 
 returns : tie.Need-returns
 unfolding shown
@@ -155,18 +170,18 @@ returns-8 c = rw (c .before .before .reply6 .given .1) (c .saying8 .ensures)
 
 returns-9 : tie.Need-returns-9
 unfolding shown
-returns-9 c = rw (c .before .enum-told3 .given .1) (c .saying9 .ensures)
+returns-9 c = rw (c .before .before .reply7 .given .1) (c .saying9 .ensures)
 
 returns-10 : tie.Need-returns-10
 unfolding shown
-returns-10 c =
-    let g = c .before .reply7 .given .0 .0 in
-    let same : toZ w8 (ofZ w8 g) ≡ g = search needs in
-    rw (c .before .reply7 .given .1, same)
+returns-10 c = rw (c .before .enum-told3 .given .1) (c .saying10 .ensures)
 
 returns-11 : tie.Need-returns-11
 unfolding shown
-returns-11 c = rw (c .before .before .reply8 .given .1) (c .saying10 .ensures)
+returns-11 c =
+    let g = c .before .reply8 .given .0 .0 in
+    let same : toZ w8 (ofZ w8 g) ≡ g = search needs in
+    rw (c .before .reply8 .given .1, same)
 
 returns-12 : tie.Need-returns-12
 unfolding shown
@@ -178,11 +193,19 @@ returns-13 c = rw (c .before .before .reply10 .given .1) (c .saying12 .ensures)
 
 returns-14 : tie.Need-returns-14
 unfolding shown
-returns-14 c = rw (c .before .enum-told4 .given .1) (c .refusing .ensures)
+returns-14 c = rw (c .before .before .reply11 .given .1) (c .saying13 .ensures)
 
 returns-15 : tie.Need-returns-15
 unfolding shown
-returns-15 c = rw (c .before .enum-told5 .given .1) (c .refusing2 .ensures)
+returns-15 c = rw (c .before .enum-told4 .given .1) (c .refusing .ensures)
+
+returns-16 : tie.Need-returns-16
+unfolding shown
+returns-16 c = rw (c .before .enum-told5 .given .1) (c .refusing2 .ensures)
+
+returns-17 : tie.Need-returns-17
+unfolding shown
+returns-17 c = rw (c .before .enum-told6 .given .1) (c .refusing3 .ensures)
 
 pub shown-by-spec : {M : Type 1} → statement M
 shown-by-spec =
@@ -209,23 +232,28 @@ shown-by-spec =
     cast-saying-5
     saying-requires-7
     enum-known-reply-6
-    saying-requires-8
-    enum-told-3
-    saying-requires-9
-    enum-known-reply-7
-    enum-known-reply-8
     cast-saying-6
+    saying-requires-8
+    enum-known-reply-7
+    saying-requires-9
+    enum-told-3
     saying-requires-10
+    enum-known-reply-8
     enum-known-reply-9
     cast-saying-7
     saying-requires-11
     enum-known-reply-10
     cast-saying-8
     saying-requires-12
+    enum-known-reply-11
+    cast-saying-9
+    saying-requires-13
     enum-told-4
     refusing-requires
     enum-told-5
     refusing-requires-2
+    enum-told-6
+    refusing-requires-3
     returns
     returns-2
     returns-3
@@ -240,4 +268,6 @@ shown-by-spec =
     returns-12
     returns-13
     returns-14
-    returns-15)
+    returns-15
+    returns-16
+    returns-17)

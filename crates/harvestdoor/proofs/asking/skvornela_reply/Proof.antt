@@ -27,7 +27,7 @@ returns c =
     let start = wish .before .before in
     let a = start .args in
     let gain = toZ-ofZ (start .fits .gain) in
-    let is = wished (a .which) (a .byte) (a .mode) (a .word) (a .hertz) (a .gain) _ _ gain (wish .wish-of .ensures) in
+    let is = wished (a .which) (a .byte) (a .mode) (a .word) (a .hertz) (a .channel) (a .gain) _ _ gain (wish .wish-of .ensures) in
     let fits : SFits w8 (c .before .shown-by .result .gain) = record { sfits = c .struct-told .given .1 .1 .1 .1 .1 .0 .1 } in
     let level : toZ w8 (ofZ w8 (c .before .shown-by .result .gain)) ≡ c .before .shown-by .result .gain = toZ-ofZ fits in
     rw level (c .before .shown-by .ensures ∙ ap shown (read .read .ensures ∙ ap (λ (w : Wish). replyReaderSays w (a .bytes .now)) is))

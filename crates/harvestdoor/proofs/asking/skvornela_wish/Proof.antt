@@ -25,7 +25,7 @@ returns c =
     let start = wish .before .before in
     let a = start .args in
     let gain = toZ-ofZ (start .fits .gain) in
-    let is = wished (a .which) (a .byte) (a .mode) (a .word) (a .hertz) (a .gain) _ _ gain (wish .wish-of .ensures) in
+    let is = wished (a .which) (a .byte) (a .mode) (a .word) (a .hertz) (a .channel) (a .gain) _ _ gain (wish .wish-of .ensures) in
     rw (← is) (c .wrote-by .ensures ∙ write .write .ensures .0, write .write .ensures .1)
 
 pub skvornela-wish-spec : {M : Type 1} → statement M

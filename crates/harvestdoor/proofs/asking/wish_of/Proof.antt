@@ -60,7 +60,7 @@ returns-10 c = rw (c .match .keys10)
 
 returns-11 : tie.Need-returns-11
 unfolding wishTable
-returns-11 c = rw (c .match .keys11) (ap W.SetGain (toZ-ofZ (c .before .fits .gain)))
+returns-11 c = rw (c .match .keys11)
 
 returns-12 : tie.Need-returns-12
 unfolding wishTable
@@ -68,7 +68,7 @@ returns-12 c = rw (c .match .keys12)
 
 returns-13 : tie.Need-returns-13
 unfolding wishTable
-returns-13 c = rw (c .match .keys13)
+returns-13 c = rw (c .match .keys13) (ap (W.SetGain (c .before .args .channel)) (toZ-ofZ (c .before .fits .gain)))
 
 returns-14 : tie.Need-returns-14
 unfolding wishTable
@@ -92,10 +92,18 @@ returns-18 c = rw (c .match .keys18)
 
 returns-19 : tie.Need-returns-19
 unfolding wishTable
-returns-19 c =
+returns-19 c = rw (c .match .keys19)
+
+returns-20 : tie.Need-returns-20
+unfolding wishTable
+returns-20 c = rw (c .match .keys20)
+
+returns-21 : tie.Need-returns-21
+unfolding wishTable
+returns-21 c =
     let a = c .before .args in
-    sym
-    (List·getD-eq-default (wishTable (a .byte) (a .mode) (a .gain) (a .word) (a .hertz)) noWish (past 18 (a .which) (c .match .rest)))
+    let table = wishTable (a .byte) (a .mode) (a .gain) (a .word) (a .hertz) (a .channel) in
+    sym (List·getD-eq-default table noWish (past 20 (a .which) (c .match .rest)))
 
 pub wish-of-spec : {M : Type 1} → statement M
 wish-of-spec =
@@ -119,4 +127,6 @@ wish-of-spec =
     returns-16
     returns-17
     returns-18
-    returns-19)
+    returns-19
+    returns-20
+    returns-21)

@@ -12,7 +12,7 @@ use borrow.Author.Needs.{needs}
 use Rattle.harvestdoor.proofs.reading.skvornela_read.Statement.{statement}
 use Rattle.harvestdoor.proofs.reading.skvornela_read.Tie as tie
 
--- the packet was read by the reader of the 33 bytes
+-- the packet was read by the reader of the 34 bytes
 abbrev whole : tie.After-read → tie.Then1
 whole c = c .before .before .before
 

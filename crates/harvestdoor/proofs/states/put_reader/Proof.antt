@@ -1,4 +1,4 @@
--- Five fields fill the 33 bytes.
+-- Six fields fill the 34 bytes.
 use Rattle.harvestdoor.proofs.Fields.{reader-stored}
 use borrow.Author.Needs.{needs}
 use Rattle.harvestdoor.proofs.states.put_reader.Statement.{statement}
@@ -22,20 +22,27 @@ cast-put c = search needs
 put-requires-5 : tie.Need-put-requires-5
 put-requires-5 c κs = search needs
 
+cast-put-2 : tie.Need-cast-put-2
+cast-put-2 c = search needs
+
+put-requires-6 : tie.Need-put-requires-6
+put-requires-6 c κs = search needs
+
 same-length : tie.Need-same-length
 same-length c = search needs
 
 returns : tie.Need-returns
 returns c =
-    let fifth = c .before .before in
+    let sixth = c .before .before in
+    let fifth = sixth .before .before .before .before .before in
     let fourth = fifth .before .before .before .before .before in
     let third = fourth .before .before .before .before in
     let second = third .before .before .before .before in
     let first = second .before .before .before .before in
     let start = first .before .before .before .before in
-    reader-stored (start .args .r) (start .args .b .now) _ _ _ _ _ (start .pre)
+    reader-stored (start .args .r) (start .args .b .now) _ _ _ _ _ _ (start .pre)
     (first .put .ensures) (second .put2 .ensures) (third .put3 .ensures) (fourth .put4 .ensures)
-    (fifth .put5 .ensures)
+    (fifth .put5 .ensures) (sixth .put6 .ensures)
 
 pub put-reader-spec : {M : Type 1} → statement M
 put-reader-spec =
@@ -47,5 +54,7 @@ put-reader-spec =
     put-requires-4
     cast-put
     put-requires-5
+    cast-put-2
+    put-requires-6
     same-length
     returns)

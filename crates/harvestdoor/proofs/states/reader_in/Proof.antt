@@ -7,6 +7,9 @@ use Rattle.harvestdoor.proofs.states.reader_in.Tie as tie
 shared-slice-read-t3 : tie.Need-shared-slice-read-t3
 shared-slice-read-t3 c = search needs
 
+shared-slice-read-t6 : tie.Need-shared-slice-read-t6
+shared-slice-read-t6 c = search needs
+
 number-at-requires : tie.Need-number-at-requires
 number-at-requires c κs = search needs
 
@@ -31,6 +34,7 @@ reader-in-spec =
     tie.close
     (tie.spec
     shared-slice-read-t3
+    shared-slice-read-t6
     number-at-requires
     number-at-requires-2
     number-at-requires-3

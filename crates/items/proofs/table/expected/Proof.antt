@@ -37,6 +37,9 @@ set-or-asked-requires-4 c κs = search needs
 set-or-asked-requires-5 : tie.Need-set-or-asked-requires-5
 set-or-asked-requires-5 c κs = search needs
 
+set-or-asked-requires-6 : tie.Need-set-or-asked-requires-6
+set-or-asked-requires-6 c κs = search needs
+
 returns : tie.Need-returns
 unfolding listedItem rowOf
 returns c = rw (c .before .match .keys1) (c .asked .ensures)
@@ -63,23 +66,23 @@ returns-6 c = rw (c .before .match .keys6) (c .set-or-asked .ensures)
 
 returns-7 : tie.Need-returns-7
 unfolding listedItem rowOf
-returns-7 c = rw (c .before .match .keys7, c .match2 .keys1) refl
+returns-7 c = rw (c .before .match .keys7) (c .set-or-asked2 .ensures)
 
 returns-8 : tie.Need-returns-8
 unfolding listedItem rowOf
-returns-8 c = rw (c .before .match .keys7, c .match2 .keys2) refl
+returns-8 c = rw (c .before .match .keys8, c .match2 .keys1) refl
 
 returns-9 : tie.Need-returns-9
 unfolding listedItem rowOf
-returns-9 c = rw (c .before .match .keys7, c .match2 .keys3) refl
+returns-9 c = rw (c .before .match .keys8, c .match2 .keys2) refl
 
 returns-10 : tie.Need-returns-10
 unfolding listedItem rowOf
-returns-10 c = rw (c .before .match .keys7) (else _ _ _ _ (c .match2 .rest .0 .0 .1) (c .match2 .rest .0 .1) (c .match2 .rest .1))
+returns-10 c = rw (c .before .match .keys8, c .match2 .keys3) refl
 
 returns-11 : tie.Need-returns-11
 unfolding listedItem rowOf
-returns-11 c = rw (c .before .match .keys8) (c .set-or-asked2 .ensures)
+returns-11 c = rw (c .before .match .keys8) (else _ _ _ _ (c .match2 .rest .0 .0 .1) (c .match2 .rest .0 .1) (c .match2 .rest .1))
 
 returns-12 : tie.Need-returns-12
 unfolding listedItem rowOf
@@ -95,16 +98,21 @@ returns-14 c = rw (c .before .match .keys11) (c .set-or-asked5 .ensures)
 
 returns-15 : tie.Need-returns-15
 unfolding listedItem rowOf
-returns-15 c =
+returns-15 c = rw (c .before .match .keys12) (c .set-or-asked6 .ensures)
+
+returns-16 : tie.Need-returns-16
+unfolding listedItem rowOf
+returns-16 c =
     let r = c .match .rest in
     let n = c .before .args .item in
     simp (
-      ne-eqb n 1 (r .0 .0 .0 .0 .0 .0 .0 .0 .0 .0 .1),
-      ne-eqb n 2 (r .0 .0 .0 .0 .0 .0 .0 .0 .0 .1),
-      ne-eqb n 3 (r .0 .0 .0 .0 .0 .0 .0 .0 .1),
-      ne-eqb n 4 (r .0 .0 .0 .0 .0 .0 .0 .1),
-      ne-eqb n 5 (r .0 .0 .0 .0 .0 .0 .1),
-      ne-eqb n 24 (r .0 .0 .0 .0 .0 .1),
+      ne-eqb n 1 (r .0 .0 .0 .0 .0 .0 .0 .0 .0 .0 .0 .1),
+      ne-eqb n 2 (r .0 .0 .0 .0 .0 .0 .0 .0 .0 .0 .1),
+      ne-eqb n 3 (r .0 .0 .0 .0 .0 .0 .0 .0 .0 .1),
+      ne-eqb n 4 (r .0 .0 .0 .0 .0 .0 .0 .0 .1),
+      ne-eqb n 5 (r .0 .0 .0 .0 .0 .0 .0 .1),
+      ne-eqb n 24 (r .0 .0 .0 .0 .0 .0 .1),
+      ne-eqb n 25 (r .0 .0 .0 .0 .0 .1),
       ne-eqb n 32 (r .0 .0 .0 .0 .1),
       ne-eqb n 56 (r .0 .0 .0 .1),
       ne-eqb n 176 (r .0 .0 .1),
@@ -126,6 +134,7 @@ expected-spec =
     set-or-asked-requires-3
     set-or-asked-requires-4
     set-or-asked-requires-5
+    set-or-asked-requires-6
     returns
     returns-2
     returns-3
@@ -140,4 +149,5 @@ expected-spec =
     returns-12
     returns-13
     returns-14
-    returns-15)
+    returns-15
+    returns-16)

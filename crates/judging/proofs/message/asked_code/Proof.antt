@@ -30,7 +30,7 @@ returns-3 c = rw (c .before .match .keys3) (c .asked-channel2 .ensures)
 returns-4 : tie.Need-returns-4
 returns-4 c =
     let a = c .before .before .args in
-    asked-else (a .item) (c .match .rest .0 .0 .1) (c .match .rest .0 .1) (c .match .rest .1) (now (a .p))
+    asked-else (a .item) (c .match .rest .0 .0 .1) (c .match .rest .0 .1) (c .match .rest .1) (a .setup) (now (a .p))
 
 pub asked-code-spec : {M : Type 1} → statement M
 asked-code-spec =

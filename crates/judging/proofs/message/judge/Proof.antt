@@ -116,8 +116,8 @@ returns-4 c =
     let a = asked (d .before) in
     ap (λ (n : ℕ). record { code = n; settings = a .args .s })
     (c .asked-code .ensures
-    ∙ ap (λ (p : List ℕ). askedBy (rowOf (d .before .before .item-in .result)) p) (rest-part 4 (now (a .args .opening)))
-    ∙ ap (λ (n : ℕ). askedBy (rowOf n) (parameters (message a))) (d .before .before .item-in .ensures))
+    ∙ ap (λ (p : List ℕ). askedBy (a .args .s .setup) (rowOf (d .before .before .item-in .result)) p) (rest-part 4 (now (a .args .opening)))
+    ∙ ap (λ (n : ℕ). askedBy (a .args .s .setup) (rowOf n) (parameters (message a))) (d .before .before .item-in .ensures))
     ∙ asked-judged (a .args .s) (message a) (c .before .before .if3 .left)
     (by-item (a .args .s) (message a) (header-passed (d .before .before .before)) (table-passed d))
 

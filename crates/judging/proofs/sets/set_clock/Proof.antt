@@ -26,17 +26,24 @@ is-clock-requires c κs = search needs
 set-code-requires : tie.Need-set-code-requires
 set-code-requires c κs = search needs
 
-tune-requires : tie.Need-tune-requires
-tune-requires c κs = search needs
+renew-requires : tie.Need-renew-requires
+renew-requires c κs = search needs
 
 returns : tie.Need-returns
 returns c =
-    let coded = c .before .before in
+    let coded = c .before in
     let a = coded .before .before .before .before .args in
     let hz = coded .before .before .number-at .ensures in
     set-by clock (a .s) (now (a .p)) (coded .set-code .ensures) refl (rw hz at (coded .before .is-clock .ensures))
-    (sym (and-false (a .s .running))) (c .tune .ensures) (λ e. ap (λ (n : ℕ). withClock n (a .s)) hz)
+    (sym (and-false (a .s .running))) (c .renew .ensures) (λ e. ap (λ (n : ℕ). withClock n (a .s)) hz)
 
 pub set-clock-spec : {M : Type 1} → statement M
 set-clock-spec =
-    tie.close (tie.spec number-at-requires cast-hz is-clock-requires set-code-requires tune-requires returns)
+    tie.close
+    (tie.spec
+    number-at-requires
+    cast-hz
+    is-clock-requires
+    set-code-requires
+    renew-requires
+    returns)

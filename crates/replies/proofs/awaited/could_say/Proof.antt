@@ -51,25 +51,36 @@ is-state-requires c κs = search needs
 enum-told-6 : tie.Need-enum-told-6
 enum-told-6 c = search needs
 
-in-bands-requires : tie.Need-in-bands-requires
-in-bands-requires c κs = search needs
+cast-is-setup : tie.Need-cast-is-setup
+cast-is-setup c =
+    let byte : c .before .before .args .n < 256 = rw (c .enum-told6 .given .1) at (c .before .before .pre .2) in
+    record { fits = omega arith }
+
+is-setup-requires : tie.Need-is-setup-requires
+is-setup-requires c κs = search needs
 
 enum-told-7 : tie.Need-enum-told-7
 enum-told-7 c = search needs
 
+in-bands-requires : tie.Need-in-bands-requires
+in-bands-requires c κs = search needs
+
+enum-told-8 : tie.Need-enum-told-8
+enum-told-8 c = search needs
+
 cast-is-gain : tie.Need-cast-is-gain
 cast-is-gain c =
-    let byte : c .before .before .args .n < 256 = rw (c .enum-told7 .given .1) at (c .before .before .pre .2) in
+    let byte : c .before .before .args .n < 256 = rw (c .enum-told8 .given .1) at (c .before .before .pre .2) in
     record { fits = omega arith }
 
 is-gain-requires : tie.Need-is-gain-requires
 is-gain-requires c κs = search needs
 
-enum-told-8 : tie.Need-enum-told-8
-enum-told-8 c = search needs
+enum-told-9 : tie.Need-enum-told-9
+enum-told-9 c = search needs
 
 cast-is-clock : tie.Need-cast-is-clock
-cast-is-clock c = record { fits = rw (c .enum-told8 .given .1) at (c .before .before .pre .2) }
+cast-is-clock c = record { fits = rw (c .enum-told9 .given .1) at (c .before .before .pre .2) }
 
 is-clock-requires : tie.Need-is-clock-requires
 is-clock-requires c κs = search needs
@@ -86,21 +97,21 @@ achieved-requires c κs = search needs
 cast-result : tie.Need-cast-result
 cast-result c = search needs
 
-enum-told-9 : tie.Need-enum-told-9
-enum-told-9 c = search needs
+enum-told-10 : tie.Need-enum-told-10
+enum-told-10 c = search needs
 
 cast-d-of : tie.Need-cast-d-of
-cast-d-of c = record { fits = rw (c .enum-told9 .given .1) at (c .before .before .pre .2) }
+cast-d-of c = record { fits = rw (c .enum-told10 .given .1) at (c .before .before .pre .2) }
 
 d-of-requires : tie.Need-d-of-requires
 d-of-requires c κs = search needs
 
-enum-told-10 : tie.Need-enum-told-10
-enum-told-10 c = search needs
+enum-told-11 : tie.Need-enum-told-11
+enum-told-11 c = search needs
 
 cast-is-size : tie.Need-cast-is-size
 cast-is-size c =
-    let byte : c .before .before .args .n < 256 = rw (c .enum-told10 .given .1) at (c .before .before .pre .2) in
+    let byte : c .before .before .args .n < 256 = rw (c .enum-told11 .given .1) at (c .before .before .pre .2) in
     record { fits = omega arith }
 
 is-size-requires : tie.Need-is-size-requires
@@ -131,34 +142,37 @@ returns-7 : tie.Need-returns-7
 returns-7 c = rw (c .before .enum-told5 .given .1) (c .is-state .ensures)
 
 returns-8 : tie.Need-returns-8
-returns-8 c = rw (c .before .enum-told6 .given .1) (c .in-bands .ensures)
+returns-8 c = rw (c .before .enum-told6 .given .1) (c .is-setup .ensures)
 
 returns-9 : tie.Need-returns-9
-returns-9 c = rw (c .before .enum-told7 .given .1) (c .is-gain .ensures)
+returns-9 c = rw (c .before .enum-told7 .given .1) (c .in-bands .ensures)
 
 returns-10 : tie.Need-returns-10
-returns-10 c = rw (c .before .enum-told8 .given .1) (c .is-clock .ensures)
+returns-10 c = rw (c .before .enum-told8 .given .1) (c .is-gain .ensures)
 
 returns-11 : tie.Need-returns-11
-returns-11 c =
+returns-11 c = rw (c .before .enum-told9 .given .1) (c .is-clock .ensures)
+
+returns-12 : tie.Need-returns-12
+returns-12 c =
     let k = c .before .before in
     let start = k .before .before .before in
     let asked = rw (k .before .w3 .given .1) at (start .pre .0) in
     rw (k .before .w3 .given .1)
     (ap (eqb (start .args .n)) (rate-achieved _ _ _ asked (c .before .nearest .ensures) (c .achieved .ensures)))
 
-returns-12 : tie.Need-returns-12
-returns-12 c = rw (c .before .enum-told9 .given .1) (ap (ltb 0) (c .d-of .ensures) ∙ rate-listed _)
-
 returns-13 : tie.Need-returns-13
-returns-13 c = rw (c .before .enum-told10 .given .1) (c .is-size .ensures)
+returns-13 c = rw (c .before .enum-told10 .given .1) (ap (ltb 0) (c .d-of .ensures) ∙ rate-listed _)
 
 returns-14 : tie.Need-returns-14
+returns-14 c = rw (c .before .enum-told11 .given .1) (c .is-size .ensures)
+
+returns-15 : tie.Need-returns-15
 unfolding echoed
-returns-14 c =
+returns-15 c =
     let start = c .before .before .before in
     ap (λ (a : Layout). eqb (start .args .n) (a .value)) (c .before .layout-of .ensures)
-    ∙ echoes (start .args .w) (start .args .n) (matched echoed echoed _ refl (c .before .before .match .keys14)) (start .pre .1)
+    ∙ echoes (start .args .w) (start .args .n) (matched echoed echoed _ refl (c .before .before .match .keys15)) (start .pre .1)
 
 pub could-say-spec : {M : Type 1} → statement M
 could-say-spec =
@@ -177,21 +191,24 @@ could-say-spec =
     enum-told-5
     is-state-requires
     enum-told-6
-    in-bands-requires
+    cast-is-setup
+    is-setup-requires
     enum-told-7
+    in-bands-requires
+    enum-told-8
     cast-is-gain
     is-gain-requires
-    enum-told-8
+    enum-told-9
     cast-is-clock
     is-clock-requires
     enum-known-w-3
     nearest-requires
     achieved-requires
     cast-result
-    enum-told-9
+    enum-told-10
     cast-d-of
     d-of-requires
-    enum-told-10
+    enum-told-11
     cast-is-size
     is-size-requires
     layout-of-requires
@@ -208,4 +225,5 @@ could-say-spec =
     returns-11
     returns-12
     returns-13
-    returns-14)
+    returns-14
+    returns-15)

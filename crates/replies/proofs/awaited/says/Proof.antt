@@ -5,7 +5,7 @@ use borrow.Author.Needs.{needs}
 use mir.Syntax.{w8}
 use mir.Facts.{toZ-ofZ}
 use Rattle.wire.specs.Signed.{signed}
-use Rattle.replies.specs.declared.Reply.the-variants.{Frequency, Gain, Clock, Rate, PacketSize}
+use Rattle.replies.specs.declared.Reply.the-variants.{ChannelSetup, Frequency, Gain, Clock, Rate, PacketSize}
 use Rattle.replies.specs.Awaited.{saysState}
 use Rattle.replies.proofs.Tags.{widths, width-in, sayings, says-in}
 use Rattle.replies.proofs.awaited.says.Statement.{statement}
@@ -35,23 +35,23 @@ enum-told-4 c = search needs
 state-in-requires : tie.Need-state-in-requires
 state-in-requires c κs = search needs
 
+cast-t9 : tie.Need-cast-t9
+unfolding widths
+cast-t9 c =
+    let width = width-in 1 (7 ∷ 8 ∷ []) (c .before .args .w) refl (refl, (refl, tt)) (c .match .keys7) in
+    record { fits = rw (← width) at (c .before .pre) }
+
 enum-told-5 : tie.Need-enum-told-5
 enum-told-5 c = search needs
 
 cast-signed-byte : tie.Need-cast-signed-byte
 unfolding widths
 cast-signed-byte c =
-    let width = width-in 1 (10 ∷ 11 ∷ []) (c .before .args .w) refl (refl, (refl, tt)) (c .match .keys9) in
+    let width = width-in 1 (12 ∷ 13 ∷ []) (c .before .args .w) refl (refl, (refl, tt)) (c .match .keys10) in
     record { fits = rw (← width) at (c .before .pre) }
 
 signed-byte-requires : tie.Need-signed-byte-requires
 signed-byte-requires c κs = search needs
-
-cast-t11 : tie.Need-cast-t11
-unfolding widths
-cast-t11 c =
-    let width = width-in 4 (12 ∷ 13 ∷ []) (c .before .args .w) refl (refl, (refl, tt)) (c .match .keys10) in
-    record { fits = rw (← width) at (c .before .pre) }
 
 cast-t12 : tie.Need-cast-t12
 unfolding widths
@@ -62,7 +62,13 @@ cast-t12 c =
 cast-t13 : tie.Need-cast-t13
 unfolding widths
 cast-t13 c =
-    let width = width-in 1 (16 ∷ 17 ∷ []) (c .before .args .w) refl (refl, (refl, tt)) (c .match .keys12) in
+    let width = width-in 4 (16 ∷ 17 ∷ []) (c .before .args .w) refl (refl, (refl, tt)) (c .match .keys12) in
+    record { fits = rw (← width) at (c .before .pre) }
+
+cast-t14 : tie.Need-cast-t14
+unfolding widths
+cast-t14 c =
+    let width = width-in 1 (18 ∷ 19 ∷ []) (c .before .args .w) refl (refl, (refl, tt)) (c .match .keys13) in
     record { fits = rw (← width) at (c .before .pre) }
 
 returns : tie.Need-returns
@@ -91,35 +97,41 @@ returns-7 : tie.Need-returns-7
 unfolding sayings
 returns-7 c =
     let a = c .before .args in
-    says-in (a .n) (Frequency (a .n)) (7 ∷ 8 ∷ []) (a .w) refl ((refl, refl), ((refl, refl), tt)) (c .match .keys7)
+    says-in (a .n) (ChannelSetup (a .n)) (7 ∷ 8 ∷ []) (a .w) refl ((refl, refl), ((refl, refl), tt)) (c .match .keys7)
 
 returns-8 : tie.Need-returns-8
-returns-8 c = rw (c .enum-told5 .given .1)
+unfolding sayings
+returns-8 c =
+    let a = c .before .args in
+    says-in (a .n) (Frequency (a .n)) (9 ∷ 10 ∷ []) (a .w) refl ((refl, refl), ((refl, refl), tt)) (c .match .keys8)
 
 returns-9 : tie.Need-returns-9
-unfolding sayings
-returns-9 c =
-    let a = c .before .before .args in
-    ap Gain (toZ-ofZ {w = w8} (record { sfits = c .signed-byte .ok }) ∙ c .signed-byte .ensures)
-    ∙ says-in (a .n) (Gain (signed 8 (a .n))) (10 ∷ 11 ∷ []) (a .w) refl ((refl, refl), ((refl, refl), tt)) (c .before .match .keys9)
+returns-9 c = rw (c .enum-told5 .given .1)
 
 returns-10 : tie.Need-returns-10
 unfolding sayings
 returns-10 c =
-    let a = c .before .args in
-    says-in (a .n) (Clock (a .n)) (12 ∷ 13 ∷ []) (a .w) refl ((refl, refl), ((refl, refl), tt)) (c .match .keys10)
+    let a = c .before .before .args in
+    ap Gain (toZ-ofZ {w = w8} (record { sfits = c .signed-byte .ok }) ∙ c .signed-byte .ensures)
+    ∙ says-in (a .n) (Gain (signed 8 (a .n))) (12 ∷ 13 ∷ []) (a .w) refl ((refl, refl), ((refl, refl), tt)) (c .before .match .keys10)
 
 returns-11 : tie.Need-returns-11
 unfolding sayings
 returns-11 c =
     let a = c .before .args in
-    says-in (a .n) (Rate (a .n)) (14 ∷ 15 ∷ []) (a .w) refl ((refl, refl), ((refl, refl), tt)) (c .match .keys11)
+    says-in (a .n) (Clock (a .n)) (14 ∷ 15 ∷ []) (a .w) refl ((refl, refl), ((refl, refl), tt)) (c .match .keys11)
 
 returns-12 : tie.Need-returns-12
 unfolding sayings
 returns-12 c =
     let a = c .before .args in
-    says-in (a .n) (PacketSize (a .n)) (16 ∷ 17 ∷ []) (a .w) refl ((refl, refl), ((refl, refl), tt)) (c .match .keys12)
+    says-in (a .n) (Rate (a .n)) (16 ∷ 17 ∷ []) (a .w) refl ((refl, refl), ((refl, refl), tt)) (c .match .keys12)
+
+returns-13 : tie.Need-returns-13
+unfolding sayings
+returns-13 c =
+    let a = c .before .args in
+    says-in (a .n) (PacketSize (a .n)) (18 ∷ 19 ∷ []) (a .w) refl ((refl, refl), ((refl, refl), tt)) (c .match .keys13)
 
 pub says-spec : {M : Type 1} → statement M
 says-spec =
@@ -133,12 +145,13 @@ says-spec =
     cast-t6
     enum-told-4
     state-in-requires
+    cast-t9
     enum-told-5
     cast-signed-byte
     signed-byte-requires
-    cast-t11
     cast-t12
     cast-t13
+    cast-t14
     returns
     returns-2
     returns-3
@@ -150,4 +163,5 @@ says-spec =
     returns-9
     returns-10
     returns-11
-    returns-12)
+    returns-12
+    returns-13)

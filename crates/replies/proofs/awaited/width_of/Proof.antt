@@ -27,24 +27,28 @@ returns-3 c = width-in 2 (2 ∷ 3 ∷ []) (c .before .args .w) refl (refl, (refl
 
 returns-4 : tie.Need-returns-4
 unfolding widths
-returns-4 c = width-in 5 (7 ∷ 8 ∷ []) (c .before .args .w) refl (refl, (refl, tt)) (c .match .keys4)
+returns-4 c = width-in 5 (9 ∷ 10 ∷ []) (c .before .args .w) refl (refl, (refl, tt)) (c .match .keys4)
 
 returns-5 : tie.Need-returns-5
 returns-5 c = rw (c .enum-told3 .given .1)
 
 returns-6 : tie.Need-returns-6
 unfolding widths
-returns-6 c = width-in 1 (4 ∷ 10 ∷ 11 ∷ []) (c .before .args .w) refl (refl, (refl, (refl, tt))) (c .match .keys6)
+returns-6 c = width-in 1 (7 ∷ 8 ∷ []) (c .before .args .w) refl (refl, (refl, tt)) (c .match .keys6)
 
 returns-7 : tie.Need-returns-7
 unfolding widths
-returns-7 c = width-in 1 (16 ∷ 17 ∷ []) (c .before .args .w) refl (refl, (refl, tt)) (c .match .keys7)
+returns-7 c = width-in 1 (4 ∷ 12 ∷ 13 ∷ []) (c .before .args .w) refl (refl, (refl, (refl, tt))) (c .match .keys7)
 
 returns-8 : tie.Need-returns-8
 unfolding widths
-returns-8 c =
-    width-in 4 (5 ∷ 6 ∷ 12 ∷ 13 ∷ 14 ∷ 15 ∷ []) (c .before .args .w) refl
-    (refl, (refl, (refl, (refl, (refl, (refl, tt)))))) (c .match .keys8)
+returns-8 c = width-in 1 (18 ∷ 19 ∷ []) (c .before .args .w) refl (refl, (refl, tt)) (c .match .keys8)
+
+returns-9 : tie.Need-returns-9
+unfolding widths
+returns-9 c =
+    width-in 4 (5 ∷ 6 ∷ 14 ∷ 15 ∷ 16 ∷ 17 ∷ []) (c .before .args .w) refl
+    (refl, (refl, (refl, (refl, (refl, (refl, tt)))))) (c .match .keys9)
 
 pub width-of-spec : {M : Type 1} → statement M
 width-of-spec =
@@ -60,4 +64,5 @@ width-of-spec =
     returns-5
     returns-6
     returns-7
-    returns-8)
+    returns-8
+    returns-9)
