@@ -1,14 +1,14 @@
 -- Each code of cutting on its condition, the earlier ones absent; and what a code comes to.
 -- Assumes nothing.
 use Prim.Native.Nat.{ℕ, _*_, _≤_, _<_}
-use mathlib.Core.Path.{_≡_, refl}
-use mathlib.Core.Bool.{Bool, true, false}
+use mathlib.Core.Path.{_≡_, refl, sym, _∙_}
+use mathlib.Core.Bool.{Bool, true, false, _&&_, and-true}
 use mathlib.Core.List.{List}
 use native.Mathlib.Omega.{arith}
-use lib.Dec.{ltb}
+use lib.Dec.{leb, ltb}
 use lib.IntN.{ℤ}
 use lib.ListN.{length}
-use borrow.Author.Tests.{le-leb, lt-leb, lt-ltb, le-ltb, eq-eqb, ne-eqb}
+use borrow.Author.Tests.{le-leb, leb-false, lt-leb, lt-ltb, le-ltb, eq-eqb, ne-eqb}
 use Rattle.wire.specs.Choice.{pick}
 use Rattle.packets.specs.Forms.{totalOf}
 use Rattle.packets.specs.Numbers.{most}
@@ -65,12 +65,18 @@ module _ (s : Station) (samples : List ℤ) (room : ℕ) where
   unfolding cuttingOf
   cuts e = rw e
 
-  -- no room for the packet: 24 where a sample lies outside 24 bits, else 20
-  pub refuses-short : valid s ≡ true → s .settings .running ≡ true → s .settings .count < most
+  -- Nothing was packed, since there is no room or a sample lies outside 24 bits: 24 where one does, else 20.
+  pub refuses-unpacked : valid s ≡ true → s .settings .running ≡ true → s .settings .count < most
       → length samples ≡ 2 * formNow (s .settings) .pairs
-      → room < totalOf (formNow (s .settings)) → refused (pick (allSamples samples) 20 24) s ≡ cuttingOf s samples room
-  refuses-short v r m n h = go (allSamples samples) refl
+      → (leb (totalOf (formNow (s .settings))) room && allSamples samples) ≡ false
+      → refused (pick (allSamples samples) 20 24) s ≡ cuttingOf s samples room
+  refuses-unpacked v r m n h = go (allSamples samples) refl
     where
+      total : ℕ
+      total = totalOf (formNow (s .settings))
+
       go : (b : Bool) → allSamples samples ≡ b → refused (pick b 20 24) s ≡ cuttingOf s samples room
-      go true a = refuses 20 (code-20 s samples room v r m n a h) (λ e. omega arith)
+      go true a =
+          let short : room < total = leb-false total room (sym (and-true (leb total room)) ∙ (rw a at h)) in
+          refuses 20 (code-20 s samples room v r m n a short) (λ e. omega arith)
       go false a = refuses 24 (code-24 s samples room v r m n a) (λ e. omega arith)

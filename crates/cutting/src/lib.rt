@@ -86,13 +86,10 @@ pub fn cut_held(
     if samples.len() as u64 != 2 * form.pairs {
         return refused(codes::WRONG_COUNT, settings);
     }
-    let total = packets::total_of(form);
-    if (packet.len() as u64) < total {
-        return too_short(settings, samples);
-    }
     if !samples::pack(form, samples, packet) {
-        return refused(codes::NOT_A_SAMPLE, settings);
+        return not_packed(settings, samples);
     }
+    let total = packets::total_of(form);
     put_leading(packet, total, count);
     counted(settings, total as usize)
 }
@@ -123,8 +120,8 @@ fn refused(code: u8, settings: Settings) -> CutHeld
     }
 }
 
-// No room for the packet: a sample outside 24 bits (24) is looked for before that (20).
-fn too_short(settings: Settings, samples: &[i32]) -> CutHeld
+// Nothing was packed, of the right number of samples: one outside 24 bits (24) is looked for before the room (20).
+fn not_packed(settings: Settings, samples: &[i32]) -> CutHeld
     ensures { λ r.
         ⌜ r ≡ record { code = pick (allSamples (now (samples .entry))) Code.noRoom Code.notASample; wrote = 0; settings = settings } ⌝ }
 {

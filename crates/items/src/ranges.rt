@@ -1,9 +1,7 @@
 // The settings' ranges: "A box with a field outside these rules is broken (21)."
 ghost use mathlib.Core.Path.{_≡_};
-ghost use mathlib.Core.Bool.{_&&_};
 ghost use lib.ListN.{length};
-ghost use Rattle.tuning.specs.Word.{isClock};
-ghost use Rattle.items.specs.Settings.{channelInRange, inRange, freshOf, freshAnswer, isMode, isGain, isSize, isSetup};
+ghost use Rattle.items.specs.Settings.{inRange, freshOf, freshAnswer, isMode, isGain, isSize, isSetup};
 ghost use Rattle.items.specs.Settings.{isSerialByte, allSerial, holdsSerial};
 use crate::Channel;
 use crate::FreshSettings;
@@ -15,29 +13,26 @@ pub const SINGLE: u16 = 0;
 
 pub const DUAL: u16 = 4;
 
-// Every setting lies within its range. The serial's bytes are tested first; of the numbers all are tested, none left
-// out because of another.
+// Every setting lies within its range: "A box whose stored word disagrees with its frequency and clock is broken (21)." The serial's
+// bytes are tested first; of the numbers all are tested, none left out because of another. (A channel goes by its numbers, and not as a
+// struct, and the serial's bytes are lent from a copy, not from one of all settings: where nothing is optimised that takes less stack,
+// on the way to cutting a packet.)
 pub fn in_range(s: Settings) -> bool
     ensures { λ r. ⌜ r ≡ inRange s ⌝ }
 {
-    if !all_serial(&s.serial) {
+    let serial = s.serial;
+    if !all_serial(&serial) {
         return false;
     }
-    is_tuned(s.first, s.clock)
-        & is_tuned(s.second, s.clock)
+    tuning::agree(s.first.frequency, s.clock, s.first.word)
+        & is_gain(s.first.gain)
+        & tuning::agree(s.second.frequency, s.clock, s.second.word)
+        & is_gain(s.second.gain)
         & (s.count <= packets::MOST)
         & rates::is_d(s.divisor)
         & is_size(s.size)
         & is_setup(s.setup)
         & is_mode(s.mode)
-}
-
-// The channel lies within its ranges at a clock that may be set: "A box whose stored word disagrees with its frequency and clock is
-// broken (21)."
-fn is_tuned(c: Channel, clock: u32) -> bool
-    ensures { λ r. ⌜ r ≡ (isClock clock && channelInRange clock c) ⌝ }
-{
-    tuning::agree(c.frequency, clock, c.word) & is_gain(c.gain)
 }
 
 // A fresh box with a serial: 1, or 26 and the serial 00000000 where these are not eight of A-Z, 0-9.

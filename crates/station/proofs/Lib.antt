@@ -7,3 +7,5 @@ pub mod Answers
 pub mod Calls
 pub mod Serving
 pub mod Setup
+pub mod Talks
+pub mod FreshBoxes

@@ -2,3 +2,4 @@ pub mod Station
 pub mod Feeding
 pub mod Serving
 pub mod Inside
+pub mod Talking

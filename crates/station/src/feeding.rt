@@ -5,7 +5,7 @@ ghost use lib.ListN.{length};
 ghost use lib.Seq.{sets};
 ghost use Rattle.framing.specs.Framing.{between, couldBeLeft};
 ghost use Rattle.answers.specs.Replies.{answerOf};
-ghost use Rattle.station.specs.Station.{boxOf};
+ghost use Rattle.station.specs.Station.{boxOf, valid};
 ghost use Rattle.station.specs.Feeding.{feedingOf, partsOf};
 ghost use Rattle.station.specs.Inside.{openedMessage};
 use crate::Fed;
@@ -66,6 +66,26 @@ pub fn feed_held(
     if !crate::is_sound(settings, held, taken) {
         return refused(codes::BROKEN, settings, taken);
     }
+    feed_sound(settings, held, taken, host, reply)
+}
+
+// The same of a box that is known to be valid: so who feeds one again and again need not test it each time.
+pub(crate) fn feed_sound(
+    settings: Settings,
+    held: &mut [u8],
+    taken: usize,
+    host: &[u8],
+    reply: &mut [u8],
+) -> FedHeld
+    requires { ⌜ valid (boxOf settings (now held) taken) ≡ true ⌝ }
+    ensures { λ r.
+        ⌜ (r ≡ partsOf (feedingOf (boxOf settings (now (held .entry)) taken) (now (host .entry)) (length (now (reply .entry))) .fed))
+        × (now (held .exit)
+        ≡ feedingOf (boxOf settings (now (held .entry)) taken) (now (host .entry)) (length (now (reply .entry))) .fed .station .store .held)
+        × (now (reply .exit)
+        ≡ sets (now (reply .entry)) 0
+        (feedingOf (boxOf settings (now (held .entry)) taken) (now (host .entry)) (length (now (reply .entry))) .bytes)) ⌝ }
+{
     let took = framing::take_in(held, taken, host);
     if !took.finished {
         return FedHeld {

@@ -1,8 +1,10 @@
 // The box of document 01: a fresh one, feeding it, and its tuning word.
 mod feeding; // feeding.rt: one call of feeding
+mod talking; // talking.rt: a host's whole talk with a fresh box
 
 pub use feeding::feed;
 pub use feeding::feed_held;
+pub use talking::serve_talk;
 ghost use mathlib.Core.Path.{_≡_};
 ghost use Rattle.station.specs.Station.{valid, boxOf, freshBox, freshStation, sessionSerial, tuningSays, tuningTold};
 use framing::Store;

@@ -3,22 +3,29 @@
 use Rattle.cutting.specs.Cutting.{packetOf}
 use lib.Seq.{sets}
 use Rattle.packets.specs.Samples.{allSamples}
-use Prim.Native.Nat.{ℕ, _*_, _≤_}
+use Prim.Native.Nat.{ℕ, _+_, _*_, _≤_}
 use native.Mathlib.Omega.{arith}
-use mathlib.Core.Path.{_≡_, refl, sym, ap, _∙_}
-use mathlib.Core.Bool.{true, false}
+use mathlib.Core.Path.{_≡_, refl, sym, ap, subst, _∙_}
+use mathlib.Core.Bool.{true, false, _&&_}
 use mathlib.Core.List.{List}
 use lib.IntN.{ℤ}
-use borrow.Author.Tests.{not-true, not-false}
+use borrow.Author.Tests.{not-true, not-false, leb-true}
+use lib.Dec.{leb}
+use Rattle.wire.proofs.Laws.{and-left, and-right}
+use Rattle.samples.specs.Packing.{mayPack}
 use lib.ListN.{length}
 use denote.Ref.{now}
 use Rattle.packets.specs.declared.Form.{Form}
 use Rattle.packets.specs.Forms.{listedForm, totalOf}
 use Rattle.packets.proofs.Forms.{is-listed-form}
+use Rattle.wire.specs.Codes as Code
+use Rattle.items.specs.declared.Settings.{Settings}
+use Rattle.items.specs.Settings.{withCount}
+use Rattle.cutting.specs.declared.CutHeld.{CutHeld}
 use Rattle.station.specs.Station.{boxOf, valid}
 use Rattle.station.specs.declared.Station.{Station}
 use Rattle.cutting.specs.Cutting.{formNow}
-use Rattle.cutting.proofs.Codes.{refuses-short, code-21, code-22, code-25, code-23, code-24, code-1, refuses, cuts}
+use Rattle.cutting.proofs.Codes.{refuses-unpacked, code-21, code-22, code-25, code-23, code-1, refuses, cuts}
 use Rattle.cutting.proofs.Formed.{valid-form, valid-size}
 use Rattle.cutting.proofs.Packing.{may-pack, packed-none, packet-stored}
 use borrow.Author.Needs.{needs}
@@ -82,24 +89,39 @@ many-at c = c .if4 .left
 count-at : (c : tie.Else4) → length (given (formed c)) ≡ 2 * formNow (box (formed c) .settings) .pairs
 count-at c = many-at c ∙ ap (λ (f : Form). 2 * f .pairs) (form-at (formed c))
 
--- its packet's length is known, and there is room for it
-abbrev counted : tie.After-total-of → tie.Else4
-counted c = c .before
+-- packing was tried: there is room and each sample has 24 bits, or it refused
+abbrev counted : tie.After-pack → tie.Else4
+counted c = c .before .before
 
-total-at : (c : tie.After-total-of) → c .total-of .result ≡ totalOf (form (formed (counted c)))
-total-at c = c .total-of .ensures ∙ rw (listed-at (formed (counted c)))
+abbrev at-pack : tie.After-pack → tie.After-form-for
+at-pack c = formed (counted c)
 
-abbrev totalled : tie.After-pack → tie.After-total-of
-totalled c = c .before .before .before
+packs-at : (c : tie.After-pack) → c .pack .result ≡ mayPack (form (at-pack c)) (given (at-pack c)) (room (at-pack c))
+packs-at c = c .pack .ensures .0
 
-fits-at : (c : tie.After-pack) → totalOf (form (formed (counted (totalled c)))) ≤ room (formed (counted (totalled c)))
-fits-at c = rw (total-at (totalled c)) at (c .before .before .if5 .left)
+-- what it looked for
+room-and-samples : (c : tie.After-pack)
+    → mayPack (form (at-pack c)) (given (at-pack c)) (room (at-pack c))
+    ≡ leb (totalOf (form (at-pack c))) (room (at-pack c)) && allSamples (given (at-pack c))
+room-and-samples c =
+    let f = at-pack c in
+    may-pack (form f) (given f) (room f) (listed-at f) (many-at (counted c))
 
--- packing tells whether each sample has 24 bits
-packs-at : (c : tie.After-pack) → c .pack .result ≡ allSamples (given (formed (counted (totalled c))))
-packs-at c =
-    let f = formed (counted (totalled c)) in
-    c .pack .ensures .0 ∙ may-pack (form f) (given f) (room f) (listed-at f) (many-at (counted (totalled c))) (fits-at c)
+-- it packed, and its packet's length is known
+abbrev packed : tie.After-total-of → tie.After-pack
+packed c = c .before .before .before .before
+
+good-at : (c : tie.After-total-of)
+    → mayPack (form (at-pack (packed c))) (given (at-pack (packed c))) (room (at-pack (packed c))) ≡ true
+good-at c = sym (packs-at (packed c)) ∙ not-false _ (c .before .if5 .left)
+
+fits-at : (c : tie.After-total-of) → totalOf (form (at-pack (packed c))) ≤ room (at-pack (packed c))
+fits-at c =
+    let f = at-pack (packed c) in
+    leb-true _ _ (and-left _ (allSamples (given f)) (sym (room-and-samples (packed c)) ∙ good-at c))
+
+total-at : (c : tie.After-total-of) → c .total-of .result ≡ totalOf (form (at-pack (packed c)))
+total-at c = c .total-of .ensures ∙ rw (listed-at (at-pack (packed c)))
 
 is-sound-requires : tie.Need-is-sound-requires
 is-sound-requires c κs = search needs
@@ -163,51 +185,35 @@ returns-4 c =
     code-23 (box f) (given f) (room f) (valid-at (sound (running f))) (running-at (running f)) (unfull f .if3 .left) other in
     rw (c .refused4 .ensures, ← refuses (box f) (given f) (room f) 23 code (λ e. omega arith)) (refl, refl)
 
-total-of-requires : tie.Need-total-of-requires
-total-of-requires c κs = search needs
-
-too-short-requires : tie.Need-too-short-requires
-too-short-requires c κs = search needs
-
-returns-5 : tie.Need-returns-5
-returns-5 c =
-    let t = c .before .before in
-    let f = formed (counted t) in
-    let total : t .total-of .result ≡ totalOf (formNow (box f .settings)) = total-at t ∙ ap totalOf (form-at f) in
-    let short = rw total at (c .before .if5 .taken) in
-    rw (
-      c .too-short .ensures,
-      ← refuses-short (box f) (given f) (room f)
-          (valid-at (sound (running f))) (running-at (running f)) (unfull f .if3 .left) (count-at (counted t)) short,
-    ) (refl, refl)
-
 pack-requires : tie.Need-pack-requires
 pack-requires c κs = search needs
 
-refused-requires-5 : tie.Need-refused-requires-5
-refused-requires-5 c κs = search needs
+not-packed-requires : tie.Need-not-packed-requires
+not-packed-requires c κs = search needs
 
 same-length : tie.Need-same-length
 same-length c = search needs
 
-returns-6 : tie.Need-returns-6
-returns-6 c =
+returns-5 : tie.Need-returns-5
+returns-5 c =
     let p = c .before .before .before .before in
-    let n = counted (totalled p) in
-    let f = formed n in
-    let bad : allSamples (given f) ≡ false = sym (packs-at p) ∙ not-true _ (c .before .if6 .taken) in
-    let code =
-    code-24 (box f) (given f) (room f) (valid-at (sound (running f))) (running-at (running f)) (unfull f .if3 .left) (count-at n) bad in
-    let none = packed-none (form f) (given f) (room f) (listed-at f) (many-at n) (fits-at p) bad in
-    rw (c .refused5 .ensures, ← refuses (box f) (given f) (room f) 24 code (λ e. omega arith))
-    (refl, p .pack .ensures .1 ∙ ap (sets (now (start f .args .packet)) 4) none)
+    let f = at-pack p in
+    let none : mayPack (form f) (given f) (room f) ≡ false = sym (packs-at p) ∙ not-true _ (c .before .if5 .taken) in
+    let unpacked =
+    refuses-unpacked (box f) (given f) (room f) (valid-at (sound (running f))) (running-at (running f)) (unfull f .if3 .left)
+    (count-at (counted p))
+    (ap (λ (g : Form). leb (totalOf g) (room f) && allSamples (given f)) (sym (form-at f)) ∙ sym (room-and-samples p) ∙ none) in
+    rw (c .not-packed .ensures, ← unpacked)
+    (refl, p .pack .ensures .1 ∙ ap (sets (now (start f .args .packet)) 4) (packed-none (form f) (given f) (room f) none))
+
+total-of-requires : tie.Need-total-of-requires
+total-of-requires c κs = search needs
 
 put-leading-requires : tie.Need-put-leading-requires
 put-leading-requires c κs =
-    let p = c .before .before .before .before in
-    let t = totalled p in
-    let f = formed (counted t) in
-    (omega (arith, total-at t, is-listed-form (form f) (listed-at f) .short), omega (arith, fits-at p))
+    let t = c .before in
+    let f = at-pack (packed t) in
+    (omega (arith, total-at t, is-listed-form (form f) (listed-at f) .short), omega (arith, fits-at t))
 
 counted-requires : tie.Need-counted-requires
 counted-requires c κs = search needs
@@ -215,32 +221,30 @@ counted-requires c κs = search needs
 same-length-2 : tie.Need-same-length-2
 same-length-2 c = search needs
 
-returns-7 : tie.Need-returns-7
-returns-7 c =
+-- what is returned of a packet that was cut, by its bytes
+abbrev written : Settings → ℕ → CutHeld
+written s wrote = record { code = Code.done; wrote = wrote; settings = withCount (s .count + 1) s }
+
+returns-6 : tie.Need-returns-6
+returns-6 c =
     -- the places on the way here, from the last call back to the start
     let led = c .before .before .before in
-    let good6 = led .before .before in
-    let packed = good6 .before .before .before in
-    let totalled = packed .before .before .before in
-    let counted = totalled .before in
-    let formed = counted .before .before in
-    let unfull = formed .before .before in
-    let running = unfull .before in
-    let sound = running .before .before in
-    let s = lent (sound .before) in
-    let a = from (sound .before) .args in
-    let f = formed .form-for .result in
-    let n = length (now (a .packet)) in
-    let form : f ≡ formNow (s .settings) = form-at formed in
-    let fits : totalOf f ≤ n = fits-at packed in
-    let good : allSamples (now (a .samples)) ≡ true = sym (packs-at packed) ∙ not-false _ (good6 .if6 .left) in
+    let t = led .before .before in
+    let p = packed t in
+    let n = counted p in
+    let f = at-pack p in
+    let s = box f in
+    let lent = now (start f .args .packet) in
+    let good : allSamples (given f) ≡ true =
+    and-right (leb (totalOf (form f)) (room f)) _ (sym (room-and-samples p) ∙ good-at t) in
     let code =
-    code-1 s (now (a .samples)) n (valid-at sound) (running-at running) (unfull .if3 .left) (count-at counted) good (rw form at fits) in
-    rw (c .counted .ensures, ← cuts s (now (a .samples)) n code) (
-      rw (total-at totalled, form),
-      packet-stored f (now (a .samples)) n (listed-at formed) (many-at counted) fits (now (a .packet)) _ _ (s .settings .count)
-          (totalled .total-of .result) good (total-at totalled) (packed .pack .ensures .1) (led .put-leading .ensures)
-          ∙ ap (λ (g : Form). sets (now (a .packet)) 0 (packetOf g (s .settings .count) (now (a .samples)))) form,
+    code-1 s (given f) (room f) (valid-at (sound (running f))) (running-at (running f)) (unfull f .if3 .left) (count-at n) good
+    (subst (λ (g : Form). totalOf g ≤ room f) (form-at f) (fits-at t)) in
+    rw (c .counted .ensures, ← cuts s (given f) (room f) code) (
+      ap (written (s .settings)) (total-at t ∙ ap totalOf (form-at f)),
+      packet-stored (form f) (given f) (room f) lent _ _ (s .settings .count) (t .total-of .result) (good-at t) (total-at t)
+          (p .pack .ensures .1) (led .put-leading .ensures)
+          ∙ ap (λ (g : Form). sets lent 0 (packetOf g (s .settings .count) (given f))) (form-at f),
     )
 
 pub cut-held-spec : {M : Type 1} → statement M
@@ -259,14 +263,12 @@ cut-held-spec =
     mul-if4
     refused-requires-4
     returns-4
-    total-of-requires
-    too-short-requires
-    returns-5
     pack-requires
-    refused-requires-5
+    not-packed-requires
     same-length
-    returns-6
+    returns-5
+    total-of-requires
     put-leading-requires
     counted-requires
     same-length-2
-    returns-7)
+    returns-6)

@@ -1,21 +1,24 @@
--- The tests are the definition's, the serial's before the others.
+-- The tests are the definition's, the serial's before the others, and the clock's with each channel's.
+use Prim.Native.Nat.{ℕ}
 use mathlib.Core.Path.{_≡_, refl, _∙_, sym, ap}
 use mathlib.Core.Bool.{Bool, true, false, _&&_, and-true, and-false}
-use lib.Dec.{leb}
+use lib.Dec.{eqb, leb}
 use lib.ListN.{length}
 use borrow.Author.Needs.{needs}
 use borrow.Author.Tests.{eq-eqb, not-true, not-false}
 use Rattle.rates.specs.Rate.{isD}
-use Rattle.tuning.specs.Word.{isClock}
+use Rattle.tuning.specs.Bands.{inBands}
+use Rattle.tuning.specs.Word.{isClock, wordOf}
 use Rattle.packets.specs.Numbers.{most}
-use Rattle.items.specs.Settings.{channelInRange, inRange, isMode, isSize, isSetup}
+use Rattle.items.specs.declared.Channel.{Channel}
+use Rattle.items.specs.Settings.{inRange, isGain, isMode, isSize, isSetup}
 use Rattle.items.proofs.ranges.in_range.Statement.{statement}
 use Rattle.items.proofs.ranges.in_range.Tie as tie
 
 all-serial-requires : tie.Need-all-serial-requires
 all-serial-requires c κs = search needs
 
-long : (c : tie.Start) → length (c .args .t1 .serial) ≡ 8
+long : (c : tie.Start) → length (c .args .s .serial) ≡ 8
 long c = search needs
 
 returns : tie.Need-returns
@@ -24,16 +27,22 @@ returns c =
     let d = c .before in
     let start = d .before .before .before in
     simp (
-      eq-eqb (length (start .args .t1 .serial)) 8 (long start),
+      eq-eqb (length (start .args .s .serial)) 8 (long start),
       sym (d .all-serial .ensures) ∙ not-true (d .all-serial .result) (c .if1 .taken),
       and-false,
     )
 
-is-tuned-requires : tie.Need-is-tuned-requires
-is-tuned-requires c κs = search needs
+agree-requires : tie.Need-agree-requires
+agree-requires c κs = search needs
 
-is-tuned-requires-2 : tie.Need-is-tuned-requires-2
-is-tuned-requires-2 c κs = search needs
+is-gain-requires : tie.Need-is-gain-requires
+is-gain-requires c κs = search needs
+
+agree-requires-2 : tie.Need-agree-requires-2
+agree-requires-2 c κs = search needs
+
+is-gain-requires-2 : tie.Need-is-gain-requires-2
+is-gain-requires-2 c κs = search needs
 
 is-d-requires : tie.Need-is-d-requires
 is-d-requires c κs = search needs
@@ -47,10 +56,20 @@ is-setup-requires c κs = search needs
 is-mode-requires : tie.Need-is-mode-requires
 is-mode-requires c κs = search needs
 
--- each channel's test has the clock's
-clock-once : (clock first second : Bool) → ((clock && first) && (clock && second)) ≡ (clock && first && second)
-clock-once true first second = refl
-clock-once false first second = refl
+-- each channel's test has the clock's; it counts once, before them
+clock-once : (band clock word gain : Bool) (band′ word′ gain′ : Bool)
+    → (band && clock && word && gain && (band′ && clock && word′) && gain′) ≡ (clock && (band && word && gain) && (band′ && word′ && gain′))
+clock-once true true true true true word′ gain′ = refl
+clock-once true true true true false word′ gain′ = refl
+clock-once true true true false band′ word′ gain′ = refl
+clock-once true true false gain band′ word′ gain′ = refl
+clock-once true false word gain band′ word′ gain′ = refl
+clock-once false true word gain band′ word′ gain′ = refl
+clock-once false false word gain band′ word′ gain′ = refl
+
+-- the word is that of frequency and clock
+abbrev agrees : ℕ → Channel → Bool
+agrees clock c = eqb (c .word) (wordOf (c .frequency) clock)
 
 returns-2 : tie.Need-returns-2
 unfolding inRange
@@ -59,14 +78,16 @@ returns-2 c =
     let setup = c .before in
     let size = setup .before in
     let divisor = size .before in
-    let second = divisor .before in
+    let second = divisor .before .before in
     let first = second .before .before in
     let d = first .before .before .before in
     let start = d .before .before .before in
-    let s = start .args .t1 in
+    let s = start .args .s in
     rw (
-      first .is-tuned .ensures,
-      second .is-tuned2 .ensures,
+      first .before .agree .ensures,
+      first .is-gain .ensures,
+      second .before .agree2 .ensures,
+      second .is-gain2 .ensures,
       divisor .is-d .ensures,
       size .is-size .ensures,
       setup .is-setup .ensures,
@@ -76,7 +97,8 @@ returns-2 c =
     )
     (sym (and-true _)
     ∙ ap (λ (b : Bool). b && leb (s .count) most && isD (s .divisor) && isSize (s .size) && isSetup (s .setup) && isMode (s .mode) && true)
-    (clock-once (isClock (s .clock)) (channelInRange (s .clock) (s .first)) (channelInRange (s .clock) (s .second))))
+    (clock-once (inBands (s .first .frequency)) (isClock (s .clock)) (agrees (s .clock) (s .first)) (isGain (s .first .gain))
+    (inBands (s .second .frequency)) (agrees (s .clock) (s .second)) (isGain (s .second .gain))))
 
 pub in-range-spec : {M : Type 1} → statement M
 in-range-spec =
@@ -84,8 +106,10 @@ in-range-spec =
     (tie.spec
     all-serial-requires
     returns
-    is-tuned-requires
-    is-tuned-requires-2
+    agree-requires
+    is-gain-requires
+    agree-requires-2
+    is-gain-requires-2
     is-d-requires
     is-size-requires
     is-setup-requires

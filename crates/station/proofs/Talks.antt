@@ -1,7 +1,9 @@
--- A host's whole talk: what each call consumes and writes stays within what there is, and what is left to serve gives the
--- whole.
+-- A host's whole talk: what each call consumes and writes stays within what there is, the box stays valid, and what is left
+-- to serve gives the whole.
+-- Assumes nothing.
 use Prim.Native.Nat.{ℕ, zero, suc, _+_, _-_, _≤_, _<_}
 use mathlib.Core.Path.{_≡_, refl, ap, _∙_}
+use mathlib.Core.Bool.{true}
 use mathlib.Core.List.{List, [], _++_}
 use native.Mathlib.Nat.{lt-irrefl}
 use native.Mathlib.Omega.{arith}
@@ -11,12 +13,13 @@ use lib.ListN.{length, drop, length-append, length-drop}
 use lib.Seq.{sets, length-sets, drop-drop}
 use Rattle.wire.proofs.Laws.{pick-same}
 use Rattle.wire.proofs.Stores.{sets-append}
 use Rattle.station.specs.declared.FedHeld.{FedHeld}
 use Rattle.station.specs.declared.Station.{Station}
-use Rattle.station.specs.Station.{boxOf, freshStation, sessionSerial}
+use Rattle.station.specs.Station.{boxOf, valid, freshStation, sessionSerial}
 use Rattle.station.specs.Feeding.{Feeding, feedingOf, partsOf}
-use Rattle.station.proofs.Calls.{Within, feeding-within}
-use Rattle.talks.specs.Serving.{served, serveRun}
+use Rattle.station.proofs.Calls.{Within, feeding-within, feeding-keeps}
+use Rattle.station.proofs.FreshBoxes.{fresh-valid}
+use Rattle.station.specs.Talking.{served, serveRun}
 
 -- nothing more is served: no call is left, no byte, or no room
 pub none-left : (left room : ℕ) (s : Station) (host : List ℕ) → left ≤ 0 → served left room s host ≡ []
@@ -44,8 +47,9 @@ one-call (suc left) room s host f is some more roomy =
     let down : suc left - 1 ≡ left = omega arith in
     rw (down, is, ne-eqb (length host) 0 (omega arith), le-ltb room 64 roomy)
 
--- Serving in its midst: what is left to serve, written from the present place on, gives the whole.
+-- Serving in its midst: the box is valid, and what is left to serve, written from the present place on, gives the whole.
 pub record Going (host whole replies : List ℕ) (s : Station) (i at left : ℕ) : Type 0 where
+  pub sound : valid s ≡ true
   pub inside : i ≤ length host
   pub room : at ≤ length replies
   pub long : length replies ≡ length whole
@@ -58,6 +62,7 @@ unfolding serveRun
 begins host replies s is =
     let all : length replies - 0 ≡ length replies = omega arith in
     record {
+      sound = rw is (fresh-valid sessionSerial refl);
       inside = omega arith;
       room = omega arith;
       long = refl;
@@ -110,6 +115,7 @@ module _ (host whole replies after : List ℕ) (s : Station) (i at left : ℕ) (
   pub goes-on : Going host whole after (f .fed .station) (i + f .fed .consumed) (at + f .fed .wrote) (left - 1)
   goes-on =
       record {
+        sound = rw is (feeding-keeps s (drop i host) (length replies - at) (g .sound));
         inside = omega (arith, within .consumed, length-drop i host);
         room = omega (arith, same, within .wrote, within .fits);
         long = same ∙ g .long;
