@@ -1,18 +1,13 @@
--- The reply of a call, as it stands in an array of 64 bytes; and the box that the program begins with.
+-- The reply of a call, as it stands in an array of 64 bytes.
 -- Assumes nothing.
 use Prim.Native.Nat.{ℕ, _≤_}
 use native.Mathlib.Omega.{arith}
-use mathlib.Core.Path.{_≡_, refl, ap, _∙_}
-use mathlib.Core.Bool.{true}
+use mathlib.Core.Path.{_≡_, ap, _∙_}
 use mathlib.Core.List.{List}
 use lib.ListN.{length, take}
 use lib.Seq.{sets, sets-eq, length-sets, take-append-seam}
-use Rattle.tuning.specs.Word.{wordOf}
-use Rattle.framing.specs.Framing.{couldBeLeft}
-use Rattle.items.specs.Settings.{inRange}
 use Rattle.station.specs.declared.Station.{Station}
 use Rattle.station.specs.declared.Fed.{Fed}
-use Rattle.station.specs.Station.{valid, freshBox, sessionSerial}
 use Rattle.station.specs.Feeding.{feedingOf}
 use Rattle.station.proofs.Calls.{feeding-within}
 
@@ -31,8 +26,3 @@ reply-is s host l array r long told wrote =
       inside = rw length-sets (omega (arith, f .fits));
       bytes = rw (sets-eq (feedingOf s host 64 .bytes) l 0 (omega (arith, f .fits))) (take-append-seam (feedingOf s host 64 .bytes) _);
     })
-
--- the box that the program begins with
-pub fresh-valid : valid (freshBox sessionSerial .station) ≡ true
-unfolding valid inRange couldBeLeft wordOf
-fresh-valid = refl

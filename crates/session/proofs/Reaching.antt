@@ -9,12 +9,12 @@ use Rattle.station.specs.declared.Station.{Station}
 use Rattle.station.specs.Station.{freshBox, freshStation, sessionSerial}
 use Rattle.station.specs.Serving.{joined}
 use Rattle.session.specs.Session.{HandedOver, ReadSoFar, pieces, handed, handedAll}
-use Rattle.session.proofs.Calls.{fresh-valid}
+use Rattle.station.proofs.FreshBoxes.{fresh-box-valid}
 
 -- before the first piece
 pub none-read : ReadSoFar (freshBox sessionSerial .station) 0
 unfolding handedAll
-none-read = record { parts = []; count = refl; box = refl; valid = fresh-valid }
+none-read = record { parts = []; count = refl; box = refl; valid = fresh-box-valid sessionSerial }
 
 handed-last : (s : Station) (ps : List (List ℕ)) (p : List ℕ)
     → handedAll s (ps ++ p ∷ []) .station ≡ handed (handedAll s ps .station) p .station
