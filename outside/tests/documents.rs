@@ -242,6 +242,78 @@ fn channel_bytes() {
     }
 }
 
+/// What comes of two messages: what each is answered, and the settings after both.
+type Outcome = ([(u8, Vec<u8>); 2], Settings);
+
+/// Two messages fed to the same box: what comes of them in this order, and in the other.
+fn both_orders(station: &Station, one: &str, other: &str) -> [Outcome; 2] {
+    let mut forth = station.clone();
+    let answers = [one, other].map(|message| tell(&mut forth, message));
+    let mut back = station.clone();
+    let [to_other, to_one] = [other, one].map(|message| tell(&mut back, message));
+    [(answers, forth.settings), ([to_one, to_other], back.settings)]
+}
+
+/// Document 02, No. 11: sets that may come in either order. What a fresh box was told before, both sets, their codes, and one
+/// of the settings after both.
+#[test]
+fn either_order() {
+    let (tune, clock) = ("0A 00 20 00 00 90 C6 D5 00 00", "09 00 B0 00 00 7B B4 C4 04");
+    let (rate, size) = ("09 00 B8 00 00 A0 86 01 00", "05 00 C4 00 01");
+    let (dual, run) = ("05 00 19 00 04", "08 00 18 00 80 02 80 00");
+    let first: fn(&Settings) -> u64 = |settings| settings.first.frequency;
+    let second: fn(&Settings) -> u64 = |settings| settings.second.frequency;
+    let word: fn(&Settings) -> u64 = |settings| settings.first.word.into();
+    let divisor: fn(&Settings) -> u64 = |settings| settings.divisor.into();
+    for (before, one, other, codes, looked, value) in [
+        (None, tune, clock, (1, 1), word, 752_154_991),
+        (None, dual, tune, (1, 1), first, 14_010_000),
+        (None, rate, size, (1, 1), divisor, 200),
+        (Some(run), rate, size, (17, 17), divisor, 100),
+        // a gain of -16, and 34,000,001 Hz
+        (None, "06 00 38 00 00 F0", "0A 00 20 00 00 81 CC 06 02 00", (16, 16), first, 10_000_000),
+        // 00 and 02: closed, and open
+        (None, tune, "0A 00 20 00 02 00 2D 31 01 00", (1, 15), second, 10_000_000),
+        (Some(dual), tune, "0A 00 20 00 02 00 2D 31 01 00", (1, 1), second, 20_000_000),
+    ] {
+        let mut station = fresh();
+        if let Some(message) = before {
+            assert_eq!(tell(&mut station, message).0, 1);
+        }
+        let [forth, back] = both_orders(&station, one, other);
+        assert_eq!(forth, back, "{one} and {other}");
+        let answer = |message, code| if code == 1 { (1, hex(message)) } else { nak(code) };
+        assert_eq!(forth.0, [answer(one, codes.0), answer(other, codes.1)], "{one} and {other}");
+        assert_eq!(looked(&forth.1), value, "{one} and {other}");
+    }
+}
+
+/// Document 02, No. 11: the exceptions. Told to a fresh box in the one order, and in the other.
+#[test]
+fn exceptions_to_either_order() {
+    let (dual, run) = ("05 00 19 00 04", "08 00 18 00 80 02 80 00");
+    let second: fn(&Settings) -> i64 = |settings| settings.second.frequency as i64;
+    let gain: fn(&Settings) -> i64 = |settings| settings.second.gain.into();
+    let divisor: fn(&Settings) -> i64 = |settings| settings.divisor.into();
+    let (tune, attenuate) = ("0A 00 20 00 02 90 C6 D5 00 00", "06 00 38 00 02 F6");
+    let (tune_all, attenuate_all) = ("0A 00 20 00 FF 90 C6 D5 00 00", "06 00 38 00 FF F6");
+    let rate = "09 00 B8 00 00 A0 86 01 00";
+    // the one that the order tells of stands second, with its code and the value where it comes last, and where first
+    for (one, other, looked, last, first) in [
+        (dual, tune_all, second, (1, 14_010_000), (1, 10_000_000)),
+        (dual, attenuate_all, gain, (1, -10), (1, 0)),
+        (dual, tune, second, (1, 14_010_000), (15, 10_000_000)),
+        (dual, attenuate, gain, (1, -10), (15, 0)),
+        (run, rate, divisor, (17, 100), (1, 200)),
+    ] {
+        for ((answers, settings), (code, value)) in both_orders(&fresh(), one, other).into_iter().zip([last, first]) {
+            let answer = if code == 1 { (1, hex(other)) } else { nak(code) };
+            assert_eq!(answers, [(1, hex(one)), answer], "{one} and {other}");
+            assert_eq!(looked(&settings), value, "{one} and {other}");
+        }
+    }
+}
+
 #[test]
 fn a_clock_set_renews_both_words() {
     for setup in [0, 4] {

@@ -6,23 +6,24 @@ use native.Mathlib.Omega.{arith}
 use borrow.Author.Tests.{lt-leb, not-false}
 use mathlib.Core.Path.{_≡_, refl, sym, ap, _∙_}
 use mathlib.Core.Bool.{true, false}
-use mathlib.Core.List.{List, [], _++_, append-nil}
+use mathlib.Core.List.{List, _++_}
 use mathlib.Core.Logic.{_⊎_, inl, inr, _↔_}
 use lib.Dec.{leb, lit≤}
-use lib.ListN.{length, replicate}
-use Rattle.wire.specs.Number.{bytes, field}
+use lib.ListN.{length, take, replicate}
+use lib.Seq.{take-all}
+use Rattle.wire.specs.Number.{bytes}
 use Rattle.wire.specs.Header.{nak, headerOf, typeIn, lengthIn, typeData}
 use Rattle.wire.proofs.Checks.{absent}
 use Rattle.wire.proofs.Headers.{length-header, type-header, header-below}
-use Rattle.framing.specs.Framing.{callTakes, between, announced, headerIn, totalOf}
+use Rattle.framing.specs.Framing.{between, announced, headerIn, totalOf}
 use Rattle.framing.proofs.Leaving.{between-left}
 use Rattle.layouts.specs.declared.Layout.{Layout}
 use Rattle.layouts.specs.Layouts.{sizeOf, laid}
 use Rattle.layouts.proofs.Sizes.{least, length-laid}
 use Rattle.items.specs.declared.Settings.{Settings}
 use Rattle.items.specs.Settings.{inRange}
-use Rattle.items.specs.Answer.{Message, codeOf, settingsAfter, replyOf}
-use Rattle.station.specs.Feeding.{Feeding, feedingOf, messageIn, answered}
+use Rattle.items.specs.Answer.{codeOf, replyOf}
+use Rattle.station.specs.Feeding.{Feeding, feedingOf}
 use Rattle.station.proofs.Valid.{valid-both}
 use Rattle.wishes.specs.declared.Wish.{Wish}
 use Rattle.wishes.specs.Wishes.{asking, layoutOf, messageOf, asMessage, openWish, allowedWish}
@@ -32,9 +33,9 @@ use Rattle.wishes.proofs.Understood.{code-of-wish, settings-of-wish, wish-fifte
 use Rattle.replies.specs.Reading.{replyCode, replyReaderSays}
 use Rattle.replies.specs.Exactly.{Given}
 use Rattle.replies.proofs.Exactly.{box-reply-is-read, exactly}
-use Rattle.demands.specs.Shown.{resting, hasRoom}
+use Rattle.demands.specs.Shown.{messageOf as held, resting, hasRoom}
 use Rattle.demands.specs.Asked.{Understands, WhatIsAskedIsUnderstood, Writes, ReadsWhatBoxesWrite, RefusedByEveryBox}
-use Rattle.demands.proofs.OneMessage.{holding, tookAll, one-message, whole-fed, whole-answered}
+use Rattle.demands.proofs.OneMessage.{saying, whole-fed, whole-answered}
 
 -- ---- a message has its true length in its header
 
@@ -43,18 +44,18 @@ total-is kind size k n =
     let control : leb typeData kind ≡ false = lt-leb typeData kind (omega arith) in
     rw control (omega arith)
 
-module _ (a : Layout) (rest : List ℕ) (low : a .kind ≤ 2) (few : sizeOf a ≤ 64) where
-  header-laid : field 0 2 (laid a ++ rest) ≡ headerOf (a .kind) (sizeOf a)
+module _ (a : Layout) (low : a .kind ≤ 2) (few : sizeOf a ≤ 64) where
+  header-laid : headerIn (laid a) ≡ headerOf (a .kind) (sizeOf a)
   header-laid = omega (arith, header-below (a .kind) (sizeOf a))
 
-  type-laid : typeIn (headerIn (laid a ++ rest)) ≡ a .kind
+  type-laid : typeIn (headerIn (laid a)) ≡ a .kind
   type-laid = ap typeIn header-laid ∙ type-header (a .kind) (sizeOf a) (omega arith)
 
-  size-laid : lengthIn (headerIn (laid a ++ rest)) ≡ sizeOf a
-  size-laid = ap lengthIn header-laid ∙ length-header (a .kind) (sizeOf a) (omega arith)
+  size-laid : lengthIn (headerIn (laid a)) ≡ length (laid a)
+  size-laid = ap lengthIn header-laid ∙ length-header (a .kind) (sizeOf a) (omega arith) ∙ sym (length-laid a)
 
-  announced-laid : announced (laid a ++ rest) ≡ sizeOf a
-  announced-laid = rw (type-laid, size-laid) (total-is (a .kind) (sizeOf a) low (omega (arith, least a)))
+  announced-laid : announced (laid a) ≡ length (laid a)
+  announced-laid = rw (type-laid, size-laid) (total-is (a .kind) (length (laid a)) low (omega (arith, least a, length-laid a)))
 
 -- ---- a wish's message
 
@@ -64,52 +65,43 @@ kind-low w = search (of-row (λ i k. k ≤ 2), lit≤)
 few : (w : Wish) → sizeOf (layoutOf w) ≤ 64
 few w = omega (arith, short-message w)
 
--- it is taken whole, in one call
-pub wish-taken : (w : Wish) → callTakes between (messageOf w) ≡ tookAll (messageOf w)
+-- it is one message
+pub wish-announces : (w : Wish) → announced (messageOf w) ≡ length (messageOf w)
 unfolding messageOf
-wish-taken w =
-    one-message (laid (layoutOf w)) announces (omega arith) (omega (arith, length-laid (layoutOf w), few w))
-  where
-    announces : announced (laid (layoutOf w)) ≡ length (laid (layoutOf w))
-    announces =
-        ap announced (sym (append-nil (laid (layoutOf w))))
-        ∙ announced-laid (layoutOf w) [] (kind-low w) (few w)
-        ∙ sym (length-laid (layoutOf w))
+wish-announces w = announced-laid (layoutOf w) (kind-low w) (few w)
 
--- and is then the message that the wish stands for
-wish-held : (w : Wish) → messageIn (holding (messageOf w)) ≡ asMessage w
+-- the one that the wish stands for
+wish-held : (w : Wish) → held (messageOf w) ≡ asMessage w
 unfolding messageOf
 wish-held w =
-    let rest : List ℕ = replicate (64 - length (laid (layoutOf w))) 0 in
-    rw (type-laid (layoutOf w) rest (kind-low w) (few w), size-laid (layoutOf w) rest (kind-low w) (few w))
-    (ap (λ (n : ℕ). record { type = asking w .kind; size = n; bytes = laid (layoutOf w) ++ rest }) (sym (length-laid (layoutOf w))))
+    let m = laid (layoutOf w) in
+    let behind : List ℕ = replicate (64 - length m) 0 in
+    ap (λ (k : ℕ). record { type = k; size = lengthIn (headerIn m); bytes = take 64 m ++ behind })
+    (type-laid (layoutOf w) (kind-low w) (few w))
+    ∙ ap (λ (n : ℕ). record { type = asking w .kind; size = n; bytes = take 64 m ++ behind })
+    (size-laid (layoutOf w) (kind-low w) (few w))
+    ∙ ap (λ (l : List ℕ). record { type = asking w .kind; size = length m; bytes = l ++ behind })
+    (take-all 64 m (omega (arith, length-laid (layoutOf w), few w)))
 
 -- ---- the demand
-
--- a call that takes so many bytes and answers the message that they finish
-abbrev saying : Settings → ℕ → Message → Feeding
-saying s consumed m =
-    record {
-      fed = record { code = codeOf s m; consumed = consumed; wrote = length (replyOf s m); station = resting (settingsAfter s m) };
-      bytes = replyOf s m;
-    }
 
 -- a call that answers the wish's message
 abbrev answering : Wish → Settings → Feeding
 answering w s = saying s (length (messageOf w)) (asMessage w)
 
-answered-wish : (w : Wish) (s : Settings) → answered s (tookAll (messageOf w)) ≡ answering w s
+answered-wish : (w : Wish) (s : Settings) → saying s (length (messageOf w)) (held (messageOf w)) ≡ answering w s
 answered-wish w s = ap (saying s (length (messageOf w))) (wish-held w)
 
 fed-wish : (w : Wish) (s : Settings) (room : ℕ) → inRange s ≡ true → hasRoom (feedingOf (resting s) (messageOf w) room)
     → feedingOf (resting s) (messageOf w) room ≡ answering w s
-fed-wish w s room v some = whole-answered (messageOf w) s room (wish-taken w) (valid-both s between v between-left) some ∙ answered-wish w s
+fed-wish w s room v some =
+    whole-answered (messageOf w) (wish-announces w) s room (valid-both s between v between-left) some ∙ answered-wish w s
 
 -- 64 bytes are room enough
 roomy-wish : (w : Wish) (s : Settings) (room : ℕ) → inRange s ≡ true → 64 ≤ room
     → feedingOf (resting s) (messageOf w) room ≡ answering w s
 roomy-wish w s room v enough =
-    whole-fed (messageOf w) s room (wish-taken w) (valid-both s between v between-left) enough ∙ answered-wish w s
+    whole-fed (messageOf w) (wish-announces w) s room (valid-both s between v between-left) enough ∙ answered-wish w s
 
 understands : (w : Wish) (s : Settings) (room : ℕ) → openWish w ≡ true → allowedWish w ≡ true → inRange s ≡ true
     → feedingOf (resting s) (messageOf w) room ≡ answering w s

@@ -28,7 +28,7 @@ use Rattle.replies.specs.Reading.{ReplyAnswer, replyReaderSays}
 use Rattle.demands.specs.Shown.{resting}
 use Rattle.demands.specs.Asked.{Understands}
 use Rattle.demands.specs.AskedInPieces.{UnderstandsInPieces, WhatIsAskedIsUnderstoodInPieces}
-use Rattle.demands.proofs.Asked.{wish-taken, opened, accepted, message-written, understood-in-64}
+use Rattle.demands.proofs.Asked.{wish-announces, opened, accepted, message-written, understood-in-64}
 use Rattle.demands.proofs.Written.{feeds-by-the-table}
 use Rattle.demands.proofs.InPieces.{whole, message-served, pieces-served}
 
@@ -40,11 +40,9 @@ length-wish w = let long = length-laid (layoutOf w) in (omega (arith, least (lay
 
 -- ---- and gets one reply
 
--- done, channel not allowed, or not while running: none is silent
-aloud : (shut wait : Bool) (s : Settings) (m : Message) → 1 ≤ length (boxWrites (pick shut 15 (pick wait 17 1)) (replyDue s m))
-aloud true wait s m = lit≤ tt
-aloud false true s m = lit≤ tt
-aloud false false s m = go (eqb (m .type) typeRange)
+-- a message that is obeyed is answered
+pub due-some : (s : Settings) (m : Message) → 1 ≤ length (replyDue s m)
+due-some s m = go (eqb (m .type) typeRange)
   where
     go : (range : Bool)
         → 1
@@ -53,6 +51,12 @@ aloud false false s m = go (eqb (m .type) typeRange)
         (framed typeReply (replyBody (row m) (settingsAfter s m) (parameters m))))
     go true = omega arith
     go false = omega arith
+
+-- done, channel not allowed, or not while running: none is silent
+aloud : (shut wait : Bool) (s : Settings) (m : Message) → 1 ≤ length (boxWrites (pick shut 15 (pick wait 17 1)) (replyDue s m))
+aloud true wait s m = lit≤ tt
+aloud false true s m = lit≤ tt
+aloud false false s m = due-some s m
 
 read-once : (w : Wish) (reply : List ℕ) → 1 ≤ length reply → map (replyReaderSays w) (noting [] reply) ≡ replyReaderSays w reply ∷ []
 read-once w [] some = absurd (omega arith)
@@ -77,7 +81,7 @@ understood-in-pieces w s pieces ranged enough same u =
     served =
         let l = length-wish w in
         pieces-served s v pieces (whole (messageOf w) ∷ []) enough (λ n. le-refl 64, tt) (same ∙ sym (append-nil (messageOf w)))
-        ∙ message-served s v (messageOf w) [] [] (wish-taken w) (omega arith)
+        ∙ message-served s v (messageOf w) [] [] (wish-announces w)
 
     some : 1 ≤ length (feedingOf (resting s) (messageOf w) 64 .bytes)
     some =

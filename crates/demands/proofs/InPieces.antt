@@ -2,20 +2,21 @@
 -- any pieces of the same bytes.
 -- Assumes nothing.
 use Prim.Native.Nat.{ℕ, zero, suc, _≤_}
-use native.Mathlib.Nat.{le-refl}
+use native.Mathlib.Nat.{le-refl, le-trans}
 use native.Mathlib.Omega.{arith}
 use mathlib.Core.Path.{_≡_, refl, ap, _∙_}
 use mathlib.Core.Bool.{true}
 use mathlib.Core.List.{List, [], _∷_}
+use lib.Dec.{lit≤}
 use lib.ListN.{length, drop, drop-of-length-le}
-use Rattle.framing.specs.Framing.{between, callTakes}
+use Rattle.framing.specs.Framing.{announced}
 use Rattle.items.specs.declared.Settings.{Settings}
 use Rattle.station.specs.Station.{valid}
 use Rattle.station.specs.Feeding.{Feeding, feedingOf}
 use Rattle.station.specs.Serving.{Served, unserved, called, calling, Piece, serving, joined, roomy}
 use Rattle.station.proofs.Serving.{cuts-do-not-matter}
 use Rattle.demands.specs.Shown.{resting}
-use Rattle.demands.proofs.OneMessage.{tookAll, whole-fed}
+use Rattle.demands.proofs.OneMessage.{least, whole-fed}
 
 -- a piece that has all of some bytes
 abbrev pub whole : List ℕ → Piece
@@ -38,17 +39,18 @@ called-once r (b ∷ bs) some all =
 
 module _ (s : Settings) (v : valid (resting s) ≡ true) where
   -- a whole message is consumed by the call that answers it
-  message-consumed : (m : List ℕ) → callTakes between m ≡ tookAll m → feedingOf (resting s) m 64 .fed .consumed ≡ length m
-  message-consumed m took = ap (λ (f : Feeding). f .fed .consumed) (whole-fed m s 64 took v (le-refl 64))
+  message-consumed : (m : List ℕ) → announced m ≡ length m → feedingOf (resting s) m 64 .fed .consumed ≡ length m
+  message-consumed m one = ap (λ (f : Feeding). f .fed .consumed) (whole-fed m one s 64 v (le-refl 64))
 
   -- so that call is all of its piece's serving
-  pub message-served : (m : List ℕ) (replies : List (List ℕ)) (rest : List Piece) → callTakes between m ≡ tookAll m → 1 ≤ length m
+  pub message-served : (m : List ℕ) (replies : List (List ℕ)) (rest : List Piece) → announced m ≡ length m
       → serving (record { station = resting s; replies = replies }) (whole m ∷ rest)
       ≡ serving (called 64 (record { station = resting s; replies = replies }) m) rest
   unfolding serving
-  message-served m replies rest took some =
+  message-served m replies rest one =
       ap (λ (r : Served). serving r rest)
-      (called-once (record { station = resting s; replies = replies }) m some (message-consumed m took))
+      (called-once (record { station = resting s; replies = replies }) m (le-trans (lit≤ tt) (least m one))
+      (message-consumed m one))
 
   -- any pieces are as good as whole messages
   pub pieces-served : (pieces wholes : List Piece) → roomy pieces → roomy wholes → joined pieces ≡ joined wholes

@@ -1,23 +1,21 @@
 -- Demand 2 of the box: it is fed a whole set and, after any calls that leave its item, a whole request. The messages are
 -- answered as in Shown.antt, and feeding and cutting in between leave what the item shows.
 -- Assumes nothing.
-use Prim.Native.Nat.{ℕ, _+_, _-_, _≤_, max}
+use Prim.Native.Nat.{ℕ, _+_, _-_, _≤_}
 use native.Mathlib.Omega.{arith}
 use mathlib.Core.Path.{_≡_, refl, sym, ap, _∙_}
-use mathlib.Core.Bool.{Bool, true, false, _&&_, _||_, and-true}
+use mathlib.Core.Bool.{Bool, true, false, _&&_, and-true}
 use mathlib.Core.List.{List, [], _∷_, _++_}
-use borrow.Author.Tests.{le-leb, lt-leb, ltb-false}
+use borrow.Author.Tests.{le-leb, ltb-false}
 use lib.Dec.{eqb, leb, ltb, lit≤}
 use lib.IntN.{ℤ}
-use lib.ListN.{length, getD, replicate, length-append, length-replicate}
-use lib.Seq.{take-append-le}
+use lib.ListN.{length, getD, take, replicate, length-append, length-take, length-replicate}
 use Rattle.wire.specs.Choice.{pick}
-use Rattle.wire.specs.Number.{number}
-use Rattle.wire.specs.Header.{lengthIn, typeIn, typeSet, typeRequest}
-use Rattle.wire.proofs.Laws.{and-rest, never, true-not-false}
+use Rattle.wire.specs.Header.{typeSet, typeRequest}
+use Rattle.wire.proofs.Laws.{and-rest, or-neither, never}
 use Rattle.tuning.specs.Word.{wordOf}
 use Rattle.framing.specs.Framing.{between, taking, callTakes, couldBeLeft}
-use Rattle.wire.proofs.Lists.{bytes-append, bytes-zero}
+use Rattle.wire.proofs.Lists.{bytes-append, bytes-take, bytes-zero}
 use Rattle.items.proofs.Judging.{passed}
 use Rattle.items.proofs.Rows.{found-at}
 use Rattle.items.specs.declared.Settings.{Settings}
@@ -31,17 +29,19 @@ use Rattle.station.proofs.Valid.{each-way}
 use Rattle.station.proofs.Setup.{setup-left}
 use Rattle.cutting.specs.Cutting.{cuttingOf}
 use Rattle.cutting.proofs.Ways.{each-cut, cutting-keeps}
-use Rattle.demands.proofs.OneMessage.{tookAll, one-message, whole-answered}
+use Rattle.demands.proofs.OneMessage.{message-fed}
 use Rattle.station.proofs.Calls.{feeding-keeps}
 use Rattle.demands.specs.Shown.{shownBy, valueSet, HeldWhole, showing, OneMessage, messageOf, resting, hasRoom, repliesWith}
 use Rattle.demands.specs.Shown.{ShowsSets}
-use Rattle.demands.specs.Shown.{Named, naming, named, covering, touches, opens, asksSecond, changes}
+use Rattle.items.specs.Touching.{Named, naming, named, covering, touches}
+use Rattle.demands.specs.Shown.{opens, asksSecond, changes}
 use Rattle.demands.specs.Shown.{finishedBy, naksAll, echoesOnly, SetTest, Undisturbed, still, fed, cut, touching, answering}
 use Rattle.demands.specs.Shown.{FedSetShowsLater, FedSameAnswer, FedStateShowsInStatus}
-use Rattle.demands.proofs.Shown.{Same, message-leaves, asked-shows, answered-alike, has-value-set, set-replies}
+use Rattle.items.proofs.Touching.{Same}
+use Rattle.demands.proofs.Shown.{message-leaves, asked-shows, answered-alike, has-value-set, set-replies}
 use Rattle.demands.proofs.Shown.{covered-item, covered-byte, status-value}
 
--- ---- one whole message, fed in one call to a box between messages
+-- ---- one whole message that is accepted is held whole
 
 pub set-low : {n : ℕ} → n ≡ typeSet → n ≤ 2
 set-low e = omega arith
@@ -49,53 +49,26 @@ set-low e = omega arith
 pub request-low : {n : ℕ} → n ≡ typeRequest → n ≤ 2
 request-low e = omega arith
 
--- a set or a request that is accepted, by a box with whatever settings
-module _ (m : List ℕ) (one : OneMessage m) (s : Settings) (low : messageOf m .type ≤ 2) (h : codeOf s (messageOf m) ≡ 1) where
-  abbrev kind : ℕ
-  kind = messageOf m .type
+-- "types 0 to 2, length over 64" it is not
+held-whole : (m : List ℕ) → OneMessage m → (s : Settings) → messageOf m .type ≤ 2 → codeOf s (messageOf m) ≡ 1 → HeldWhole (messageOf m)
+held-whole m one s low h =
+    record {
+      whole = rw room size-small;
+      areBytes =
+          bytes-append (take 64 m) (replicate (64 - length m) 0) (bytes-take 64 m (one .areBytes)) (bytes-zero (64 - length m));
+    }
+  where
+    kind : ℕ
+    kind = messageOf m .type
 
-  abbrev size : ℕ
-  size = messageOf m .size
+    size : ℕ
+    size = messageOf m .size
 
-  -- "types 0 to 2, length over 64" it is not
-  size-small : size ≤ 64
-  size-small = ltb-false 64 size (and-rest (leb kind 2) (ltb 64 size) (passed s (messageOf m) h .1 .1 .0) (le-leb kind 2 low))
+    size-small : size ≤ 64
+    size-small = ltb-false 64 size (and-rest (leb kind 2) (ltb 64 size) (passed s (messageOf m) h .1 .1 .0) (le-leb kind 2 low))
 
-  -- it has its header at least, and at most the 64 bytes that are kept
-  long : length m ≡ max 2 size
-  long = sym (one .announces) ∙ rw (lt-leb 4 kind (omega arith)) refl
-
-  pub least : 2 ≤ length m
-  least = omega (arith, long)
-
-  most : length m ≤ 64
-  most = omega (arith, long, size-small)
-
-  -- it is held whole
-  pub held-whole : HeldWhole (messageOf m)
-  held-whole =
-      let room : length (m ++ replicate (64 - length m) 0) ≡ 64 = simp (length-append, length-replicate) (omega (arith, most)) in
-      record {
-        whole = rw room size-small;
-        areBytes = bytes-append m (replicate (64 - length m) 0) (one .areBytes) (bytes-zero (64 - length m));
-      }
-
-  pub took : callTakes between m ≡ tookAll m
-  took = one-message m (one .announces) least most
-
-  is-message : messageIn (tookAll m .store) ≡ messageOf m
-  is-message =
-      ap (λ (bs : List ℕ). record { type = typeIn (number bs); size = lengthIn (number bs); bytes = m ++ replicate (64 - length m) 0 })
-      (take-append-le 2 m (replicate (64 - length m) 0) least)
-
-  -- a valid box that has room answers it
-  pub message-fed : (t : Settings) (room : ℕ) → valid (resting t) ≡ true → hasRoom (feedingOf (resting t) m room)
-      → (feedingOf (resting t) m room .fed .code ≡ codeOf t (messageOf m))
-      × (feedingOf (resting t) m room .fed .station ≡ resting (settingsAfter t (messageOf m)))
-      × (feedingOf (resting t) m room .bytes ≡ replyOf t (messageOf m))
-  message-fed t room v some =
-      rw (whole-answered m t room took v some)
-      (ap (codeOf t) is-message, ap (λ (x : Message). resting (settingsAfter t x)) is-message, ap (replyOf t) is-message)
+    room : length (take 64 m ++ replicate (64 - length m) 0) ≡ 64
+    room = simp (length-append, length-take, length-replicate) (omega arith)
 
 -- ---- the calls in between
 
@@ -167,7 +140,7 @@ later-shows : (shown : List ℕ) (b : Station) (t : Settings) (q : List ℕ) (la
 later-shows shown b t q later v shows calm more one kind answered =
     let asked = messageOf q in
     let test = touching (named asked) in
-    let f = message-fed q one t (request-low kind) answered t later (calls-keep test b (resting t) calm v) more in (
+    let f = message-fed q (one .announces) t later (calls-keep test b (resting t) calm v) more in (
       f .0 ∙ answered,
       f .2
           ∙ asked-shows t asked kind answered
@@ -181,7 +154,7 @@ set-fed-shows : (s : Settings) (m : List ℕ) (room : ℕ) (q : Message) → val
     → covering (s .setup) (named (messageOf m)) (named q) ≡ true
     → row q .rule .value (feedingOf (resting s) m room .fed .station .settings) (parameters q) ≡ valueSet s (messageOf m)
 set-fed-shows s m room q v enough one kind h covered =
-    let f = message-fed m one s (set-low kind) h s room v enough in
+    let f = message-fed m (one .announces) s room v enough in
     let set = named (messageOf m) in
     ap (λ (b : Station). row q .rule .value (b .settings) (parameters q)) (f .1)
     ∙ ap (λ (code : ℕ). rowOf code .rule .value (settingsAfter s (messageOf m)) (parameters q))
@@ -196,7 +169,7 @@ fed-set-shows-later s m room t q later v enough more one kind h calm two asked c
 
 pub fed-state-shows : FedStateShowsInStatus
 fed-state-shows s m room t q later v enough more one kind item h calm two asked same answered =
-    let f = message-fed m one s (set-low kind) h s room v enough in
+    let f = message-fed m (one .announces) s room v enough in
     let p = parameters (messageOf q) in
     later-shows (pick (eqb (runByte (parameters (messageOf m))) idle) 0x0B 0x0C ∷ [])
     (feedingOf (resting s) m room .fed .station) t q later (feeding-keeps (resting s) m room v)
@@ -208,7 +181,7 @@ fed-state-shows s m room t q later v enough more one kind item h calm two asked 
 -- The same at once: the whole set in one call, and the whole request in the next.
 pub fed-set-shows : ShowsSets feedingOf
 fed-set-shows s m room q later v enough more one kind h two asked covered answered =
-    let f = message-fed m one s (set-low kind) h s room v enough in (
+    let f = message-fed m (one .announces) s room v enough in (
       (f .0 ∙ h, f .2 ∙ set-replies s (messageOf m) h kind (held-whole m one s (set-low kind) h)),
       rw (f .1)
           (fed-set-shows-later s m room (settingsAfter s (messageOf m)) q later v enough (rw (f .1) at more) one kind h
@@ -233,18 +206,13 @@ setup-kept test finer s t calm =
     (λ u n before. before)
     s t calm refl
 
--- of two tests that both fail
-neither : (a b : Bool) → a || b ≡ false → (a ≡ false) × (b ≡ false)
-neither true b h = absurd (true-not-false h)
-neither false b h = (refl, h)
-
 pub fed-same-answer : FedSameAnswer
 fed-same-answer s t q room later v enough more asked calm =
     let m = finishedBy (resting s) q in
     let test = answering (named m) in
     let same =
     shown-left test (itemIn m) (parameters m)
-    (λ setup set none. neither (touches setup set (named m)) (opens set (named m)) none .0) (resting s) (resting t) calm in
+    (λ setup set none. or-neither (touches setup set (named m)) (opens set (named m)) none .0) (resting s) (resting t) calm in
     bytes-fed t q later (calls-keep test (resting s) (resting t) calm v) more
     ∙ ap (λ (reply : List ℕ). pick (callTakes between q .finished) reply [])
     (answered-alike s t m asked (λ second. setup-kept test (not-opened m second) (resting s) (resting t) calm) same)
@@ -253,7 +221,7 @@ fed-same-answer s t q room later v enough more asked calm =
     not-opened : (m : Message) → asksSecond (named m) ≡ true → (setup : ℕ) (set : Named) → answering (named m) setup set ≡ false
         → eqb (set .item) (channelSetup .code) ≡ false
     not-opened m second setup set none =
-        let opened = neither (touches setup set (named m)) (opens set (named m)) none .1 in
+        let opened = or-neither (touches setup set (named m)) (opens set (named m)) none .1 in
         sym (and-true (eqb (set .item) (channelSetup .code))) ∙ rw second at opened
 
 -- ---- two boxes that are none of ours

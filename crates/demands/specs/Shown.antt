@@ -6,7 +6,7 @@ use mathlib.Core.Bool.{Bool, true, false, _&&_, _||_}
 use mathlib.Core.List.{List, [], _∷_, _++_}
 use lib.Dec.{eqb}
 use lib.IntN.{ℤ}
-use lib.ListN.{length, getD, take, drop, replicate}
+use lib.ListN.{length, take, drop, replicate}
 use Rattle.wire.specs.Choice.{pick, firstRow}
 use Rattle.wire.specs.Codes as Code
 use Rattle.wire.specs.Number.{bytes, field}
@@ -18,7 +18,8 @@ use Rattle.items.specs.declared.Settings.{Settings}
 use Rattle.items.specs.Items.{echoes, status, state, idle, run, runByte, modeByte, stateBytes}
 use Rattle.items.specs.Items.{channelSetup, frequency, gain, clock, rate, packetSize}
 use Rattle.items.specs.Items.{Echoed, noByte, anId, anyChannel, aChannel, rowOf}
-use Rattle.items.specs.Answer.{Message, itemIn, row, parameters, coversAsked, codeOf, settingsAfter, framed}
+use Rattle.items.specs.Answer.{Message, itemIn, row, parameters, codeOf, settingsAfter, framed}
+use Rattle.items.specs.Touching.{Named, named, covering, touches}
 use Rattle.station.specs.declared.Station.{Station}
 use Rattle.station.specs.Station.{valid}
 use Rattle.station.specs.Feeding.{Feeding, messageIn, feedingOf}
@@ -74,28 +75,6 @@ pub record HeldWhole (m : Message) : Type 0 where
 abbrev pub showing : Message → List ℕ → List ℕ
 showing q value = framed typeReply (bytes 2 (itemIn q) ++ take (echoes (row q .echoed)) (parameters q) ++ value)
 
--- What a message names: its item, and the byte behind the item's code, which is the channel byte where the item has one.
-pub record Named : Type 0 where
-  pub item : ℕ
-  pub byte : ℕ
-
-abbrev pub naming : ℕ → List ℕ → Named
-naming item p = record { item = item; byte = getD p 0 0 }
-
-abbrev pub named : Message → Named
-named m = naming (itemIn m) (parameters m)
-
--- A set covers what a request asks for, by 0019's value when the set comes: it is of the same item, and where that is a channel's, it
--- covers the channel.
-abbrev pub covering : ℕ → Named → Named → Bool
-covering setup set asked =
-    eqb (set .item) (asked .item) && coversAsked setup (rowOf (set .item) .echoed) (set .byte) (asked .byte)
-
--- It can change what the request shows: if it covers what is asked for, and if it is the state, which the status shows too ("0B idle, 0C
--- running").
-abbrev pub touches : ℕ → Named → Named → Bool
-touches setup set asked = covering setup set asked || (eqb (set .item) (state .code) && eqb (asked .item) (status .code))
-
 -- A set of 0019 opens channel 02 or closes it: then a request that names it may be answered otherwise.
 abbrev pub ofChannels : Echoed → Bool
 ofChannels noByte = false
@@ -112,13 +91,6 @@ opens set asked = eqb (set .item) (channelSetup .code) && asksSecond asked
 -- the message is an accepted set, and can change what `asked` shows
 abbrev pub changes : Named → Settings → Message → Bool
 changes asked s m = eqb (codeOf s m) Code.done && eqb (m .type) typeSet && touches (s .setup) (named m) asked
-
--- What it does not touch is unchanged: a set of one item, whatever its parameters, leaves the value of every other, but for the status
--- where the state is set, and that of every channel that it does not cover.
-abbrev pub OthersUnchanged : Type 0
-OthersUnchanged =
-    (a b : ℕ) (s : Settings) (p q : List ℕ) → touches (s .setup) (naming a p) (naming b q) ≡ false
-    → rowOf b .rule .value (rowOf a .rule .stored s p) q ≡ rowOf b .rule .value s q
 
 -- the settings after one message after the other
 abbrev pub afterAll : Settings → List Message → Settings
@@ -137,10 +109,9 @@ pub record OneMessage (m : List ℕ) : Type 0 where
   pub areBytes : allBytes m
   pub announces : announced m ≡ length m
 
--- the message that a box holds when it has taken them: "unused places are zero". (Of more than 64 bytes it would hold the first 64;
--- but no set or request so long is accepted.)
+-- the message that a box holds when it has taken them: "The box keeps the first 64 bytes", and "unused places are zero"
 abbrev pub messageOf : List ℕ → Message
-messageOf m = record { type = typeIn (headerIn m); size = lengthIn (headerIn m); bytes = m ++ replicate (64 - length m) 0 }
+messageOf m = record { type = typeIn (headerIn m); size = lengthIn (headerIn m); bytes = take 64 m ++ replicate (64 - length m) 0 }
 
 -- a box between messages
 abbrev pub resting : Settings → Station

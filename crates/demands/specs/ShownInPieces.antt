@@ -11,7 +11,8 @@ use Rattle.items.specs.declared.Settings.{Settings}
 use Rattle.items.specs.Answer.{codeOf, settingsAfter}
 use Rattle.station.specs.Station.{valid}
 use Rattle.station.specs.Serving.{Piece, joined, roomy, unserved, serving}
-use Rattle.demands.specs.Shown.{OneMessage, messageOf, resting, named, covering, valueSet, showing}
+use Rattle.items.specs.Touching.{named, covering}
+use Rattle.demands.specs.Shown.{OneMessage, messageOf, resting, valueSet, showing}
 
 -- A whole set that is to be accepted and a whole request that it covers and that is to be accepted then, one after the other and in any
 -- pieces: the replies are these two and no other, in this order, and both show the value set.

@@ -8,12 +8,12 @@ use lib.Dec.{eqb}
 use lib.ListN.{length}
 use borrow.Author.Tests.{eqb-true}
 use Rattle.wire.specs.Choice.{pick, oneOf}
-use Rattle.wire.specs.Header.{typeSet, typeRequest}
+use Rattle.wire.specs.Header.{typeSet}
 use Rattle.wire.proofs.Laws.{by-test, or-rest, pick-keeps}
 use Rattle.packets.specs.Channels.{isCount}
 use Rattle.items.specs.declared.Channel.{Channel}
 use Rattle.items.specs.declared.Settings.{Settings}
-use Rattle.items.specs.Settings.{dual, openChannels, channelsOf, covers, channelShown, channelAt, onChannels, tunedTo, withClock}
+use Rattle.items.specs.Settings.{dual, openChannels, channelsOf, covers, channelShown, channelAt, onChannels}
 use Rattle.items.specs.Items.{aChannel}
 use Rattle.items.specs.Answer.{channelAllowed}
 
@@ -49,17 +49,14 @@ module _ (s : Settings) (byte asked : ℕ) (change : Channel → Channel) where
       go true = keeps (channelAt asked s)
       go false = refl
 
--- a clock leaves of either channel all but its word
-pub clock-keeps : (s : Settings) (asked hz : ℕ) (get : Channel → ℕ) → ((c : Channel) → get (tunedTo (c .frequency) hz c) ≡ get c)
-    → get (channelAt asked (withClock hz s)) ≡ get (channelAt asked s)
-clock-keeps s asked hz get keeps = go (eqb asked 0x02)
+-- what either channel keeps, the channel keeps that is shown beside a byte
+pub either-keeps : (s t : Settings) (asked : ℕ) (get : Channel → ℕ) → get (t .first) ≡ get (s .first) → get (t .second) ≡ get (s .second)
+    → get (channelAt asked t) ≡ get (channelAt asked s)
+either-keeps s t asked get first second = go (eqb asked 0x02)
   where
-    at : Channel → Channel
-    at c = tunedTo (c .frequency) hz c
-
-    go : (second : Bool) → get (pick second (at (s .second)) (at (s .first))) ≡ get (pick second (s .second) (s .first))
-    go true = keeps (s .second)
-    go false = keeps (s .first)
+    go : (b : Bool) → get (pick b (t .second) (t .first)) ≡ get (pick b (s .second) (s .first))
+    go true = second
+    go false = first
 
 -- a box's packets hold one channel or two
 pub box-count : (s : Settings) → isCount (channelsOf s) ≡ true

@@ -9,3 +9,5 @@ pub mod States
 pub mod Versions
 pub mod Behind
 pub mod Channels
+pub mod Touching
+pub mod EitherOrder

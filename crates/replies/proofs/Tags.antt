@@ -19,7 +19,8 @@ use Rattle.wishes.specs.declared.Wish.the-variants.{SetGain, AskGain, SetClock,
 use Rattle.wishes.specs.declared.Wish.the-variants.{SetRate, AskRate, SetPacketSize, AskPacketSize}
 use Rattle.wishes.specs.Wishes.{layoutOf}
 use Rattle.wishes.proofs.Rows.{by-wish}
-use Rattle.wire.proofs.Laws.{each, one-has}
+use Rattle.wire.specs.Lists.{each}
+use Rattle.wire.proofs.Laws.{one-has}
 use Rattle.replies.specs.declared.Reply.{Reply}
 use Rattle.replies.specs.declared.Reply.the-variants.{Name, Serial, Interface, Status, ChannelSetup, Frequency}
 use Rattle.replies.specs.declared.Reply.the-variants.{FrequencyRange, Gain, Clock, Rate, PacketSize, NotAReply}

@@ -10,6 +10,7 @@ use mir.Val.{boolByte}
 use borrow.Author.Needs.{needs}
 use borrow.Author.Tests.{lt-ltb, le-ltb, le-leb, lt-leb, eq-eqb, ne-eqb, eqb-true, leb-true}
 use Rattle.wire.specs.Choice.{pick, oneOf, within}
+use Rattle.wire.specs.Lists.{each}
 
 -- each test of a definition is decided by a branch that was taken or left
 pub ruleset cases = (needs, lt-ltb, le-ltb, le-leb, lt-leb, eq-eqb, ne-eqb)
@@ -71,6 +72,11 @@ pub or-rest : (a b : Bool) → a || b ≡ true → a ≡ false → b ≡ true
 or-rest true b e p = absurd (true-not-false p)
 or-rest false b e p = e
 
+-- where not one holds, neither does
+pub or-neither : (a b : Bool) → a || b ≡ false → (a ≡ false) × (b ≡ false)
+or-neither true b e = absurd (true-not-false e)
+or-neither false b e = (refl, e)
+
 pub or-false : (a : Bool) → a || false ≡ a
 or-false true = refl
 or-false false = refl
@@ -95,12 +101,28 @@ module _ {X : Type 0} where
   pick-keeps P true x y h k = h refl
   pick-keeps P false x y h k = k refl
 
+  -- two changes, each made or not: where they commute both made, they commute
+  pub either-made : (b c : Bool) (f g : X → X) (x : X) → (b ≡ true → c ≡ true → g (f x) ≡ f (g x))
+      → pick c (g (pick b (f x) x)) (pick b (f x) x) ≡ pick b (f (pick c (g x) x)) (pick c (g x) x)
+  either-made true true f g x h = h refl refl
+  either-made true false f g x h = refl
+  either-made false true f g x h = refl
+  either-made false false f g x h = refl
+
 -- ---- splitting
 
 -- a test splits
 pub by-test : {P : Type 0} (t : Bool) → (t ≡ true → P) → (t ≡ false → P) → P
 by-test true held failed = held refl
 by-test false held failed = failed refl
+
+-- two tests split
+pub by-two-tests : {P : Type 0} (a b : Bool) → (a ≡ true → b ≡ true → P) → (a ≡ true → b ≡ false → P) → (a ≡ false → b ≡ true → P)
+    → (a ≡ false → b ≡ false → P) → P
+by-two-tests true true both first second none = both refl refl
+by-two-tests true false both first second none = first refl refl
+by-two-tests false true both first second none = second refl refl
+by-two-tests false false both first second none = none refl refl
 
 -- of two tests one holds
 pub by-or : {P : Type 0} (a b : Bool) → (a ≡ true → P) → (b ≡ true → P) → a || b ≡ true → P
@@ -110,10 +132,6 @@ by-or false b first second e = second e
 -- ---- `oneOf`
 
 -- what each of a list has, one of it has
-abbrev pub each : (ℕ → Type 0) → List ℕ → Type 0
-each P [] = Unit {0}
-each P (m ∷ ms) = P m × each P ms
-
 pub one-has : (P : ℕ → Type 0) (n : ℕ) (ms : List ℕ) → each P ms → oneOf n ms ≡ true → P n
 one-has P n [] h e = never e
 one-has P n (m ∷ ms) h e =

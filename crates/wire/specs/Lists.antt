@@ -1,8 +1,13 @@
--- Lists of bytes: each is a byte, two are the same, and pieces joined in order.
+-- Lists: what each of one has; and of bytes: each is a byte, two are the same, and pieces joined in order.
 use Prim.Native.Nat.{ℕ, _<_}
 use mathlib.Core.Bool.{Bool, true, false, _&&_}
 use mathlib.Core.List.{List, [], _∷_, _++_}
 use lib.Dec.{eqb}
+
+-- what each of a list has
+abbrev pub each : {A : Type 0} → (A → Type 0) → List A → Type 0
+each P [] = Unit {0}
+each P (x ∷ xs) = P x × each P xs
 
 -- each is a byte
 abbrev pub allBytes : List ℕ → Type 0

@@ -69,6 +69,8 @@ pub const COUNTS: [u8; 6] = [0, 1, 2, 3, 4, 255];
 /// Channel setups: both, those that document 003 has besides, and others.
 pub const SETUPS: [u8; 11] = [0, 1, 2, 3, 4, 5, 6, 7, 8, 0x80, 0xFF];
 pub const ITEMS: [u16; 12] = [0x01, 0x02, 0x03, 0x04, 0x05, 0x18, 0x19, 0x20, 0x38, 0xB0, 0xB8, 0xC4];
+/// The items of which two sets may come in either order.
+const IN_ANY_ORDER: [u16; 6] = [0x19, 0x20, 0x38, 0xB0, 0xB8, 0xC4];
 
 pub fn frequency(r: &mut Random) -> u64 {
     match r.below(4) {
@@ -134,6 +136,38 @@ pub fn count(r: &mut Random) -> u8 {
     }
 }
 
+/// The parameters of a set of this item, of its length and with a value that may be allowed.
+fn set_parameters(r: &mut Random, item: u16) -> Vec<u8> {
+    match item {
+        0x18 => vec![r.of(&[0x80, 0x80, 0x80, 0x00, 0x81]), run_byte(r), mode(r), r.byte()],
+        0x19 => vec![if r.once_in(4) { r.of(&SETUPS) } else { setup(r) }],
+        0x20 => {
+            let mut p = vec![channel(r)];
+            p.extend(&frequency(r).to_le_bytes()[..5]);
+            p
+        }
+        0x38 => vec![channel(r), if r.once_in(4) { r.byte() } else { r.of(&GAINS) }],
+        0xB0 => {
+            let mut p = vec![channel(r)];
+            p.extend(&clock(r).to_le_bytes()[..4]);
+            p
+        }
+        0xB8 => {
+            let mut p = vec![channel(r)];
+            p.extend(&sample_rate(r).to_le_bytes()[..4]);
+            p
+        }
+        0xC4 => vec![r.of(&[0, 1, 0, 1, 2, 0xFF])],
+        _ => vec![0; r.size(5)],
+    }
+}
+
+/// The message of this kind and item with these parameters.
+fn message_of(kind: u16, item: u16, parameters: &[u8]) -> Vec<u8> {
+    let header = (4 + parameters.len()) as u16 | kind << 13;
+    [&header.to_le_bytes(), &item.to_le_bytes(), parameters].concat()
+}
+
 /// A control message, most often of the right length for its item and kind.
 fn control(r: &mut Random) -> Vec<u8> {
     let item = match r.below(12) {
@@ -143,28 +177,7 @@ fn control(r: &mut Random) -> Vec<u8> {
     };
     let kind = r.of(&[0u16, 0, 0, 0, 1, 1, 2]);
     let mut parameters = if kind == 0 {
-        match item {
-            0x18 => vec![r.of(&[0x80, 0x80, 0x80, 0x00, 0x81]), run_byte(r), mode(r), r.byte()],
-            0x19 => vec![if r.once_in(4) { r.of(&SETUPS) } else { setup(r) }],
-            0x20 => {
-                let mut p = vec![channel(r)];
-                p.extend(&frequency(r).to_le_bytes()[..5]);
-                p
-            }
-            0x38 => vec![channel(r), if r.once_in(4) { r.byte() } else { r.of(&GAINS) }],
-            0xB0 => {
-                let mut p = vec![channel(r)];
-                p.extend(&clock(r).to_le_bytes()[..4]);
-                p
-            }
-            0xB8 => {
-                let mut p = vec![channel(r)];
-                p.extend(&sample_rate(r).to_le_bytes()[..4]);
-                p
-            }
-            0xC4 => vec![r.of(&[0, 1, 0, 1, 2, 0xFF])],
-            _ => vec![0; r.size(5)],
-        }
+        set_parameters(r, item)
     } else {
         match item {
             0x04 => vec![r.of(&[0, 1, 2, 3, 4, 0xFF])],
@@ -176,12 +189,59 @@ fn control(r: &mut Random) -> Vec<u8> {
         let count = r.size(10);
         parameters.resize(count, 0x80);
     }
-    let mut message = vec![0, 0];
-    message.extend(item.to_le_bytes());
-    message.extend(parameters);
-    let header = message.len() as u16 | kind << 13;
-    message[..2].copy_from_slice(&header.to_le_bytes());
-    message
+    message_of(kind, item, &parameters)
+}
+
+/// A whole set of this item, most often of its length and with a value that may be allowed.
+fn set(r: &mut Random, item: u16) -> Vec<u8> {
+    let mut parameters = set_parameters(r, item);
+    match r.below(32) {
+        0 => {
+            // broken off, and filled up to its length
+            let length = parameters.len();
+            parameters.truncate(r.size(length));
+            parameters.resize(length, 0x55);
+        }
+        1 => parameters.resize(r.size(10), 0x80),
+        // as long as a message that a box keeps, longer, and the longest
+        2 => parameters.resize(r.of(&[59, 60, 61, 62, 500, 0x1FFF - 4]), 0x55),
+        3 => r.fill(&mut parameters),
+        4 => {
+            let count = r.size(80);
+            parameters = r.bytes(count);
+        }
+        _ => {}
+    }
+    message_of(0, item, &parameters)
+}
+
+/// What a set names: its item, and the byte behind the item's code, which is the channel byte where the item has one.
+fn named(set: &[u8]) -> (u16, u8) {
+    (u16::from_le_bytes([set[2], set[3]]), set.get(4).copied().unwrap_or(0))
+}
+
+/// Whether sets that name these may come in either order: two items of those that may, but not the setup and a frequency or
+/// gain of all channels or of the second; or the frequency, or the gain, of the one channel and of the other.
+fn exchangeable(one: (u16, u8), other: (u16, u8)) -> bool {
+    let excepted = |a, b| matches!((a, b), ((0x19, _), (0x20 | 0x38, 0xFF | 0x02)));
+    match (one, other) {
+        ((0x20, 0x00), (0x20, 0x02)) | ((0x20, 0x02), (0x20, 0x00)) => true,
+        ((0x38, 0x00), (0x38, 0x02)) | ((0x38, 0x02), (0x38, 0x00)) => true,
+        _ => one.0 != other.0 && !excepted(one, other) && !excepted(other, one),
+    }
+}
+
+/// Two sets that may come in either order.
+pub fn exchangeable_sets(r: &mut Random) -> [Vec<u8>; 2] {
+    loop {
+        let item = r.of(&IN_ANY_ORDER);
+        // often the same item: few such pairs are of both channels
+        let other = if r.once_in(2) { item } else { r.of(&IN_ANY_ORDER) };
+        let sets = [set(r, item), set(r, other)];
+        if exchangeable(named(&sets[0]), named(&sets[1])) {
+            return sets;
+        }
+    }
 }
 
 /// One message of any kind, whole.

@@ -23,6 +23,12 @@ use outside::{head, rate, Form, Head, Reader, Station};
 /// A wish as number, channel byte and value.
 type Wished = (u64, u8, u64);
 
+/// What a library answered to a call of feeding: code, bytes consumed, bytes written, and the buffer.
+type Answered = ((u8, usize, usize), Vec<u8>);
+
+/// What came of two messages: what both libraries answered to either, and both boxes after them.
+type Outcome = ([(Answered, Answered); 2], (Vec<u8>, Vec<u8>));
+
 /// After so many differences the rest would say nothing new.
 const MOST_SHOWN: u64 = 10;
 
@@ -45,9 +51,20 @@ impl Comparison<'_> {
         input: impl Fn() -> String,
     ) {
         *self.seen.entry(call).or_default().entry(code).or_default() += 1;
+        self.hold(call, [("plain", ours), ("other", other)], input);
+    }
+
+    /// Holds two things that have to be the same against each other, each with the name that a difference is told by.
+    fn hold<T: PartialEq + Debug>(
+        &mut self,
+        call: &str,
+        [(name, ours), (others_name, other)]: [(&str, T); 2],
+        input: impl Fn() -> String,
+    ) {
         if ours != other {
             self.differences += 1;
-            println!("DIFFERENCE in {call}\n  input  {}\n  plain  {ours:02X?}\n  other  {other:02X?}", input());
+            println!("DIFFERENCE in {call}\n  input  {}", input());
+            println!("  {name:6} {ours:02X?}\n  {others_name:6} {other:02X?}");
             if self.differences == MOST_SHOWN {
                 println!("{MOST_SHOWN} differences: no more are looked for");
                 exit(1);
@@ -64,14 +81,51 @@ impl Comparison<'_> {
 
     /// One call of feeding; both states go on from what each made of it.
     fn feed(&mut self, states: &mut (Vec<u8>, Vec<u8>), host: &[u8], room: usize) -> (u8, usize) {
+        let ((code, consumed, _), _) = self.answers("feed", states, host, room).0;
+        (code, consumed)
+    }
+
+    /// The same, counted by the name given; what both answered.
+    fn answers(
+        &mut self,
+        call: &'static str,
+        states: &mut (Vec<u8>, Vec<u8>),
+        host: &[u8],
+        room: usize,
+    ) -> (Answered, Answered) {
         let before = states.0.clone();
         let (mut ours, mut theirs) = (vec![0xEE; room], vec![0xEE; room]);
         let done = self.plain.feed(&mut states.0, host, &mut ours);
         let other = self.other.feed(&mut states.1, host, &mut theirs);
-        self.note("feed", done.0, (done, ours, &states.0), (other, theirs, &states.1), || {
+        self.note(call, done.0, (done, &ours, &states.0), (other, &theirs, &states.1), || {
             format!("state {before:02X?} host {host:02X?} room {room}")
         });
-        (done.0, done.1)
+        ((done, ours), (other, theirs))
+    }
+
+    /// Two messages fed to the same box in both orders: what came of the order given, and what of the other.
+    fn both_orders(&mut self, call: &'static str, state: &[u8], [one, other]: [&[u8]; 2]) -> [Outcome; 2] {
+        let mut forth = (state.to_vec(), state.to_vec());
+        let answers = [one, other].map(|message| self.answers(call, &mut forth, message, 64));
+        let mut back = (state.to_vec(), state.to_vec());
+        let [to_other, to_one] = [other, one].map(|message| self.answers(call, &mut back, message, 64));
+        [(answers, forth), ([to_one, to_other], back)]
+    }
+
+    /// Two sets that may come in either order: each library answers them the same and has the same box after both.
+    fn either_order(&mut self, state: &[u8], sets: [&[u8]; 2]) {
+        let [forth, back] = self.both_orders("either order", state, sets);
+        self.hold("either order", [("forth", forth), ("back", back)], || {
+            format!("state {state:02X?} sets {sets:02X?}")
+        });
+    }
+
+    /// Two sets of which the order tells.
+    fn order_tells(&mut self, state: &[u8], sets: [&[u8]; 2]) {
+        let [forth, back] = self.both_orders("order tells", state, sets);
+        self.hold("order tells", [("tells", forth != back), ("wanted", true)], || {
+            format!("state {state:02X?} sets {sets:02X?}")
+        });
     }
 
     fn word(&mut self, state: &[u8], channel: u8) {
@@ -418,6 +472,15 @@ fn random_spans(c: &mut Comparison, r: &mut Random, times: u64) {
     }
 }
 
+/// A box between messages, idle or running, with one channel open or with both, and two sets that may come in either order.
+fn random_orders(c: &mut Comparison, r: &mut Random, times: u64) {
+    for _ in 0..times {
+        let state = station_bytes(&inputs::sound(r));
+        let [one, other] = inputs::exchangeable_sets(r);
+        c.either_order(&state, [&one, &other]);
+    }
+}
+
 // ---- every edge
 
 /// Every header, with a message of its own length, in one slice and cut after its first and second byte.
@@ -568,6 +631,20 @@ fn every_setup(c: &mut Comparison) {
     }
 }
 
+/// The exceptions: sets that may not come in either order. The setup opens the second channel, which a set of all channels or
+/// of the second then covers; and a rate is not set while running.
+fn every_exception(c: &mut Comparison) {
+    for [one, other] in [
+        [set_setup(4), set_frequency(0xFF, 14_010_000)],
+        [set_setup(4), set_frequency(0x02, 14_010_000)],
+        [set_setup(4), set_gain(0xFF, 0xF6)],
+        [set_setup(4), set_gain(0x02, 0xF6)],
+        [set_rate(0x00, 100_000), START_24.to_vec()],
+    ] {
+        c.order_tells(&fresh_state(), [&one, &other]);
+    }
+}
+
 /// Frequencies and clocks around each edge, with the word of each pair.
 fn every_edge_of_bands(c: &mut Comparison) {
     let state = fresh_state();
@@ -647,7 +724,7 @@ fn every_tuning(c: &mut Comparison) {
             set_frequency(0xFF, 145_000_000),
             set_clock(0xFF, 79_992_000),
             set_frequency(0x02, 34_000_001),
-            vec![0x08, 0x00, 0x18, 0x00, 0x80, 0x02, 0x80, 0x00],
+            START_24.to_vec(),
             set_setup(4),
             set_setup(0),
             set_setup(5),
@@ -1241,6 +1318,9 @@ fn every_end_time(c: &mut Comparison, r: &mut Random) {
     }
 }
 
+/// The box is started with 24 bits.
+const START_24: [u8; 8] = [0x08, 0x00, 0x18, 0x00, 0x80, 0x02, 0x80, 0x00];
+
 fn set_setup(setup: u8) -> Vec<u8> {
     vec![0x05, 0x00, 0x19, 0x00, setup]
 }
@@ -1257,6 +1337,10 @@ fn set_clock(channel: u8, clock: u64) -> Vec<u8> {
     [&[0x09, 0x00, 0xB0, 0x00, channel], &clock.to_le_bytes()[..4]].concat()
 }
 
+fn set_rate(channel: u8, rate: u64) -> Vec<u8> {
+    [&[0x09, 0x00, 0xB8, 0x00, channel], &rate.to_le_bytes()[..4]].concat()
+}
+
 fn fresh_state() -> Vec<u8> {
     let mut state = vec![0; STATION_BYTES];
     Plain.fresh(b"MT123456", &mut state);
@@ -1264,9 +1348,11 @@ fn fresh_state() -> Vec<u8> {
 }
 
 /// The codes that a call can give at all; each has to have been seen.
-const POSSIBLE: [(&str, &[u8]); 18] = [
+const POSSIBLE: [(&str, &[u8]); 20] = [
     ("fresh", &[1, 21, 26]),
     ("feed", &[0, 1, 2, 10, 11, 12, 13, 14, 15, 16, 17, 20, 21]),
+    ("either order", &[1, 10, 13, 15, 16, 17]),
+    ("order tells", &[1, 15, 17]),
     ("word", &[1, 15, 21]),
     ("cut", &[1, 20, 21, 22, 23, 24, 25]),
     ("silent", &[1, 21]),
@@ -1301,6 +1387,7 @@ fn main() -> ExitCode {
     every_byte(&mut c);
     every_channel(&mut c);
     every_setup(&mut c);
+    every_exception(&mut c);
     every_edge_of_bands(&mut c);
     every_word(&mut c, r);
     every_tuning(&mut c);
@@ -1335,6 +1422,7 @@ fn main() -> ExitCode {
         random_wishes(&mut c, r, 500_000);
         random_heads(&mut c, r, 200_000);
         random_spans(&mut c, r, 20_000);
+        random_orders(&mut c, r, 200_000);
     }
 
     let mut calls = 0;
