@@ -36,7 +36,12 @@ pub fn best(runners: &mut [Runner], parts: f64, rounds: usize) -> Vec<(Who, f64)
 }
 
 pub fn head(part: &str) {
-    println!("| ns for each {part} | proved | Rust | C -O3 | proved / Rust | proved / C | at most, of Rust |");
+    head_in(&format!("ns for each {part}"));
+}
+
+/// The same with a unit of its own.
+pub fn head_in(what: &str) {
+    println!("| {what} | proved | Rust | C -O3 | proved / Rust | proved / C | at most, of Rust |");
     println!("|---|---|---|---|---|---|---|");
 }
 

@@ -1,8 +1,11 @@
-//! The examples of documents 01 and 02, and those that source document 003 prints.
+//! The examples of documents 01 and 02, those that source document 003 prints, a radio program's talk as it was recorded, and the
+//! capture of hours with losses that the benchmarks read.
 
+use outside::capture::{arrivals, numbered, numbered_packets};
 use outside::packet::{number_at, sample_bytes, samples_fit, to_sixteen};
 use outside::reader::{read_run, unpack, Place};
-use outside::station::{Channel, Settings};
+use outside::station::{serve, Channel, Settings};
+use outside::talk::{radio_program, GQRX};
 use outside::wish::StateWish;
 use outside::{head, reply, span, Code, Form, Head, Reader, Reply, Station, Wish};
 
@@ -16,10 +19,13 @@ fn fresh() -> Station {
 
 /// Feeds one message in one call; its code and what was answered.
 fn tell(station: &mut Station, message: &str) -> (u8, Vec<u8>) {
-    let bytes = hex(message);
+    tell_bytes(station, &hex(message))
+}
+
+fn tell_bytes(station: &mut Station, message: &[u8]) -> (u8, Vec<u8>) {
     let mut buffer = [0xEE; 64];
-    let fed = station.feed(&bytes, &mut buffer);
-    assert_eq!(fed.consumed, bytes.len(), "{message}");
+    let fed = station.feed(message, &mut buffer);
+    assert_eq!(fed.consumed, message.len(), "{message:02X?}");
     assert!(buffer[fed.wrote..].iter().all(|&b| b == 0xEE));
     (fed.code as u8, buffer[..fed.wrote].to_vec())
 }
@@ -53,6 +59,53 @@ fn examples_of_003() {
         run += 1;
     }
     assert_eq!(run, 59);
+}
+
+/// What the proved `session` answered when the talk was recorded, and before it the codes, which a host does not hear.
+const ANSWERS_TO_GQRX: [(u8, &str); 19] = [
+    (1, "0B 00 01 00 4E 65 74 53 44 52 00"),
+    (1, "0D 00 02 00 4D 54 31 32 33 34 35 36 00"),
+    (12, "02 00"),
+    (1, "07 00 04 00 00 64 00"),
+    (1, "07 00 04 00 01 6B 00"),
+    (1, "06 00 38 00 00 00"),
+    (16, "02 00"),
+    (1, "06 00 38 00 00 00"),
+    (1, "09 00 B8 00 00 40 0D 03 00"),
+    (12, "02 00"),
+    (1, "24 40 20 00 00 02 A0 86 01 00 00 80 CC 06 02 00 00 00 00 00 00 00 3B 58 08 00 80 D1 F0 08 00 00 68 89 09 00"),
+    (1, "0A 00 20 00 00 80 96 98 00 00"),
+    (1, "0A 00 20 00 00 80 96 98 00 00"),
+    (1, "0A 00 20 00 00 80 96 98 00 00"),
+    (1, "06 00 38 00 00 00"),
+    (1, "06 00 38 00 00 00"),
+    (1, "0A 00 20 00 00 90 C6 D5 00 00"),
+    (1, "0A 00 20 00 00 90 C6 D5 00 00"),
+    (1, "08 00 18 00 80 02 00 00"),
+];
+
+#[test]
+fn a_radio_program_connects_and_runs() {
+    let mut station = fresh();
+    for (message, (code, answer)) in GQRX.into_iter().zip(ANSWERS_TO_GQRX) {
+        assert_eq!(tell_bytes(&mut station, message), (code, hex(answer)), "{message:02X?}");
+    }
+    let Settings { running, mode, divisor, first, .. } = station.settings;
+    assert_eq!((running, mode, divisor, first.frequency), (true, 0x00, 100, 14_010_000));
+}
+
+/// The talk that is timed: the first as it was recorded, every other the same but for the frequency of before.
+#[test]
+fn a_radio_program_again_and_again() {
+    let talk = radio_program();
+    let mut replies = vec![0; talk.room()];
+    let wrote = serve(&talk.host, &mut replies);
+    let mut answers = ANSWERS_TO_GQRX.map(|(_, answer)| hex(answer)).to_vec();
+    answers.push(hex("08 00 18 00 80 01 00 00"));
+    let first = answers.concat();
+    answers[11] = hex("0A 00 20 00 00 90 C6 D5 00 00");
+    let others = answers.concat().repeat(talk.messages / answers.len() - 1);
+    assert_eq!(replies[..wrote], [first, others].concat());
 }
 
 #[test]
@@ -512,6 +565,23 @@ fn missed_packets() {
         assert_eq!(read_run(2, &packets, Form::SMALL_24.total()), (last.sample / 2, last.total));
         assert_eq!(read_run(3, &packets, Form::SMALL_24.total()), (0, 0));
     }
+}
+
+#[test]
+fn an_hour_with_losses() {
+    let hour = arrivals(Form::LARGE_24, 1);
+    assert_eq!((hour.stretches[0].start, hour.last), (0, 479_999));
+    let packets = numbered_packets(Form::LARGE_24);
+    let mut reader = Reader::new(1);
+    let mut longest = 0;
+    for number in hour.stretches.into_iter().flatten() {
+        let place = reader.read(numbered(&packets, number, 1444)).unwrap();
+        longest = longest.max(place.missed);
+    }
+    assert_eq!((reader.position, reader.total), (hour.last, hour.lost));
+    // two seconds to sixty in a row, and one in a thousand besides
+    let besides = hour.lost - longest;
+    assert!((266..8100).contains(&longest) && (400..600).contains(&besides), "{longest} and {besides}");
 }
 
 fn packet_of(form: Form, number: u16) -> Vec<u8> {

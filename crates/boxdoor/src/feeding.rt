@@ -89,7 +89,10 @@ pub extern "C" fn skvornela_word(state: &[u8], channel: u8, word: &mut u32) -> u
     ensures { λ r. ⌜ record { code = r; word = now (word .exit) } ≡ tunedOver (now (state .entry)) channel ⌝ }
 {
     if state.len() == crate::states::LENGTH {
-        let t = tuned_by(station::tuning_word(crate::states::station_in(state), channel));
+        let settings = crate::states::settings_of(state);
+        let taken = crate::states::taken_of(state);
+        // the held bytes are looked at where they lie
+        let t = tuned_by(station::word_held(settings, &state[HELD..TAKEN], taken, channel));
         *word = t.word;
         return t.code;
     }

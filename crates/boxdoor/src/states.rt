@@ -1,5 +1,4 @@
 // A box in lent bytes, field after field. Its layout stands here; docs/WORKING.md has it as a table.
-use framing::Store;
 use items::Channel;
 use items::Settings;
 use station::Station;
@@ -8,7 +7,7 @@ ghost use Prim.Native.Nat.{_+_, _≤_};
 ghost use lib.ListN.{length};
 ghost use lib.Seq.{sets};
 ghost use Rattle.wire.specs.Number.{bytes, field};
-ghost use Rattle.boxdoor.specs.States.{commonFrom, heldFrom, takenFrom, stationSize, channelIn, settingsIn, stationIn};
+ghost use Rattle.boxdoor.specs.States.{commonFrom, heldFrom, takenFrom, stationSize, channelIn, settingsIn};
 ghost use Rattle.boxdoor.specs.States.{channelBytes, commonBytes, settingsBytes, stationBytes};
 
 // Where a channel's word and gain begin, counted from the channel's first byte; at that byte begins its frequency.
@@ -85,23 +84,6 @@ pub(crate) fn taken_of(b: &[u8]) -> usize
     ensures { λ r. ⌜ r ≡ field takenFrom 8 (now (b .entry)) ⌝ }
 {
     wire::number_at(b, TAKEN, 8) as usize
-}
-
-// The box in its bytes.
-pub(crate) fn station_in(b: &[u8]) -> Station
-    requires { ⌜ length (now b) ≡ stationSize ⌝ }
-    ensures { λ r. ⌜ r ≡ stationIn (now (b .entry)) ⌝ }
-{
-    let mut held = [0u8; 64];
-    wire::copy(&b[HELD..TAKEN], &mut held, 0);
-    let store = Store {
-        held: held,
-        taken: taken_of(b),
-    };
-    Station {
-        settings: settings_of(b),
-        store: store,
-    }
 }
 
 // Stores a channel from a place on.

@@ -8,16 +8,16 @@ use mathlib.Core.Bool.{true, false, _&&_}
 use mathlib.Core.List.{List, [], _∷_}
 use lib.Dec.{eqb}
 use lib.ListN.{length, getD, take, drop, length-drop}
-use lib.Seq.{drop-cons, length-take-le}
+use lib.Seq.{drop-cons}
 use borrow.Author.Tests.{eqb-true, eq-eqb, ne-eqb, not-false}
 use Rattle.wire.specs.Choice.{pick}
 use Rattle.wire.proofs.Laws.{never, and-left, and-right, and-both, and-not-right, by-test}
 use Rattle.wire.specs.Number.{bytes, field}
 use Rattle.wire.specs.Header.{typeSet, typeRequest, typeRange}
-use Rattle.wire.proofs.Numbers.{bytes-number}
+use Rattle.wire.proofs.Numbers.{field-bytes}
 use Rattle.rates.proofs.Rates.{nearest-d}
 use Rattle.wire.specs.Lists.{allBytes}
-use Rattle.wire.proofs.Lists.{bytes-take, bytes-drop, byte-at}
+use Rattle.wire.proofs.Lists.{bytes-drop, byte-at}
 use Rattle.items.specs.declared.Settings.{Settings}
 use Rattle.items.specs.declared.Channel.{Channel}
 use Rattle.items.specs.Settings.{isMode, tunedTo, gainedTo}
@@ -38,12 +38,7 @@ use Rattle.demands.specs.Shown.{ofChannels, asksSecond, changes, afterAl
 
 -- ---- a request shows the value set
 
--- a field of a message, written as a number and shown again, is the bytes that were sent
-field-shown : (at n : ℕ) (p : List ℕ) → at + n ≤ length p → allBytes p → bytes n (field at n p) ≡ take n (drop at p)
-field-shown at n p room h =
-    let long : length (take n (drop at p)) ≡ n = length-take-le n (drop at p) (rw length-drop (omega arith)) in
-    rw long at (bytes-number (take n (drop at p)) (byte-at (take n (drop at p)) (bytes-take n (drop at p) (bytes-drop at p h))))
-
+-- a byte of a message, shown again
 byte-shown : (at : ℕ) (p : List ℕ) → at < length p → allBytes p → bytes 1 (getD p at 0) ≡ take 1 (drop at p)
 byte-shown at p room h =
     let small : getD p at 0 % 256 ≡ getD p at 0 = omega (arith, byte-at p h at) in
@@ -89,11 +84,11 @@ show =
     then (λ size long s p room b may free q covered. byte-shown 0 p (omega (arith, eqb-true size 5 long)) b)
     then (λ size long s p room b may free q covered.
     ap (λ (c : Channel). bytes 5 (c .frequency)) (channel-covered s (getD p 0 0) (getD q 0 0) (tunedTo (field 1 5 p) (s .clock)) covered)
-    ∙ field-shown 1 5 p (omega (arith, eqb-true size 10 long)) b)
+    ∙ field-bytes 1 5 p (byte-at p b) (omega (arith, eqb-true size 10 long)))
     then (λ size long s p room b may free q covered.
     ap (λ (c : Channel). bytes 1 (c .gain)) (channel-covered s (getD p 0 0) (getD q 0 0) (gainedTo (getD p 1 0)) covered)
     ∙ byte-shown 1 p (omega (arith, eqb-true size 6 long)) b)
-    then (λ size long s p room b may free q covered. field-shown 1 4 p (omega (arith, eqb-true size 9 long)) b)
+    then (λ size long s p room b may free q covered. field-bytes 1 4 p (byte-at p b) (omega (arith, eqb-true size 9 long)))
     then (λ size long s p room b may free q covered. rw (nearest-d (field 1 4 p) may) refl)
     then (λ size long s p room b may free q covered. byte-shown 0 p (omega (arith, eqb-true size 5 long)) b)
     then tt

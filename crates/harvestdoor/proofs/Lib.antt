@@ -1,3 +1,4 @@
 pub mod Fields
 pub mod Heard
+pub mod Going
 pub mod Asked

@@ -1,4 +1,5 @@
 pub mod States
 pub mod Reading
+pub mod Inside
 pub mod Asking
 pub mod Heads

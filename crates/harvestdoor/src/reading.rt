@@ -4,6 +4,8 @@ ghost use lib.ListN.{length};
 ghost use lib.Seq.{sets};
 ghost use Rattle.reader.specs.Reading.{sampleBytesOf, unpackingOf, numbersWritten};
 ghost use Rattle.harvestdoor.specs.Reading.{silentOver, readOver, sampleByteAt};
+ghost use Rattle.harvestdoor.specs.Inside.{heardBytes};
+use reader::Heard;
 use wire::codes;
 
 // Makes a reader that has heard nothing, of packets of so many channels, in 34 bytes. Answers 1; or 21, and leaves the bytes as they
@@ -20,6 +22,20 @@ pub extern "C" fn skvornela_silent(channels: u8, state: &mut [u8]) -> u8
     }
     crate::states::put_reader(state, reader::silent(channels));
     codes::DONE
+}
+
+// Stores the reader after a packet that was heard, in its 34 bytes: all of it where a capture starts, at position 0, and else what a
+// packet that goes on changes.
+fn put_heard(state: &mut [u8], h: Heard)
+    requires { ⌜ length (now state) ≡ 34 ⌝ }
+    ensures { λ _. ⌜ now (state .exit) ≡ heardBytes h (now (state .entry)) ⌝ }
+{
+    if h.position == 0 {
+        let after = h.reader;
+        crate::states::put_reader(state, after);
+        return;
+    }
+    crate::states::put_next(state, h.position, h.total);
 }
 
 // Reads one packet with a reader of 34 bytes. Answers the code, and leaves the packet's position, in each channel that of its first
@@ -52,8 +68,7 @@ pub extern "C" fn skvornela_read(
         *missed = h.missed;
         *total = h.total;
         if h.code == codes::DONE {
-            let after = h.reader;
-            crate::states::put_reader(state, after);
+            put_heard(state, h);
         }
         return h.code;
     }

@@ -109,21 +109,6 @@ pub moving-goes : (v : ℕ) (s : List ℕ) (room : ℕ) → headReadCode s ≡ 1
 unfolding movingCode headReadCode putCode
 moving-goes v s room h = first-goes-on (headReadChecks s) (movedChecks v (headIn s) room) 1 refl h
 
--- reading has three codes: 1, 41 and 40
-pub third-code : (s : List ℕ) → (headReadCode s ≡ 1 → ⊥) → (headReadCode s ≡ 41 → ⊥) → headReadCode s ≡ 40
-third-code s one other =
-    by (ltb (length s) 14) (eqb (field 0 3 s) (number mark)) (isHeadVersion (versionIn s)) (ltb (length s) (headLengthIn s))
-    (allowedHead (headIn s)) refl refl refl refl refl
-  where
-    by : (short marked known cut ok : Bool) → ltb (length s) 14 ≡ short → eqb (field 0 3 s) (number mark) ≡ marked
-        → isHeadVersion (versionIn s) ≡ known → ltb (length s) (headLengthIn s) ≡ cut → allowedHead (headIn s) ≡ ok → headReadCode s ≡ 40
-    by true marked known cut ok p q r t u = code-by s p q r t u
-    by false false known cut ok p q r t u = code-by s p q r t u
-    by false true false cut ok p q r t u = absurd (other (code-by s p q r t u))
-    by false true true true ok p q r t u = code-by s p q r t u
-    by false true true false false p q r t u = code-by s p q r t u
-    by false true true false true p q r t u = absurd (one (code-by s p q r t u))
-
 -- the same of what is written
 module _ (v : ℕ) (s : List ℕ) (room : ℕ) where
   pub moves-as : (h : Head) → headReadCode s ≡ 1 → headIn s ≡ h

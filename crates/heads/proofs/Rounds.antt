@@ -6,15 +6,15 @@ use mathlib.Core.Bool.{true}
 use mathlib.Core.List.{List, [], _∷_, _++_}
 use native.Mathlib.Omega.{arith}
 use lib.Dec.{eqb}
-use lib.ListN.{length, take, drop, length-drop}
-use lib.Seq.{take-add, drop-drop, length-take-le}
+use lib.ListN.{length, take, drop}
+use lib.Seq.{take-add, drop-drop}
 use borrow.Author.Tests.{le-ltb, ltb-false, eqb-true, eq-eqb, not-false}
 use Rattle.wire.specs.Choice.{pick}
 use Rattle.wire.specs.Number.{number, bytes, field}
 use Rattle.wire.specs.Lists.{allBytes}
 use Rattle.wire.proofs.Checks.{absent}
-use Rattle.wire.proofs.Lists.{bytes-take, bytes-drop, byte-at}
-use Rattle.wire.proofs.Numbers.{number-bytes, bytes-number}
+use Rattle.wire.proofs.Lists.{byte-at}
+use Rattle.wire.proofs.Numbers.{field-bytes, number-bytes}
 use Rattle.heads.specs.declared.Head.{Head}
 use Rattle.heads.specs.Head.{mark, isHeadVersion, fieldsOf, fieldBytes, headBytes, headLength, headLengthIn, versionIn, headIn}
 use Rattle.heads.specs.Head.{unknown, nominal, boxMode, allowedHead, headReadChecks, headReadCode, headReadingOf}
@@ -110,13 +110,6 @@ passed s e =
       ok = not-false _ (none .1 .1 .1 .1 .0);
     }
 
--- the bytes of a field are those that stand there
-field-bytes : (s : List ℕ) (at n : ℕ) → allBytes s → at + n ≤ length s → bytes n (field at n s) ≡ take n (drop at s)
-field-bytes s at n small room =
-    let there : length (take n (drop at s)) ≡ n = length-take-le n (drop at s) (simp length-drop (omega arith)) in
-    let part = bytes-take n (drop at s) (bytes-drop at s small) in
-    rw there at (bytes-number (take n (drop at s)) (byte-at (take n (drop at s)) part))
-
 -- fields that stand one after the other
 next : (s : List ℕ) (at n m : ℕ) → take (n + m) (drop at s) ≡ take n (drop at s) ++ take m (drop (at + n) s)
 next s at n m = take-add n m (drop at s) ∙ ap (λ (l : List ℕ). take n (drop at s) ++ take m l) (drop-drop n at s)
@@ -129,7 +122,7 @@ module _ (s : List ℕ) (small : allBytes s) where
   joins : (at n m : ℕ) {after : List ℕ} → at + n ≤ length s → after ≡ take m (drop (at + n) s)
       → bytes n (field at n s) ++ after ≡ take (n + m) (drop at s)
   joins at n m room is =
-      both (field-bytes s at n small room) is ∙ sym (next s at n m)
+      both (field-bytes at n s (byte-at s small) room) is ∙ sym (next s at n m)
 
   -- what both versions have
   first-there : 14 ≤ length s → field 0 3 s ≡ number mark → fieldBytes 1 (fieldsOf (headIn s)) ≡ take 14 s

@@ -1,10 +1,9 @@
 -- The 14 bytes that both versions have, as numbers of eight bytes: what the code reads of them, and what it stores.
 use Prim.Native.Nat.{ℕ, _+_, _*_, _/_, _%_, _^_, _≤_, _<_}
-use mathlib.Core.Path.{_≡_, refl, sym, ap, _∙_}
+use mathlib.Core.Path.{_≡_, ap, _∙_}
 use mathlib.Core.Bool.{Bool}
 use mathlib.Core.List.{List, [], _∷_, _++_}
 use native.Mathlib.Omega.{arith}
-use lib.Dec.{eqb}
 use lib.ListN.{length, getD}
 use borrow.Author.Tests.{eq-eqb, ne-eqb}
 use Rattle.wire.specs.Number.{bytes, field}
@@ -71,10 +70,6 @@ module _ (s : List ℕ) (small : (k : ℕ) → getD s k 0 < 256) (long : 14 ≤ 
     pub new-by-words : {serial clock : ℕ} → versionIn s ≡ 2 → serial ≡ field 14 8 s → clock ≡ field 22 4 s
         → headByWords low high serial clock ≡ headIn s
     new-by-words two p q = by-words (rw (eq-eqb (versionIn s) 2 two) p) (rw (eq-eqb (versionIn s) 2 two) q)
-
-    -- those that both versions have, whatever stands for the others
-    pub first-by-words : valuesOf (headByWords low high unknown nominal) ≡ valuesOf (headIn s)
-    first-by-words = ap valuesOf (by-words refl refl)
 
 -- ---- stored: the first eight bytes
 

@@ -11,7 +11,7 @@ use packets::Form;
 // The clock of a head that names none.
 pub const NOMINAL: u32 = 80_000_000;
 
-pub(crate) fn is_head_version(version: u32) -> bool
+fn is_head_version(version: u32) -> bool
     ensures { λ r. ⌜ r ≡ isHeadVersion version ⌝ }
 {
     (version == 1) | (version == 2)
@@ -52,10 +52,7 @@ pub fn form_in(h: Head) -> Form
 fn is_head_serial(n: u64) -> bool
     ensures { λ r. ⌜ r ≡ headSerial n ⌝ }
 {
-    if n == 0 {
-        return true;
-    }
-    items::ranges::is_serial(n)
+    (n == 0) | items::ranges::is_serial(n)
 }
 
 // Whether a head names neither its box nor another clock than 80,000,000.

@@ -8,12 +8,11 @@ ghost use Rattle.heads.specs.Moving.{movedTo, loses, movedCode, movingCo
 ghost use Rattle.heads.specs.Inside.{putCode, putBytes};
 use crate::Head;
 use crate::Moved;
+use crate::Opened;
 use crate::allowed::head_length;
 use crate::allowed::is_bare;
-use crate::reading::read_code;
-use crate::reading::whole_in;
+use crate::reading::read_head;
 use crate::writing::put_head;
-use wire::codes;
 
 // The head that says the same in another version.
 fn moved_to(version: u32, h: Head) -> Head
@@ -60,14 +59,11 @@ fn move_to(version: u32, s: &[u8], out: &mut [u8]) -> Moved
         ⌜ (movedCode r ≡ movingCode version (now (s .entry)) (length (now (out .entry))))
         × (now (out .exit) ≡ sets (now (out .entry)) 0 (moveWrites version (now (s .entry)) (length (now (out .entry))))) ⌝ }
 {
-    let code = read_code(s);
-    if code == codes::DONE {
-        return put_moved(version, whole_in(s), out);
+    match read_head(s) {
+        Opened::Head(h) => put_moved(version, h, out),
+        Opened::NotAHead => Moved::NotAHead,
+        Opened::OtherVersion => Moved::OtherVersion,
     }
-    if code == codes::OTHER_VERSION {
-        return Moved::OtherVersion;
-    }
-    Moved::NotAHead
 }
 
 // Moves the head that bytes begin with to version 2, at the start of a slice. Of version 1 serial and clock are unknown and

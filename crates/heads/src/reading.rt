@@ -4,20 +4,18 @@ ghost use Prim.Native.Nat.{_≤_};
 ghost use lib.ListN.{length};
 ghost use lib.Dec.{eqb};
 ghost use Rattle.wire.specs.Choice.{pick};
-ghost use Rattle.wire.specs.Number.{field};
-ghost use Rattle.heads.specs.Head.{versionIn, headLengthIn, headIn, unknown, nominal, allowedHead};
-ghost use Rattle.heads.specs.Head.{headReadCode, openedSays, headReadingOf};
+ghost use Rattle.wire.specs.Number.{number, field};
+ghost use Rattle.heads.specs.Head.{mark, versionIn, headLengthIn, headIn, unknown, nominal, openedSays, headReadingOf};
 ghost use Rattle.heads.specs.Inside.{headByWords};
 use crate::Head;
+use crate::LONGEST;
 use crate::Opened;
 use crate::SHORTEST;
 use crate::allowed::NOMINAL;
 use crate::allowed::first_allowed;
 use crate::allowed::head_length;
-use crate::allowed::is_head_version;
 use crate::allowed::names_well;
 use crate::writing::MARK;
-use wire::codes;
 
 fn version_in(s: &[u8]) -> u32
     ensures { λ r. ⌜ r ≡ versionIn (now (s .entry)) ⌝ }
@@ -117,72 +115,50 @@ fn head_of(low: u64, high: u64, serial: u64, clock: u32) -> Head
     }
 }
 
-// The values that stand in the bytes of a whole head.
-pub(crate) fn whole_in(s: &[u8]) -> Head
-    requires { ⌜ headLengthIn (now s) ≤ length (now s) ⌝ }
-    ensures { λ r. ⌜ r ≡ headIn (now (s .entry)) ⌝ }
+// Reads a head of version 2 from bytes that begin as one; the two numbers are its first 14 bytes, as `Words` has them.
+fn read_second(low: u64, high: u64, s: &[u8]) -> Opened
+    requires { ⌜ (14 ≤ length (now s))
+        × (low ≡ field 0 8 (now s))
+        × (high ≡ field 6 8 (now s))
+        × (field 0 3 (now s) ≡ number mark)
+        × (versionIn (now s) ≡ 2) ⌝ }
+    ensures { λ r. ⌜ openedSays r ≡ headReadingOf (now (s .entry)) ⌝ }
 {
-    let w = words_in(s);
-    let old = head_of(w.low, w.high, 0, NOMINAL);
-    if old.version != 2 {
-        return old;
+    if s.len() < LONGEST {
+        return Opened::NotAHead;
     }
     let n = names_in(s);
-    head_of(w.low, w.high, n.serial, n.clock)
-}
-
-// Whether they are allowed. Serial and clock are looked up only once all others are, and only in version 2: in version 1 they are
-// what they have to be.
-fn reads_well(s: &[u8]) -> bool
-    requires { ⌜ headLengthIn (now s) ≤ length (now s) ⌝ }
-    ensures { λ r. ⌜ r ≡ allowedHead (headIn (now (s .entry))) ⌝ }
-{
-    let w = words_in(s);
-    let old = head_of(w.low, w.high, 0, NOMINAL);
-    if !first_allowed(old.version, old.divisor, old.frequency, old.mode, old.size) {
-        return false;
+    let h = head_of(low, high, n.serial, n.clock);
+    if !first_allowed(h.version, h.divisor, h.frequency, h.mode, h.size) {
+        return Opened::NotAHead;
     }
-    if old.version != 2 {
-        return true;
+    if !names_well(n.serial, n.clock) {
+        return Opened::NotAHead;
     }
-    let n = names_in(s);
-    names_well(n.serial, n.clock)
-}
-
-// The code with which bytes are read as a head.
-pub(crate) fn read_code(s: &[u8]) -> u8
-    ensures { λ r. ⌜ r ≡ headReadCode (now (s .entry)) ⌝ }
-{
-    if s.len() < SHORTEST {
-        return codes::NOT_A_HEAD;
-    }
-    let low = wire::number_at(&s[..14], 0, 8);
-    if low % 16_777_216 != MARK {
-        return codes::NOT_A_HEAD;
-    }
-    let version = (low / 16_777_216 % 65_536) as u32;
-    if !is_head_version(version) {
-        return codes::OTHER_VERSION;
-    }
-    if s.len() < head_length(version) {
-        return codes::NOT_A_HEAD;
-    }
-    if reads_well(s) {
-        return codes::DONE;
-    }
-    codes::NOT_A_HEAD
+    Opened::Head(h)
 }
 
 // Reads a head from the first 14 or 26 bytes of a slice.
 pub fn read_head(s: &[u8]) -> Opened
     ensures { λ r. ⌜ openedSays r ≡ headReadingOf (now (s .entry)) ⌝ }
 {
-    let code = read_code(s);
-    if code == codes::DONE {
-        return Opened::Head(whole_in(s));
+    if s.len() < SHORTEST {
+        return Opened::NotAHead;
     }
-    if code == codes::OTHER_VERSION {
+    let w = words_in(s);
+    if w.low % 16_777_216 != MARK {
+        return Opened::NotAHead;
+    }
+    let h = head_of(w.low, w.high, 0, NOMINAL);
+    if h.version == 2 {
+        return read_second(w.low, w.high, s);
+    }
+    if h.version != 1 {
         return Opened::OtherVersion;
     }
-    Opened::NotAHead
+    // serial and clock are what they have to be
+    if !first_allowed(h.version, h.divisor, h.frequency, h.mode, h.size) {
+        return Opened::NotAHead;
+    }
+    Opened::Head(h)
 }

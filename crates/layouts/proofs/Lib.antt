@@ -1,3 +1,4 @@
 pub mod Sizes
 pub mod Writing
 pub mod Values
+pub mod Around

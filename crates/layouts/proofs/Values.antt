@@ -11,9 +11,9 @@ use Rattle.wire.specs.Number.{number, bytes, field}
 use Rattle.wire.specs.Header.{headerOf}
 use Rattle.wire.proofs.Numbers.{length-bytes, number-bytes}
 use Rattle.layouts.specs.declared.Layout.{Layout}
-use Rattle.layouts.specs.Layouts.{sizeOf, laid}
+use Rattle.layouts.specs.Layouts.{sizeOf, laid, valuePlace}
 
-pub value-last : (a : Layout) → drop (pick (a .echoed) 5 4) (laid a) ≡ bytes (a .width) (a .value)
+value-last : (a : Layout) → drop (valuePlace a) (laid a) ≡ bytes (a .width) (a .value)
 value-last a = go (a .echoed)
   where
     parameters : Bool → List ℕ
@@ -24,7 +24,7 @@ value-last a = go (a .echoed)
     go true = refl
     go false = refl
 
-pub value-read : (a : Layout) → a .value < 256 ^ a .width → field (pick (a .echoed) 5 4) (a .width) (laid a) ≡ a .value
+pub value-read : (a : Layout) → a .value < 256 ^ a .width → field (valuePlace a) (a .width) (laid a) ≡ a .value
 value-read a small =
     let room : length (bytes (a .width) (a .value)) ≤ a .width = rw (length-bytes (a .width) (a .value)) (le-refl (a .width)) in
     ap (λ (l : List ℕ). number (take (a .width) l)) (value-last a)

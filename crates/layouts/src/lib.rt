@@ -7,7 +7,7 @@ ghost use lib.ListN.{length};
 ghost use lib.Seq.{sets};
 ghost use Rattle.wire.specs.Choice.{pick};
 ghost use Rattle.wire.specs.Number.{bytes};
-ghost use Rattle.layouts.specs.Layouts.{sizeOf, laid};
+ghost use Rattle.layouts.specs.Layouts.{sizeOf, laid, hasLayout};
 
 // A message of a kind for an item. Its parameters are the channel byte or id that is echoed, where there is one, and a
 // value, a number in `width` bytes.
@@ -61,4 +61,23 @@ fn put_header_and_item(dst: &mut [u8], header: u16, item: u16)
     dst[1] = (header / 256 % 256) as u8;
     dst[2] = (item % 256) as u8;
     dst[3] = (item / 256 % 256) as u8;
+}
+
+// Whether bytes are a message laid out so, whatever its value is: length, header, item code and the echoed byte are looked at.
+// Header and item code are one number, which the processor reads at once.
+pub fn has_layout(bytes: &[u8], a: Layout) -> bool
+    ensures { λ r. ⌜ r ≡ hasLayout (now (bytes .entry)) a ⌝ }
+{
+    let size = size_of(a);
+    if bytes.len() != size {
+        return false;
+    }
+    let front = wire::header_of(a.kind, size as u16) as u64 + 65536 * (a.item as u64);
+    if wire::number_at(bytes, 0, 4) != front {
+        return false;
+    }
+    if a.echoed {
+        return bytes[4] == a.echo;
+    }
+    true
 }

@@ -247,7 +247,7 @@ fn finish(version: u32, have: usize, last: isize, before: Sent, buf: &mut [u8])
 }
 
 fn move_file(version: u32, buf: &mut [u8])
-    requires { ⌜ (isHeadVersion version ≡ true) × (length (now buf) ≡ 262144) ⌝ }
+    requires { ⌜ (isHeadVersion version ≡ true) × (length (now buf) ≡ 131072) ⌝ }
 {
     let filled = fill(buf);
     if filled.got < 0 {
@@ -265,12 +265,12 @@ fn move_file(version: u32, buf: &mut [u8])
 
 // Moves the capture file on standard input to version 2, to standard output.
 pub fn newer() {
-    let mut buf = [0u8; 262144];
+    let mut buf = [0u8; 131072];
     move_file(2, &mut buf);
 }
 
 // Moves it back to version 1.
 pub fn older() {
-    let mut buf = [0u8; 262144];
+    let mut buf = [0u8; 131072];
     move_file(1, &mut buf);
 }

@@ -1,6 +1,6 @@
 -- The table of packet forms agrees, row by row, with width and pair count, and what every listed form satisfies, so that no
 -- later proof over forms goes by the four rows. Assumes nothing.
-use Prim.Native.Nat.{ℕ, _/_, _^_, _≤_, _<_}
+use Prim.Native.Nat.{ℕ, _+_, _/_, _^_, _≤_, _<_}
 use mathlib.Core.Path.{_≡_, refl, sym, ap, _∙_}
 use mathlib.Core.Logic.{_⊎_, inl, inr, ⊎-elim}
 use mathlib.Core.Bool.{Bool, true, false, _&&_, _||_}
@@ -12,10 +12,11 @@ use borrow.Author.Tests.{eqb-true, leb-true, ltb-true, eq-eqb, ne-eqb}
 use Rattle.wire.specs.Choice.{pick, anyOf, firstRow}
 use Rattle.wire.specs.Number.{bytes, field}
 use Rattle.wire.specs.Header.{headerOf, lengthIn, typeData}
-use Rattle.wire.proofs.Laws.{and-left, and-right}
+use Rattle.wire.proofs.Laws.{and-left, and-right, pick-same}
 use Rattle.wire.specs.Lists.{same}
 use Rattle.wire.proofs.Lists.{same-eq}
 use Rattle.packets.specs.declared.Form.{Form}
+use Rattle.packets.specs.Inside.{formWithTotal}
 use Rattle.packets.specs.Forms.{Row, forms, formOf, sameForm, totalOf, noForm, listedForm, formFor, formWithHeader, wholeOf, isPacket}
 
 -- the specs' lookups over any part of the table
@@ -140,11 +141,7 @@ abbrev byHeader : List Row → List ℕ → Form
 byHeader rs p = pick (eqb (length p) (lengthIn (field 0 2 p))) (formWithIn rs (field 0 2 p)) noForm
 
 whole-split-in : (rs : List Row) → everyRow rowAgrees rs ≡ true → (p : List ℕ) → wholeIn rs p ≡ byHeader rs p
-whole-split-in [] e p = none (eqb (length p) (lengthIn (field 0 2 p)))
-  where
-    none : (b : Bool) → noForm ≡ pick b noForm noForm
-    none true = refl
-    none false = refl
+whole-split-in [] e p = sym (pick-same (eqb (length p) (lengthIn (field 0 2 p))) noForm)
 whole-split-in (r ∷ rs) e p =
     here (eqb (field 0 2 p) (field 0 2 (r .header))) refl (whole-split-in rs (and-right (rowAgrees r) (everyRow rowAgrees rs) e) p)
   where
@@ -165,17 +162,74 @@ whole-split-in (r ∷ rs) e p =
 pub whole-split : (p : List ℕ) → wholeOf p ≡ pick (eqb (length p) (lengthIn (field 0 2 p))) (formWithHeader (field 0 2 p)) noForm
 whole-split p = whole-split-in forms refl p
 
--- A header h that says the slice's length n decides the form, and a header that says another length is no packet's.
-pub whole-there : (p : List ℕ) (h n : ℕ) (f : Form) → h ≡ field 0 2 p → n ≡ lengthIn h → n ≡ length p → f ≡ formWithHeader h → f ≡ wholeOf p
-whole-there p h n f is says long found =
-    let same : eqb (length p) (lengthIn (field 0 2 p)) ≡ true = eq-eqb _ _ (sym long ∙ says ∙ ap lengthIn is) in
-    found ∙ ap formWithHeader is ∙ sym (whole-split p ∙ rw same)
+-- The header holds the total: so the slice's length names the form, and the header must be that of a data item so long.
+abbrev withTotalIn : List Row → ℕ → Form
+withTotalIn rs total = firstRow (λ r. eqb total (r .total)) formOf noForm rs
 
-pub whole-not : (p : List ℕ) (h n : ℕ) → h ≡ field 0 2 p → n ≡ lengthIn h → (n ≡ length p → ⊥) → noForm ≡ wholeOf p
-whole-not p h n is says other =
-    let unlike : eqb (length p) (lengthIn (field 0 2 p)) ≡ false
-    = ne-eqb _ _ (λ e. other (says ∙ ap lengthIn is ∙ sym e)) in
-    sym (whole-split p ∙ rw unlike)
+abbrev byTotal : List Row → List ℕ → Form
+byTotal rs p = pick (eqb (field 0 2 p) (0x8000 + length p)) (withTotalIn rs (length p)) noForm
+
+by-total-in : (rs : List Row) → everyRow rowAgrees rs ≡ true → (p : List ℕ) → wholeIn rs p ≡ byTotal rs p
+by-total-in [] e p = sym (pick-same (eqb (field 0 2 p) (0x8000 + length p)) noForm)
+by-total-in (r ∷ rs) e p =
+    here (eqb (length p) (r .total)) refl (by-total-in rs (and-right (rowAgrees r) (everyRow rowAgrees rs) e) p)
+  where
+    own : Bool
+    own = eqb (field 0 2 p) (0x8000 + length p)
+
+    -- a data item's header is its length and 8000
+    row : field 0 2 (r .header) ≡ 0x8000 + r .total
+    row =
+        let agrees = row-agrees r (and-left (rowAgrees r) (everyRow rowAgrees rs) e) in
+        omega (arith, agrees .number, agrees .holds)
+
+    -- of this length: the header decides, and no later row has it otherwise
+    of-it : (t : Bool) (f w : Form) → w ≡ pick t (withTotalIn rs (length p)) noForm → pick (t && true) f w ≡ pick t f noForm
+    of-it true f w later = refl
+    of-it false f w later = later
+
+    -- of another
+    other : (t : Bool) (f w : Form) → pick (t && false) f w ≡ w
+    other true f w = refl
+    other false f w = refl
+
+    here : (long : Bool) → eqb (length p) (r .total) ≡ long
+        → wholeIn rs p ≡ byTotal rs p → wholeIn (r ∷ rs) p ≡ byTotal (r ∷ rs) p
+    here true q later =
+        let n : r .total ≡ length p = sym (eqb-true _ _ q) in
+        let same : eqb (field 0 2 p) (field 0 2 (r .header)) ≡ own = ap (λ (h : ℕ). eqb (field 0 2 p) h) (row ∙ ap (λ (m : ℕ). 0x8000 + m) n) in
+        rw (q, same) (of-it own (formOf r) (wholeIn rs p) later)
+    here false q later =
+        rw q (other (eqb (field 0 2 p) (field 0 2 (r .header))) (formOf r) (wholeIn rs p) ∙ later)
+
+by-total : (p : List ℕ) → wholeOf p ≡ pick (eqb (field 0 2 p) (0x8000 + length p)) (formWithTotal (length p)) noForm
+by-total p = by-total-in forms refl p
+
+-- a form without pairs is none
+none-in : (rs : List Row) → everyRow (λ r. leb 1 (r .pairs)) rs ≡ true → (n : ℕ) → withTotalIn rs n .pairs ≡ 0 → withTotalIn rs n ≡ noForm
+none-in [] e n z = refl
+none-in (r ∷ rs) e n z =
+    here (eqb n (r .total)) refl (none-in rs (and-right (leb 1 (r .pairs)) (everyRow (λ x. leb 1 (x .pairs)) rs) e) n)
+  where
+    here : (t : Bool) → eqb n (r .total) ≡ t → (withTotalIn rs n .pairs ≡ 0 → withTotalIn rs n ≡ noForm)
+        → withTotalIn (r ∷ rs) n ≡ noForm
+    here true q later =
+        let some = leb-true 1 (r .pairs) (and-left (leb 1 (r .pairs)) (everyRow (λ x. leb 1 (x .pairs)) rs) e) in
+        absurd (omega (arith, some, rw q at z))
+    here false q later = rw q (later (rw q at z))
+
+-- a slice whose length names no form; one whose header h is its length's own; and one whose is not
+module _ (p : List ℕ) where
+  pub no-total : (f : Form) → f ≡ formWithTotal (length p) → f .pairs ≡ 0 → f ≡ wholeOf p
+  no-total f is z =
+      let none : formWithTotal (length p) ≡ noForm = none-in forms refl (length p) (sym (ap (λ (g : Form). g .pairs) is) ∙ z) in
+      is ∙ none ∙ sym (by-total p ∙ rw none (pick-same (eqb (field 0 2 p) (0x8000 + length p)) noForm))
+
+  pub own-header : (f : Form) (h : ℕ) → f ≡ formWithTotal (length p) → h ≡ field 0 2 p → h ≡ 0x8000 + length p → f ≡ wholeOf p
+  own-header f h is stands own = is ∙ sym (by-total p ∙ rw (eq-eqb (field 0 2 p) (0x8000 + length p) (sym stands ∙ own)))
+
+  pub other-header : (h : ℕ) → h ≡ field 0 2 p → (h ≡ 0x8000 + length p → ⊥) → noForm ≡ wholeOf p
+  other-header h stands other = sym (by-total p ∙ rw (ne-eqb (field 0 2 p) (0x8000 + length p) (λ e. other (stands ∙ e))))
 
 -- Bytes with the header and the length of a listed form are a whole packet of that form.
 pub whole-cut : (f : Form) → listedForm f ≡ true → (p : List ℕ) → field 0 2 p ≡ headerOf typeData (totalOf f) → length p ≡ totalOf f
@@ -223,10 +277,6 @@ whole-in (r ∷ rs) e l p =
 
 pub whole-is : (p : List ℕ) → (wholeOf p ≡ noForm) ⊎ Whole p (wholeOf p)
 whole-is p = whole-in forms refl refl p
-
--- every packet has its four leading bytes
-pub whole-short : (p : List ℕ) → length p < 4 → noForm ≡ wholeOf p
-whole-short p short = ⊎-elim (λ e. sym e) (λ w. absurd (omega (arith, w .long))) (whole-is p)
 
 pub packet-is : (p : List ℕ) → isPacket p ≡ true → Whole p (wholeOf p)
 packet-is p h = ⊎-elim none (λ w. w) (whole-is p)

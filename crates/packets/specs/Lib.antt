@@ -1,4 +1,5 @@
 pub mod Forms
+pub mod Inside
 pub mod Channels
 pub mod Numbers
 pub mod Missed

@@ -7,6 +7,7 @@ ghost use lib.ListN.{getD};
 ghost use Rattle.wire.specs.Choice.{pick};
 ghost use Rattle.wire.specs.Number.{field};
 ghost use Rattle.packets.specs.Forms.{formFor, listedForm, sameForm, totalOf, noForm, formWithHeader, wholeOf};
+ghost use Rattle.packets.specs.Inside.{formWithTotal};
 ghost use Rattle.packets.specs.Channels.{isCount, pairsEach};
 ghost use Rattle.packets.specs.Numbers.{numberAt, numberIn, stepOf, last};
 ghost use Rattle.packets.specs.Missed.{stepsGive};
@@ -175,18 +176,44 @@ fn two_at(packet: &[u8], at: usize) -> u16
     byte_at(packet, at) + 256 * byte_at(packet, at + 1)
 }
 
-// The form of a slice that is one whole packet of a listed form; no form for any other slice.
+// The form of packets of so many bytes; no form where no packet has as many.
+fn form_of_total(total: usize) -> Form
+    ensures { λ r. ⌜ r ≡ formWithTotal total ⌝ }
+{
+    match total {
+        1444 => Form {
+            bits: 24,
+            pairs: 240,
+        },
+        388 => Form {
+            bits: 24,
+            pairs: 64,
+        },
+        1028 => Form {
+            bits: 16,
+            pairs: 256,
+        },
+        516 => Form {
+            bits: 16,
+            pairs: 128,
+        },
+        _ => no_form(),
+    }
+}
+
+// The form of a slice that is one whole packet of a listed form; no form for any other slice. Its length is looked at first: that names
+// the form, and then the header must be 8000 more, as a data item's is. (Written so, and not by `wire::header_of`, since the compiler does
+// not see that the length fits 13 bits.)
 pub fn whole(packet: &[u8]) -> Form
     ensures { λ r. ⌜ r ≡ wholeOf (now (packet .entry)) ⌝ }
 {
-    // No packet is shorter, so this changes no answer: past it the compiler leaves out the tests of `byte_at` for header and
-    // number.
-    if packet.len() < 4 {
-        return no_form();
+    let total = packet.len();
+    let form = form_of_total(total);
+    if form.pairs == 0 {
+        return form;
     }
-    let header = two_at(packet, 0);
-    if wire::length_in(header) as usize == packet.len() {
-        return form_of_header(header);
+    if two_at(packet, 0) as usize == 0x8000 + total {
+        return form;
     }
     no_form()
 }

@@ -1,4 +1,5 @@
 pub mod Reading
+pub mod Going
 pub mod Steps
 pub mod Unpacking
 pub mod Sound

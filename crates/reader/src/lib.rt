@@ -8,6 +8,7 @@ ghost use lib.ListN.{length};
 ghost use lib.Seq.{sets};
 ghost use Rattle.packets.specs.Channels.{isCount};
 ghost use Rattle.packets.specs.Numbers.{numberAt, stepOf, most};
+ghost use Rattle.reader.specs.Inside.{goesOn};
 ghost use Rattle.reader.specs.Reading.{silent, sound, unheard, heardAt, readingOf, sampleBytesOf, unpackingOf, numbersWritten};
 
 // How many channels the packets hold, as it was told; and what a reader has heard of the capture so far: the position and form of
@@ -131,10 +132,49 @@ fn position_after(position: u64, number: u16) -> u64
     position + (number + 131070 - halves)
 }
 
+// Whether a packet goes on in the reader's capture: the reader is sound and has heard one, and this one has its form and a number above
+// 0. So it is with nearly every packet, and these are all the tests that it takes: a form that a packet has is a listed one.
+fn goes_on(r: Reader, packet: &[u8]) -> bool
+    ensures { λ t. ⌜ t ≡ goesOn r (now (packet .entry)) ⌝ }
+{
+    let form = packets::whole(packet);
+    if form.pairs == 0 {
+        return false;
+    }
+    let last_form = r.form;
+    if !packets::same_form(form, last_form) {
+        return false;
+    }
+    if !r.heard {
+        return false;
+    }
+    if packets::number_in(packet) == 0 {
+        return false;
+    }
+    packets::is_count(r.channels) & packets::steps_give(r.position, r.total)
+}
+
+// Reads such a packet.
+fn next(r: Reader, packet: &[u8]) -> Heard
+    requires { ⌜ goesOn r (now packet) ≡ true ⌝ }
+    ensures { λ h. ⌜ h ≡ readingOf r (now (packet .entry)) ⌝ }
+{
+    let position = position_after(r.position, packets::number_in(packet));
+    if packets::LAST < position {
+        return refused(codes::PAST_LAST, r);
+    }
+    let missed = position - r.position - 1;
+    let form = r.form;
+    heard_at(r.channels, position, missed, r.total + missed, form)
+}
+
 // Reads one packet: "Packet reading 21, 30, 31, 32, 33." Of the packet only its length and its first four bytes are looked at.
 pub fn read(r: Reader, packet: &[u8]) -> Heard
     ensures { λ h. ⌜ h ≡ readingOf r (now (packet .entry)) ⌝ }
 {
+    if goes_on(r, packet) {
+        return next(r, packet);
+    }
     if !is_sound(r) {
         return refused(codes::BROKEN, r);
     }
@@ -142,23 +182,14 @@ pub fn read(r: Reader, packet: &[u8]) -> Heard
     if form.pairs == 0 {
         return refused(codes::NOT_A_PACKET, r);
     }
-    let number = packets::number_in(packet);
-    if number == 0 {
+    if packets::number_in(packet) == 0 {
         return heard_at(r.channels, 0, 0, 0, form);
     }
     if !r.heard {
         return refused(codes::NO_FIRST_PACKET, r);
     }
-    let last_form = r.form;
-    if !packets::same_form(form, last_form) {
-        return refused(codes::FORM_CHANGED, r);
-    }
-    let position = position_after(r.position, number);
-    if packets::LAST < position {
-        return refused(codes::PAST_LAST, r);
-    }
-    let missed = position - r.position - 1;
-    heard_at(r.channels, position, missed, r.total + missed, form)
+    // with the reader's form it would go on
+    refused(codes::FORM_CHANGED, r)
 }
 
 // "A call of its own answers with the sample bytes handed back as that part of the caller's packet, or with an empty part

@@ -13,7 +13,7 @@ use Rattle.wire.specs.Choice.{pick, oneOf}
 use Rattle.wire.specs.Number.{number, bytes}
 use Rattle.wire.specs.Signed.{coded}
 use Rattle.wire.specs.Header.{nak, typeRangeReply}
-use Rattle.wire.proofs.Laws.{true-not-false, and-left, and-right, within-high}
+use Rattle.wire.proofs.Laws.{and-left, and-right, within-high}
 use Rattle.rates.specs.Rate.{rateOf, nearestOf, mayAsk, isD}
 use Rattle.rates.specs.Table.{dOf}
 use Rattle.rates.proofs.Rates.{rate-asked, nearest-d, listed-d}
@@ -39,7 +39,7 @@ use Rattle.replies.specs.Awaited.{awaited, versionNumber, idleShown, run
 use Rattle.replies.specs.Reading.{isNak, isReply, replyCode, replySays, replyReaderSays}
 use Rattle.wire.specs.Lists.{same}
 use Rattle.replies.proofs.Answers.{read-reply}
-use Rattle.wire.proofs.Lists.{same-eq, same-refl, ne-same}
+use Rattle.wire.proofs.Lists.{same-eq, same-refl, ne-same, same-test}
 
 rate-below : (hz : ℕ) → mayAsk hz ≡ true → hz < 256 ^ 4
 rate-below hz e = omega (arith, within-high 32_000 2_000_000 hz e)
@@ -131,17 +131,17 @@ module _ (channel : ℕ) where
   range-written r k whole written = rw (whole, written)
 
   -- one reply alone is accepted
-  pub range-read : (bs l : List ℕ) (t : Bool) → l ≡ replyBytes wish rangeNumber → (t ≡ true → bs ≡ l) → (bs ≡ l → t ≡ true)
-      → isReply wish bs ≡ t
-  range-read bs l true is to from = rw (to refl ∙ is) (reply-is-reply wish rangeNumber refl (eq-eqb rangeNumber rangeNumber refl))
-  range-read bs l false is to from = go (isReply wish bs) refl
+  pub range-read : (bs l : List ℕ) → l ≡ replyBytes wish rangeNumber → isReply wish bs ≡ same bs l
+  range-read bs l is = same-test (isReply wish bs) bs l to from
     where
-      go : (t : Bool) → isReply wish bs ≡ t → t ≡ false
-      go true e =
+      to : isReply wish bs ≡ true → bs ≡ l
+      to e =
           let parts = is-reply-bytes wish bs e in
           let n : numberIn wish bs ≡ rangeNumber = eqb-true (numberIn wish bs) rangeNumber (parts .0) in
-          absurd (true-not-false (sym (from (parts .1 ∙ ap (replyBytes wish) n ∙ sym is))))
-      go false e = refl
+          parts .1 ∙ ap (replyBytes wish) n ∙ sym is
+
+      from : bs ≡ l → isReply wish bs ≡ true
+      from so = rw (so ∙ is) (reply-is-reply wish rangeNumber refl (eq-eqb rangeNumber rangeNumber refl))
 
 -- ---- the code of a wish that the writer does not refuse
 

@@ -1,21 +1,23 @@
--- Reading a reply other than the range's: its value has at most eight bytes, and a serial's ninth is zero.
-use Prim.Native.Nat.{ℕ, zero, suc, _+_, _*_, _/_, _^_, _≤_, _<_}
+-- Reading a reply other than the range's: what stands around its value is compared, and the value has at most eight bytes, or a
+-- ninth that is zero. And NAK, which has two.
+use Prim.Native.Nat.{ℕ, zero, suc, _+_, _*_, _^_, _≤_, _<_}
 use mathlib.Core.Path.{_≡_, refl, sym, ap, _∙_}
-use mathlib.Core.Bool.{Bool, true, false, _&&_}
+use mathlib.Core.Bool.{Bool, true, false, _&&_, and-true}
 use mathlib.Core.List.{List, [], _∷_}
-use native.Mathlib.Nat.{le-refl, mul-assoc, pow-succ', lt-of-lt-of-le, pow-le-pow-right}
+use native.Mathlib.Nat.{mul-assoc, pow-succ', lt-of-lt-of-le, pow-le-pow-right}
 use native.Mathlib.Omega.{arith}
-use lib.Dec.{ltb, lit≤}
-use lib.ListN.{length, take, drop, replicate, length-drop}
-use lib.Seq.{sets, take-all, drop-drop}
-use borrow.Author.Tests.{ltb-true}
+use lib.Dec.{eqb, ltb, lit≤}
+use lib.ListN.{length, getD, take, drop, length-drop, drop-of-length-le}
+use lib.Seq.{take-all, drop-drop}
+use borrow.Author.Tests.{eqb-true, eqb-false, ltb-true}
 use Rattle.wire.specs.Number.{number, bytes, field}
-use Rattle.wire.proofs.Laws.{true-not-false, and-right}
-use Rattle.wire.proofs.Numbers.{length-bytes, bytes-below, number-below}
-use Rattle.wire.proofs.Stores.{sets-taken}
-use Rattle.layouts.proofs.Sizes.{greatest, length-laid}
-use Rattle.layouts.proofs.Writing.{Put, written-whole}
-use Rattle.layouts.proofs.Values.{value-last}
+use Rattle.wire.specs.Header.{nak}
+use Rattle.wire.specs.Lists.{same}
+use Rattle.wire.proofs.Laws.{true-not-false, and-right, and-not-right}
+use Rattle.wire.proofs.Lists.{same-eq, ne-same}
+use Rattle.wire.proofs.Numbers.{field-step}
+use Rattle.layouts.specs.Layouts.{hasLayout}
+use Rattle.layouts.proofs.Sizes.{length-laid}
 use Rattle.items.specs.Settings.{allSerial}
 use Rattle.wishes.specs.declared.Wish.{Wish}
 use Rattle.wishes.specs.declared.Wish.the-variants.{AskName, AskSerial, AskInterface, AskVersion, AskStatus, SetState, AskState}
@@ -24,9 +26,7 @@ use Rattle.wishes.specs.declared.Wish.the-variants.{SetGain, AskGain, SetClock,
 use Rattle.wishes.specs.declared.Wish.the-variants.{SetRate, AskRate, SetPacketSize, AskPacketSize}
 use Rattle.wishes.specs.Wishes.{asking, allowedWish}
 use Rattle.replies.specs.Awaited.{awaited, asksRange, replyType, replyLayout, replyBytes, valueAt, numberIn}
-use Rattle.replies.specs.Reading.{isReply}
-use Rattle.wire.specs.Lists.{same}
-use Rattle.wire.proofs.Lists.{same-eq, eq-same}
+use Rattle.replies.specs.Reading.{isNak, isReply}
 use Rattle.replies.proofs.Recognised.{could-fits, is-reply-bytes}
 
 -- a value that has eight bytes at most
@@ -76,85 +76,71 @@ rest-number bs at width size few =
     ∙ number-split 8 (drop at bs)
     ∙ ap (λ (l : List ℕ). field at 8 bs + 256 ^ 8 * number (take 1 l)) (drop-drop 8 at bs)
 
--- past the bytes that a number has, there are zeros
-past-zero : (k n v : ℕ) → v < 256 ^ k → number (take 1 (drop k (bytes n v))) ≡ 0
-past-zero zero zero v small = refl
-past-zero zero (suc n) v small = omega arith
-past-zero (suc k) zero v small = refl
-past-zero (suc k) (suc n) v small = past-zero k n (v / 256) (omega arith)
-
 -- a reply is as long as its parts
 reply-long : (w : Wish) (n : ℕ) → length (replyBytes w n) ≡ valueAt w + awaited w .width
 unfolding replyBytes
 reply-long w n = length-laid (replyLayout w n)
 
-reply-last : (w : Wish) (n : ℕ) → drop (valueAt w) (replyBytes w n) ≡ bytes (awaited w .width) n
-unfolding replyBytes
-reply-last w n = value-last (replyLayout w n)
-
--- a reply that is written into sixteen bytes
-module _ (w : Wish) (n : ℕ) (other : asksRange w ≡ false) (r : ℕ) (k : List ℕ) (put : Put
-    (replicate 16 0) (replyLayout w n) r k) where
-  written : (r ≡ length (replyBytes w n)) × (k ≡ sets (replicate 16 0) 0 (replyBytes w n))
-  unfolding replyBytes
-  written = written-whole (replicate 16 0) (replyLayout w n) r k (omega (arith, greatest (replyLayout w n), plain w other .0)) put
-
-  pub written-few : r ≤ 16
-  written-few = omega (arith, written .0, reply-long w n, greatest (replyLayout w n), plain w other .0)
-
-  pub written-reply : take r k ≡ replyBytes w n
-  written-reply =
-      rw (written .0, written .1)
-      (sets-taken (replicate 16 0) 0 (replyBytes w n) (rw (← written .0) (omega (arith, written-few))))
+-- what stands around the value is what the reply with the number in its place has
+pub around-reply : (w : Wish) (n : ℕ) (bs : List ℕ) → hasLayout bs (replyLayout w n) ≡ same bs (replyBytes w (numberIn w bs))
+unfolding hasLayout replyBytes
+around-reply w n bs = refl
 
 module _ (w : Wish) (bs : List ℕ) (other : asksRange w ≡ false) where
-  -- the first eight bytes in the value's place
+  -- the first eight bytes in the value's place, and the one behind them
   abbrev eight : ℕ
   eight = field (valueAt w) 8 bs
 
-  split : (n : ℕ) → bs ≡ replyBytes w n → numberIn w bs ≡ eight + 256 ^ 8 * field (valueAt w + 8) 1 bs
-  split n is = rest-number bs (valueAt w) (awaited w .width) (ap length is ∙ reply-long w n) (plain w other .0)
+  abbrev ninth : ℕ
+  ninth = field (valueAt w + 8) 1 bs
 
-  -- where the bytes are the reply that gives this number, its bytes are the last
-  value-comes-last : same bs (replyBytes w eight) ≡ true → drop (valueAt w) bs ≡ bytes (awaited w .width) eight
-  value-comes-last so = ap (drop (valueAt w)) (same-eq bs (replyBytes w eight) so) ∙ reply-last w eight
-
-  -- it is the number in them
-  pub word-in : same bs (replyBytes w eight) ≡ true → eight < 256 ^ 8 → numberIn w bs ≡ eight
-  word-in so small =
-      let is : bs ≡ replyBytes w eight = same-eq bs (replyBytes w eight) so in
-      let ninth : drop (valueAt w + 8) bs ≡ drop 8 (bytes (awaited w .width) eight)
-      = sym (drop-drop 8 (valueAt w) bs) ∙ ap (drop 8) (value-comes-last so) in
-      let none : field (valueAt w + 8) 1 bs ≡ 0
-      = ap (λ (l : List ℕ). number (take 1 l)) ninth ∙ past-zero 8 (awaited w .width) eight small in
-      omega (arith, split eight is, none)
-
-  -- and it fits the reply's field
-  pub word-fits : same bs (replyBytes w eight) ≡ true → eight < 256 ^ 8 → eight < 256 ^ awaited w .width
-  word-fits so small =
-      let width = awaited w .width in
-      let long : length (bytes width eight) ≡ width = length-bytes width eight in
-      let all : take width (bytes width eight) ≡ bytes width eight = take-all width (bytes width eight) (rw long (le-refl width)) in
-      let is : numberIn w bs ≡ number (bytes width eight)
-      = ap (λ (l : List ℕ). number (take width l)) (value-comes-last so) ∙ ap number all in
-      rw (← (sym is ∙ word-in so small)) (rw long at (number-below (bytes width eight) (bytes-below width eight)))
-
-  -- where they are not, they are no reply
-  pub not-given : allowedWish w ≡ true → same bs (replyBytes w eight) ≡ false → isReply w bs ≡ false
-  not-given e differs = go (isReply w bs) refl
-    where
-      go : (t : Bool) → isReply w bs ≡ t → t ≡ false
-      go true h =
-          let p = is-reply-bytes w bs h in
-          let n : eight ≡ numberIn w bs = omega (arith, split (numberIn w bs) (p .1), plain w other .2 (numberIn w bs) e (p .0)) in
-          absurd (true-not-false (sym (eq-same bs (replyBytes w eight) (p .1 ∙ ap (replyBytes w) (sym n))) ∙ differs))
-      go false h = refl
-
-  -- and where they are, they are a reply if a valid box could give the value
-  pub given-could : (t : Bool) → same bs (replyBytes w eight) ≡ true → numberIn w bs ≡ eight → awaited w .could eight ≡ t → isReply w bs ≡ t
+  -- bytes that are not the reply with the number in them are none
+  pub not-around : same bs (replyBytes w (numberIn w bs)) ≡ false → isReply w bs ≡ false
   unfolding isReply
-  given-could t so is could = rw (is, so, could) (and-true t)
-    where
-      and-true : (t : Bool) → t && true ≡ t
-      and-true true = refl
-      and-true false = refl
+  not-around differs = and-not-right (awaited w .could (numberIn w bs)) _ differs
+
+  module _ (so : same bs (replyBytes w (numberIn w bs)) ≡ true) where
+    split : numberIn w bs ≡ eight + 256 ^ 8 * ninth
+    split =
+        let is : bs ≡ replyBytes w (numberIn w bs) = same-eq bs (replyBytes w (numberIn w bs)) so in
+        rest-number bs (valueAt w) (awaited w .width) (ap length is ∙ reply-long w (numberIn w bs)) (plain w other .0)
+
+    -- no box could give a number that goes on past the eighth byte
+    pub goes-on : allowedWish w ≡ true → eqb ninth 0 ≡ false → isReply w bs ≡ false
+    goes-on e more = go (isReply w bs) refl
+      where
+        go : (t : Bool) → isReply w bs ≡ t → t ≡ false
+        go true h =
+            let small = plain w other .2 (numberIn w bs) e (is-reply-bytes w bs h .0) in
+            absurd (eqb-false ninth 0 more (omega (arith, split, small)))
+        go false h = refl
+
+    -- one that ends there is told by eight bytes
+    pub ends : eqb ninth 0 ≡ true → numberIn w bs ≡ eight
+    ends none = omega (arith, split, eqb-true ninth 0 none)
+
+    -- and the bytes are a reply if a valid box could give it
+    pub given-could : (t : Bool) → awaited w .could (numberIn w bs) ≡ t → isReply w bs ≡ t
+    unfolding isReply
+    given-could t could = rw (so, could) (and-true t)
+
+-- ---- bytes that are looked at one by one
+
+-- the byte behind the eight, which may not be there
+pub no-byte : (at : ℕ) (bs : List ℕ) → length bs ≤ at → true ≡ eqb (field at 1 bs) 0
+no-byte at bs short = rw (drop-of-length-le bs short) refl
+
+pub one-byte : (at : ℕ) (bs : List ℕ) → at < length bs → eqb (getD bs at 0) 0 ≡ eqb (field at 1 bs) 0
+one-byte at bs there =
+    let is : field at 1 bs ≡ getD bs at 0 = omega (arith, field-step bs at 0 there) in
+    ap (λ (n : ℕ). eqb n 0) (sym is)
+
+-- the two of NAK
+pub is-nak-by : (bs : List ℕ) → length bs ≡ 2 → eqb (getD bs 0 0) 0x02 && eqb (getD bs 1 0) 0x00 ≡ isNak bs
+is-nak-by [] two = absurd (omega arith)
+is-nak-by (a ∷ []) two = absurd (omega arith)
+is-nak-by (a ∷ b ∷ []) two = ap (λ (t : Bool). eqb a 0x02 && t) (sym (and-true (eqb b 0x00)))
+is-nak-by (a ∷ b ∷ c ∷ bs) two = absurd (omega arith)
+
+pub no-nak : (bs : List ℕ) → (length bs ≡ 2 → ⊥) → false ≡ isNak bs
+no-nak bs longer = sym (ne-same bs nak (λ is. longer (ap length is)))

@@ -14,7 +14,7 @@ use Rattle.rates.specs.Table.{rates}
 use Rattle.tuning.specs.Bands.{bands, inBands, rangeBytes}
 use Rattle.tuning.specs.Word.{isClock}
 use Rattle.layouts.specs.declared.Layout.{Layout}
-use Rattle.layouts.specs.Layouts.{laid}
+use Rattle.layouts.specs.Layouts.{laid, valuePlace}
 use Rattle.items.specs.Settings.{isGain, isSize, isSetup, holdsSerial}
 use Rattle.items.specs.Items.{nameBytes, interfaceNumber, versionTable, statusByte, idle, run, stateBytes}
 use Rattle.wishes.specs.declared.StateFields.{StateFields}
@@ -117,9 +117,9 @@ replyLayout w n =
 unfoldable pub replyBytes : Wish → ℕ → List ℕ
 replyBytes w n = laid (replyLayout w n)
 
--- the value stands past header, item code and the echoed byte
+-- where the value stands in it
 abbrev pub valueAt : Wish → ℕ
-valueAt w = pick (layoutOf w .echoed) 5 4
+valueAt w = valuePlace (replyLayout w 0)
 
 -- the number that stands in its place
 abbrev pub numberIn : Wish → List ℕ → ℕ

@@ -1,14 +1,16 @@
 // The harvester's reply reader: given a wish and the bytes that came, what a box said to it.
 mod awaited; // awaited.rt: which values a wish waits for, and what each says
+mod compared; // compared.rt: two slices held together
 
 ghost use mathlib.Core.Path.{_≡_};
 ghost use mathlib.Core.Bool.{true, false};
+ghost use Prim.Native.Nat.{_+_};
+ghost use lib.Dec.{eqb};
 ghost use Rattle.wire.specs.Number.{field};
+ghost use Rattle.layouts.specs.Layouts.{valuePlace};
 ghost use Rattle.wishes.specs.Wishes.{openWish, allowedWish};
-ghost use Rattle.replies.specs.Awaited.{awaited, asksRange, replyLayout, replyBytes, valueAt};
-ghost use Rattle.replies.specs.declared.Reply.the-variants.{State};
+ghost use Rattle.replies.specs.Awaited.{asksRange, replyLayout};
 ghost use Rattle.replies.specs.Reading.{isNak, replySays, replyReaderSays};
-ghost use Rattle.wire.specs.Lists.{same};
 use layouts::Layout;
 use wire::types;
 use wishes::StateFields;
@@ -40,10 +42,10 @@ pub enum Reply {
     NotAReply,
 }
 
-// How the reply to a wish other than the one for the range is laid out that gives the value n.
-fn reply_layout(w: Wish, n: u64) -> Layout
+// How the reply to a wish other than the one for the range is laid out: its value is what is to be read, and 0 here.
+fn reply_layout(w: Wish) -> Layout
     requires { ⌜ asksRange w ≡ false ⌝ }
-    ensures { λ r. ⌜ r ≡ replyLayout w n ⌝ }
+    ensures { λ r. ⌜ r ≡ replyLayout w 0 ⌝ }
 {
     let asked = wishes::layout_of(w);
     Layout {
@@ -52,41 +54,52 @@ fn reply_layout(w: Wish, n: u64) -> Layout
         echoed: asked.echoed,
         echo: asked.echo,
         width: awaited::width_of(w),
-        value: n,
+        value: 0,
     }
 }
 
-// The bytes are the reply to the wish that gives the value n.
-fn gives(w: Wish, n: u64, bytes: &[u8]) -> bool
-    requires { ⌜ asksRange w ≡ false ⌝ }
-    ensures { λ r. ⌜ r ≡ same (now (bytes .entry)) (replyBytes w n) ⌝ }
+// Where the value stands.
+fn value_place(a: Layout) -> usize
+    ensures { λ r. ⌜ r ≡ valuePlace a ⌝ }
 {
-    let mut reply = [0u8; 16];
-    let size = layouts::put_message(&mut reply, reply_layout(w, n));
-    check::same(bytes, &reply[..size])
-}
-
-// The number that stands in the value's place, of which no reply but the one with the range has more than eight bytes: a
-// serial's ninth is zero.
-fn number_in(w: Wish, bytes: &[u8]) -> u64
-    ensures { λ r. ⌜ r ≡ field (valueAt w) 8 (now (bytes .entry)) ⌝ }
-{
-    let asked = wishes::layout_of(w);
-    if asked.echoed {
-        return wire::number_at(bytes, 5, 8);
+    if a.echoed {
+        return 5;
     }
-    wire::number_at(bytes, 4, 8)
+    4
 }
 
-// A reply to a wish other than the one for the range.
+// The number in the first eight bytes of the value's place.
+fn number_in(a: Layout, bytes: &[u8]) -> u64
+    ensures { λ r. ⌜ r ≡ field (valuePlace a) 8 (now (bytes .entry)) ⌝ }
+{
+    wire::number_at(bytes, value_place(a), 8)
+}
+
+// No byte stands behind those eight, or a zero.
+fn ends_there(a: Layout, bytes: &[u8]) -> bool
+    ensures { λ r. ⌜ r ≡ eqb (field (valuePlace a + 8) 1 (now (bytes .entry))) 0 ⌝ }
+{
+    let ninth = value_place(a) + 8;
+    if bytes.len() <= ninth {
+        return true;
+    }
+    bytes[ninth] == 0
+}
+
+// A reply to a wish other than the one for the range. What stands around the value is compared, and the value read: no value
+// has more than eight bytes, but for a serial's, whose ninth is zero.
 fn read_value(w: Wish, bytes: &[u8]) -> Reply
     requires { ⌜ (openWish w ≡ true) × (allowedWish w ≡ true) × (asksRange w ≡ false) × (isNak (now bytes) ≡ false) ⌝ }
     ensures { λ r. ⌜ replySays r ≡ replyReaderSays w (now (bytes .entry)) ⌝ }
 {
-    let n = number_in(w, bytes);
-    if !gives(w, n, bytes) {
+    let a = reply_layout(w);
+    if !layouts::has_layout(bytes, a) {
         return Reply::NotAReply;
     }
+    if !ends_there(a, bytes) {
+        return Reply::NotAReply;
+    }
+    let n = number_in(a, bytes);
     if awaited::could_say(w, n) {
         return awaited::says(w, n);
     }
@@ -100,7 +113,7 @@ fn read_range(channel: u8, bytes: &[u8]) -> Reply
 {
     let mut range = [0u8; 36];
     let size = items::put_range_reply(&mut range, channel);
-    if check::same(bytes, &range[..size]) {
+    if compared::same_words(bytes, &range[..size]) {
         return Reply::FrequencyRange;
     }
     Reply::NotAReply
@@ -110,7 +123,10 @@ fn read_range(channel: u8, bytes: &[u8]) -> Reply
 fn is_nak(bytes: &[u8]) -> bool
     ensures { λ r. ⌜ r ≡ isNak (now (bytes .entry)) ⌝ }
 {
-    check::same(bytes, b"\x02\x00")
+    if bytes.len() != 2 {
+        return false;
+    }
+    (bytes[0] == 0x02) & (bytes[1] == 0x00)
 }
 
 // What the bytes say to the wish.

@@ -1,15 +1,14 @@
 -- Fields of a few bytes, as sums and as parts of each other. Assumes nothing.
-use Prim.Native.Nat.{ℕ, zero, suc, _+_, _*_, _/_, _%_, _^_, _≤_, _<_}
+use Prim.Native.Nat.{ℕ, _+_, _*_, _/_, _%_, _≤_, _<_}
 use mathlib.Core.Path.{_≡_, refl, ap, _∙_}
-use mathlib.Core.List.{List, _∷_, _++_}
-use native.Mathlib.Nat.{zero-add, suc-add, mul-assoc}
+use mathlib.Core.List.{List, _++_}
 use native.Mathlib.Omega.{arith}
 use native.Mathlib.Numerals.{add-one}
 use lib.ListN.{length, getD, take, drop}
 use lib.Seq.{drop-drop}
 use Rattle.wire.specs.Number.{number, bytes, field}
 use Rattle.wire.proofs.Numbers.{field-step}
-use Rattle.wire.proofs.Words.{field-on}
+use Rattle.wire.proofs.Words.{field-on, bytes-join}
 
 -- a field after the leading bytes is a field of the packet
 pub field-drop : (lead at n : ℕ) (p : List ℕ) → field at n (drop lead p) ≡ field (lead + at) n p
@@ -32,19 +31,6 @@ field-halves s at small h =
     (omega (arith, small at, small (at + 1)), omega (arith, small at, small (at + 1)))
 
 -- ---- numbers side by side in one word
-
--- m bytes, and n more
-bytes-join : (m n a b : ℕ) → a < 256 ^ m → bytes (m + n) (a + 256 ^ m * b) ≡ bytes m a ++ bytes n b
-bytes-join zero n a b h =
-    let same : a + 256 ^ 0 * b ≡ b = omega arith in
-    rw (zero-add n, same) refl
-bytes-join (suc m) n a b h =
-    let power : 256 ^ suc m ≡ 256 * 256 ^ m = omega arith in
-    let turn : 256 ^ suc m * b ≡ 256 * (256 ^ m * b) = ap (λ (k : ℕ). k * b) power ∙ mul-assoc 256 (256 ^ m) b in
-    let low : (a + 256 ^ suc m * b) % 256 ≡ a % 256 = omega arith in
-    let rest : (a + 256 ^ suc m * b) / 256 ≡ a / 256 + 256 ^ m * b = omega arith in
-    let small : a / 256 < 256 ^ m = omega arith in
-    rw (suc-add m n, low, rest) (ap (λ (l : List ℕ). a % 256 ∷ l) (bytes-join m n (a / 256) b small))
 
 second-byte : (c : ℕ) → c % 65_536 / 256 % 256 ≡ c / 256 % 256
 second-byte c =

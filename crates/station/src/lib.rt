@@ -96,10 +96,19 @@ pub fn is_sound(settings: Settings, held: &[u8], taken: usize) -> bool
 pub fn tuning_word(s: Station, channel: u8) -> Tuning
     ensures { λ r. ⌜ tuningSays r ≡ tuningTold s channel ⌝ }
 {
-    if !is_valid(s) {
+    let settings = s.settings;
+    let store = s.store;
+    let held = store.held;
+    word_held(settings, &held, store.taken, channel)
+}
+
+// The same of a box whose held bytes are lent, with its other parts by value, so that a call copies no box.
+pub fn word_held(settings: Settings, held: &[u8], taken: usize, channel: u8) -> Tuning
+    ensures { λ r. ⌜ tuningSays r ≡ tuningTold (boxOf settings (now (held .entry)) taken) channel ⌝ }
+{
+    if !is_sound(settings, held, taken) {
         return Tuning::Broken;
     }
-    let settings = s.settings;
     if !channels::is_open(settings.setup, channel) {
         return Tuning::NotAllowed;
     }

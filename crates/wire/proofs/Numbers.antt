@@ -2,7 +2,7 @@
 use Prim.Native.Nat.{ℕ, zero, suc, _+_, _*_, _-_, _/_, _%_, _^_, _≤_, _<_, min}
 use mathlib.Core.Path.{_≡_, refl, sym, ap, _∙_}
 use mathlib.Core.List.{List, [], _∷_}
-use native.Mathlib.Nat.{zero-min, min-zero, suc-min-suc, pow-le-pow-right, lt-of-lt-of-le, zero-add, suc-add}
+use native.Mathlib.Nat.{le-refl, zero-min, min-zero, suc-min-suc, pow-le-pow-right, lt-of-lt-of-le, zero-add, suc-add}
 use native.Mathlib.Omega.{arith}
 use native.Mathlib.Decide.{decLt}
 use lib.ListN.{length, getD, set, take, drop, length-drop}
@@ -109,10 +109,17 @@ number-below bs h = rw (take-length bs) at (taken-below (length bs) bs h)
 pub field-below : (at n : ℕ) (s : List ℕ) → ((k : ℕ) → getD s k 0 < 256) → field at n s < 256 ^ n
 field-below at n s h = taken-below n (drop at s) (λ k. rw (getD-drop at s k 0) (h (at + k)))
 
--- bytes come back
+-- bytes come back: the first ones of a list, all of them, and those of a field
+take-back : (n : ℕ) (bs : List ℕ) → ((k : ℕ) → getD bs k 0 < 256) → n ≤ length bs → bytes n (number (take n bs)) ≡ take n bs
+take-back zero bs h room = refl
+take-back (suc n) [] h room = absurd (omega arith)
+take-back (suc n) (b ∷ bs) h room =
+    let low : (b + 256 * number (take n bs)) % 256 ≡ b = omega (arith, h 0) in
+    let high : (b + 256 * number (take n bs)) / 256 ≡ number (take n bs) = omega (arith, h 0) in
+    rw (low, high) (ap (λ (r : List ℕ). b ∷ r) (take-back n bs (λ k. h (suc k)) (omega arith)))
+
 pub bytes-number : (bs : List ℕ) → ((k : ℕ) → getD bs k 0 < 256) → bytes (length bs) (number bs) ≡ bs
-bytes-number [] h = refl
-bytes-number (b ∷ bs) h =
-    let low : (b + 256 * number bs) % 256 ≡ b = omega (arith, h 0) in
-    let high : (b + 256 * number bs) / 256 ≡ number bs = omega (arith, h 0) in
-    rw (low, high) (ap (λ (r : List ℕ). b ∷ r) (bytes-number bs (λ k. h (suc k))))
+bytes-number bs h = rw (take-length bs) at (take-back (length bs) bs h (le-refl (length bs)))
+
+pub field-bytes : (at n : ℕ) (s : List ℕ) → ((k : ℕ) → getD s k 0 < 256) → at + n ≤ length s → bytes n (field at n s) ≡ take n (drop at s)
+field-bytes at n s h room = take-back n (drop at s) (λ k. rw (getD-drop at s k 0) (h (at + k))) (simp length-drop (omega arith))

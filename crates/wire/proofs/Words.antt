@@ -68,3 +68,16 @@ word-put l at v =
     let third : v / 65536 ≡ v / 256 / 256 = omega arith in
     let fourth : v / 16777216 ≡ v / 256 / 256 / 256 = omega arith in
     rw (one, two, three, third, fourth) refl
+
+-- m bytes, and n more, as one number
+pub bytes-join : (m n a b : ℕ) → a < 256 ^ m → bytes (m + n) (a + 256 ^ m * b) ≡ bytes m a ++ bytes n b
+bytes-join zero n a b h =
+    let same : a + 256 ^ 0 * b ≡ b = omega arith in
+    rw (zero-add n, same) refl
+bytes-join (suc m) n a b h =
+    let power : 256 ^ suc m ≡ 256 * 256 ^ m = omega arith in
+    let turn : 256 ^ suc m * b ≡ 256 * (256 ^ m * b) = ap (λ (k : ℕ). k * b) power ∙ mul-assoc 256 (256 ^ m) b in
+    let low : (a + 256 ^ suc m * b) % 256 ≡ a % 256 = omega arith in
+    let rest : (a + 256 ^ suc m * b) / 256 ≡ a / 256 + 256 ^ m * b = omega arith in
+    let small : a / 256 < 256 ^ m = omega arith in
+    rw (suc-add m n, low, rest) (ap (λ (l : List ℕ). a % 256 ∷ l) (bytes-join m n (a / 256) b small))

@@ -1,5 +1,5 @@
 //! Times every call over the boundary but feeding and unpacking, which `pieces` and `bench` time: the proved library against
-//! the plain Rust of this folder. The C peer does not have them.
+//! the plain Rust of this folder. The C peer does not have them. Last a day's capture is read, or an hour's with --quick.
 //!
 //!     calls [--quick]
 //!
@@ -7,21 +7,27 @@
 //! from call to call.
 
 use std::hint::black_box;
+use std::ops::Range;
 
 use outside::boundary::{self, Library, Plain, Said, WishFields, READER_BYTES, STATION_BYTES, WISHES};
 use outside::boundary::{ASK_RANGE, ASK_RATE, ASK_SETUP, ASK_VERSION};
 use outside::boundary::{SET_CLOCK, SET_FREQUENCY, SET_GAIN, SET_RATE, SET_SETUP, SET_SIZE, SET_STATE};
+use outside::capture::{arrivals, numbered, numbered_packets, Arrivals};
 use outside::capture::{first_packets, signal, COUNTS, FORMS, PACKETS, PACKETS_READ};
 use outside::item::{ALL_CHANNELS, CHANNEL_1, CHANNEL_2, MODE_16, MODE_24, SETUP_DUAL, SETUP_SINGLE};
 use outside::random::Random;
+use outside::reader::Place;
 use outside::talk::LONGEST_REPLY;
-use outside::timing::{best, both, head, row, Rooms, Who};
+use outside::timing::{best, both, head, head_in, row, Rooms, Who};
 use outside::{head, message, Form, Head, Reader, Station};
 
 #[cfg(not(proved))] // a name for what is then not called
 use outside::boundary::Plain as Proved;
 #[cfg(proved)]
 use outside::proved::Proved;
+
+/// In ns.
+const MILLISECOND: f64 = 1e6;
 
 /// A call that keeps no state is made so often in a run.
 const CALLS: usize = 256;
@@ -139,15 +145,16 @@ fn cut(what: &str, form: Form, (mode, size, setup): (u8, u8, u8), rounds: usize)
     rooms.agree(&found);
 }
 
+/// All that reading answers, looked at.
+fn seen((code, place): (u8, Place)) -> u64 {
+    // no plain sum: of that the compiler makes one wide load, which waits for the four stores
+    ((u64::from(code) + place.position) ^ place.sample).wrapping_sub(place.missed) ^ place.total
+}
+
 fn read(what: &str, form: Form, channels: u8, packets: &[u8], rounds: usize) {
     fn run(library: impl Library, silent: &[u8], packets: &[u8], total: usize, reader: &mut [u8]) -> u64 {
         reader.copy_from_slice(silent);
-        let places = packets.chunks_exact(total).map(|packet| {
-            let (code, place) = library.read(reader, packet);
-            // no plain sum: of that the compiler makes one wide load, which waits for the four stores
-            ((u64::from(code) + place.position) ^ place.sample).wrapping_sub(place.missed) ^ place.total
-        });
-        places.sum()
+        packets.chunks_exact(total).map(|packet| seen(library.read(reader, packet))).sum()
     }
     let total = black_box(form.total());
     let silent = boundary::reader_bytes(&Reader::new(channels));
@@ -160,6 +167,38 @@ fn read(what: &str, form: Form, channels: u8, packets: &[u8], rounds: usize) {
         || run(Plain, &silent, packets, total, black_box(&mut readers.rust)),
     );
     readers.agree(&found);
+}
+
+/// Reads all that arrives of a capture some hours long, by one reader; in ms.
+fn read_hours(what: &str, form: Form, hours: u64, rounds: usize) {
+    fn run(
+        library: impl Library,
+        silent: &[u8],
+        packets: &[u8],
+        (stretches, total): (&[Range<usize>], usize),
+        reader: &mut [u8],
+    ) -> u64 {
+        reader.copy_from_slice(silent);
+        let numbers = stretches.iter().cloned().flatten();
+        let places = numbers.map(|number| seen(library.read(reader, numbered(packets, number, total))));
+        places.fold(0, u64::wrapping_add)
+    }
+    let Arrivals { stretches, last, lost } = arrivals(form, hours);
+    let packets = numbered_packets(form);
+    let come = (&stretches[..], black_box(form.total()));
+    let silent = Reader::new(1);
+    let end = boundary::reader_bytes(&Reader { heard: true, position: last, total: lost, form, ..silent });
+    let silent = boundary::reader_bytes(&silent);
+    let mut readers = Rooms::new(READER_BYTES);
+    let mut runners = both(
+        || run(Proved, &silent, &packets, come, black_box(&mut readers.proved)),
+        || run(Plain, &silent, &packets, come, black_box(&mut readers.rust)),
+    );
+    let found = best(&mut runners, MILLISECOND, rounds);
+    drop(runners);
+    readers.agree(&found);
+    assert!(readers.rust[..] == end[..], "the last packet's position and all that was lost");
+    row(what, &found, None);
 }
 
 fn sample_bytes(what: &str, form: Form, packets: &[u8], rounds: usize) {
@@ -416,4 +455,12 @@ fn main() {
     heads("version 2", head::VERSION_2, 0, rounds);
     heads("version 1, two channels", head::VERSION_1, head::TWO_CHANNELS, rounds);
     moved(&old, rounds);
+    println!();
+    head_in("ms for the packets of a capture that arrive, each by a call over the boundary");
+    let (what, hours) = if quick {
+        ("read, an hour's capture of 480,000 packets, large, 24 bits, 0.1 % and some seconds lost", 1)
+    } else {
+        ("read, a day's capture of 11,520,000 packets, large, 24 bits, 0.1 % and some seconds an hour lost", 24)
+    };
+    read_hours(what, Form::LARGE_24, hours, 20);
 }

@@ -1,63 +1,52 @@
--- `packets::whole` meets its contract: a packet has four leading bytes, and the header holds the total, so the header and
--- the slice's length decide.
+-- `packets::whole` meets its contract: the length names the form, and the header must be its own.
 use mathlib.Core.Path.{_∙_}
 use denote.Ref.{now}
-use Rattle.packets.proofs.Forms.{whole-short, whole-there, whole-not}
 use borrow.Author.Needs.{needs}
+use Rattle.packets.proofs.Forms.{no-total, own-header, other-header}
 use Rattle.packets.proofs.whole.Statement.{statement}
 use Rattle.packets.proofs.whole.Tie as tie
 
-no-form-requires : tie.Need-no-form-requires
-no-form-requires c κs = search needs
+form-of-total-requires : tie.Need-form-of-total-requires
+form-of-total-requires c κs = search needs
 
 returns : tie.Need-returns
 returns c =
-    let t = c .before in
-    c .no-form .ensures ∙ whole-short (now (t .before .before .args .packet)) (t .if1 .taken)
+    let t = c .before .before in
+    no-total (now (t .before .before .args .packet)) _ (t .form-of-total .ensures) (c .if1 .taken)
 
 two-at-requires : tie.Need-two-at-requires
 two-at-requires c κs = search needs
 
-length-in-requires : tie.Need-length-in-requires
-length-in-requires c κs = search needs
-
 cast-if2 : tie.Need-cast-if2
 cast-if2 c = search needs
 
-form-of-header-requires : tie.Need-form-of-header-requires
-form-of-header-requires c κs = search needs
+add-if2 : tie.Need-add-if2
+add-if2 c = search needs
 
 returns-2 : tie.Need-returns-2
 returns-2 c =
-    let test = c .before in
-    let says = test .before in
-    let header = says .before in
-    let a = header .before .before .before .args in
-    whole-there (now (a .packet)) _ _ _ (header .two-at .ensures) (says .length-in .ensures)
-    (test .if2 .taken) (c .form-of-header .ensures)
+    let h = c .before in
+    let t = h .before .before .before in
+    own-header (now (t .before .before .args .packet)) _ _ (t .form-of-total .ensures) (h .two-at .ensures) (c .if2 .taken)
 
-no-form-requires-2 : tie.Need-no-form-requires-2
-no-form-requires-2 c κs = search needs
+no-form-requires : tie.Need-no-form-requires
+no-form-requires c κs = search needs
 
 returns-3 : tie.Need-returns-3
 returns-3 c =
-    let test = c .before in
-    let says = test .before in
-    let header = says .before in
-    let a = header .before .before .before .args in
-    c .no-form2 .ensures
-    ∙ whole-not (now (a .packet)) _ _ (header .two-at .ensures) (says .length-in .ensures) (test .if2 .left)
+    let h = c .before .before in
+    let t = h .before .before .before in
+    c .no-form .ensures ∙ other-header (now (t .before .before .args .packet)) _ (h .two-at .ensures) (c .before .if2 .left)
 
 pub whole-spec : {M : Type 1} → statement M
 whole-spec =
     tie.close
     (tie.spec
-    no-form-requires
+    form-of-total-requires
     returns
     two-at-requires
-    length-in-requires
     cast-if2
-    form-of-header-requires
+    add-if2
     returns-2
-    no-form-requires-2
+    no-form-requires
     returns-3)

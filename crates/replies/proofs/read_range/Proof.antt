@@ -1,6 +1,6 @@
 -- The one reply is written and compared.
 use Prim.Native.Nat.{ℕ}
-use mathlib.Core.Path.{_≡_, refl, _∙_}
+use mathlib.Core.Path.{_≡_, refl, sym, _∙_}
 use mathlib.Core.List.{List}
 use borrow.Author.Needs.{needs}
 use Rattle.wishes.specs.declared.Wish.{Wish}
@@ -11,21 +11,21 @@ use Rattle.replies.proofs.Answers.{read-none, read-reply}
 use Rattle.replies.proofs.read_range.Statement.{statement}
 use Rattle.replies.proofs.read_range.Tie as tie
 
-abbrev start : tie.After-same → tie.Start
+abbrev start : tie.After-same-words → tie.Start
 start c = c .before .before .before .before .before .before
 
-abbrev came : tie.After-same → List ℕ
+abbrev came : tie.After-same-words → List ℕ
 came c = start c .args .bytes .now
 
-abbrev wish : tie.After-same → Wish
+abbrev wish : tie.After-same-words → Wish
 wish c = AskFrequencyRange (start c .args .channel)
 
-whole : (c : tie.After-same) → isReply (wish c) (came c) ≡ c .same .result
+whole : (c : tie.After-same-words) → isReply (wish c) (came c) ≡ c .same-words .result
 whole c =
     let channel = start c .args .channel in
     let put = c .before .before .before .put-range-reply in
     let written = range-written channel _ _ (put .ensures .0) (put .ensures .1) in
-    range-read channel _ _ (c .same .result) written (c .same .ensures .0) (c .same .ensures .1)
+    range-read channel (came c) _ written ∙ sym (c .same-words .ensures)
 
 slice-aggregate-put-range-reply : tie.Need-slice-aggregate-put-range-reply
 slice-aggregate-put-range-reply c = search needs
@@ -36,11 +36,11 @@ put-range-reply-requires c κs = search needs
 array-share-prefix-range : tie.Need-array-share-prefix-range
 array-share-prefix-range c = search needs
 
-slice-aggregate-same : tie.Need-slice-aggregate-same
-slice-aggregate-same c = search needs
+slice-aggregate-same-words : tie.Need-slice-aggregate-same-words
+slice-aggregate-same-words c = search needs
 
-same-requires : tie.Need-same-requires
-same-requires c κs = search needs
+same-words-requires : tie.Need-same-words-requires
+same-words-requires c κs = search needs
 
 returns : tie.Need-returns
 returns c =
@@ -59,7 +59,7 @@ read-range-spec =
     slice-aggregate-put-range-reply
     put-range-reply-requires
     array-share-prefix-range
-    slice-aggregate-same
-    same-requires
+    slice-aggregate-same-words
+    same-words-requires
     returns
     returns-2)

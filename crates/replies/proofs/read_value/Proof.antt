@@ -1,107 +1,146 @@
--- Bytes that are not the reply with the number in them are none; those that are, are a reply if a box could give it.
-use Prim.Native.Nat.{ℕ, _^_, _<_}
+-- Bytes around no value are no reply, nor are those whose value goes on; the others are one if a box could give the value.
+use Prim.Native.Nat.{ℕ, _+_, _^_, _<_}
 use mathlib.Core.Path.{_≡_, sym, ap, subst, _∙_}
 use mathlib.Core.Bool.{true}
-use native.Mathlib.Omega.{arith}
 use mathlib.Core.List.{List}
+use lib.Dec.{eqb}
 use denote.Ref.{now}
 use borrow.Author.Needs.{needs}
 use borrow.Author.Tests.{not-true, not-false}
 use Rattle.wire.specs.Number.{field}
+use Rattle.wire.specs.Lists.{same}
+use Rattle.wire.proofs.Numbers.{field-below}
+use Rattle.layouts.specs.declared.Layout.{Layout}
+use Rattle.layouts.specs.Layouts.{valuePlace, hasLayout}
 use Rattle.wishes.specs.declared.Wish.{Wish}
 use Rattle.replies.specs.Awaited.{awaited, replyBytes, valueAt, numberIn}
 use Rattle.replies.specs.Reading.{isReply, replySays}
-use Rattle.wire.specs.Lists.{same}
 use Rattle.replies.proofs.Answers.{read-none, read-reply}
-use Rattle.replies.proofs.Values.{word-in, word-fits, not-given, given-could}
+use Rattle.replies.proofs.Values.{around-reply, not-around, goes-on, ends, given-could}
 use Rattle.replies.proofs.read_value.Statement.{statement}
 use Rattle.replies.proofs.read_value.Tie as tie
 
--- the call, from the number that was read in the value's place
-abbrev start : tie.After-number-in → tie.Start
+-- the call, from the layout
+abbrev start : tie.After-reply-layout → tie.Start
 start c = c .before .before
 
-abbrev wish : tie.After-number-in → Wish
+abbrev wish : tie.After-reply-layout → Wish
 wish c = start c .args .w
 
-abbrev came : tie.After-number-in → List ℕ
+abbrev came : tie.After-reply-layout → List ℕ
 came c = now (start c .args .bytes)
 
-abbrev eight : tie.After-number-in → ℕ
-eight c = field (valueAt (wish c)) 8 (came c)
+-- the number in the bytes
+abbrev value : tie.After-reply-layout → ℕ
+value c = numberIn (wish c) (came c)
 
-small : (c : tie.After-number-in) → eight c < 256 ^ 8
-small c = rw (← c .number-in .ensures) (omega (arith, c .number-in .ok))
+abbrev laid : tie.Else1 → tie.After-reply-layout
+laid c = c .before .before
 
--- what `gives` tested
-tested : (c : tie.After-gives) → c .gives .result ≡ same (came (c .before)) (replyBytes (wish (c .before)) (eight (c .before)))
-tested c =
-    let n = c .before in
-    c .gives .ensures ∙ ap (λ (v : ℕ). same (came n) (replyBytes (wish n) v)) (n .number-in .ensures)
+-- what was compared around it
+around : (c : tie.After-has-layout) → c .has-layout .result ≡ same (came (c .before)) (replyBytes (wish (c .before)) (value (c .before)))
+around c =
+    let a = c .before in
+    c .has-layout .ensures ∙ ap (hasLayout (came a)) (a .reply-layout .ensures) ∙ around-reply (wish a) 0 (came a)
 
--- where it held
-abbrev number : tie.Else1 → tie.After-number-in
-number c = c .before .before
+given : (c : tie.Else1) → same (came (laid c)) (replyBytes (wish (laid c)) (value (laid c))) ≡ true
+given c = sym (around (c .before)) ∙ not-false (c .before .has-layout .result) (c .if1 .left)
 
-given : (c : tie.Else1) → same (came (number c)) (replyBytes (wish (number c)) (eight (number c))) ≡ true
-given c = sym (tested (c .before)) ∙ not-false (c .before .gives .result) (c .if1 .left)
+-- that it ends with its eighth byte
+last : (c : tie.After-ends-there)
+    → (let a = laid (c .before) in c .ends-there .result ≡ eqb (field (valueAt (wish a) + 8) 1 (came a)) 0)
+last c =
+    let a = laid (c .before) in
+    c .ends-there .ensures ∙ ap (λ (l : Layout). eqb (field (valuePlace l + 8) 1 (came a)) 0) (a .reply-layout .ensures)
 
-word : (c : tie.Else1) → numberIn (wish (number c)) (came (number c)) ≡ eight (number c)
-word c = let n = number c in word-in (wish n) (came n) (start n .pre .2) (given c) (small n)
+-- what is read is the number
+abbrev ended : tie.After-number-in → tie.Else1
+ended c = c .before .before .before
 
-fitting : (c : tie.Else1) → number c .number-in .result < 256 ^ awaited (wish (number c)) .width
+abbrev from : tie.After-number-in → tie.After-reply-layout
+from c = laid (ended c)
+
+read : (c : tie.After-number-in) → c .number-in .result ≡ value (from c)
+read c =
+    let a = from c in
+    let e = c .before .before in
+    let none = sym (last e) ∙ not-false (e .ends-there .result) (c .before .if2 .left) in
+    c .number-in .ensures
+    ∙ ap (λ (l : Layout). field (valuePlace l) 8 (came a)) (a .reply-layout .ensures)
+    ∙ sym (ends (wish a) (came a) (start a .pre .2) (given (ended c)) none)
+
+fitting : (c : tie.After-number-in) → c .number-in .result < 256 ^ awaited (wish (from c)) .width
 fitting c =
-    let n = number c in
-    let fits = word-fits (wish n) (came n) (start n .pre .2) (given c) (small n) in
-    subst (λ (v : ℕ). v < 256 ^ awaited (wish n) .width) (sym (n .number-in .ensures)) fits
+    let a = from c in
+    let width = awaited (wish a) .width in
+    let fits = field-below (valueAt (wish a)) width (came a) (λ k. a .before .shared-slice-known .given k .fits) in
+    subst (λ (n : ℕ). n < 256 ^ width) (sym (read c)) fits
 
 -- the bytes are a reply where the box could say so
-could : (c : tie.After-could-say) → isReply (wish (number (c .before))) (came (number (c .before))) ≡ c .could-say .result
+could : (c : tie.After-could-say) → isReply (wish (from (c .before))) (came (from (c .before))) ≡ c .could-say .result
 could c =
-    let n = number (c .before) in
-    given-could (wish n) (came n) (start n .pre .2) (c .could-say .result) (given (c .before)) (word (c .before))
-    (sym (c .could-say .ensures ∙ ap (awaited (wish n) .could) (n .number-in .ensures)))
+    let a = from (c .before) in
+    given-could (wish a) (came a) (start a .pre .2) (given (ended (c .before))) (c .could-say .result)
+    (sym (c .could-say .ensures ∙ ap (awaited (wish a) .could) (read (c .before))))
+
+reply-layout-requires : tie.Need-reply-layout-requires
+reply-layout-requires c κs = search needs
+
+has-layout-requires : tie.Need-has-layout-requires
+has-layout-requires c κs = search needs
+
+returns : tie.Need-returns
+returns c =
+    let a = c .before .before in
+    let p = start a .pre in
+    let differs = sym (around (c .before)) ∙ not-true (c .before .has-layout .result) (c .if1 .taken) in
+    read-none (wish a) (came a) (p .0) (p .1) (p .3) (not-around (wish a) (came a) (p .2) differs)
+
+ends-there-requires : tie.Need-ends-there-requires
+ends-there-requires c κs = search needs
+
+returns-2 : tie.Need-returns-2
+returns-2 c =
+    let e = c .before .before in
+    let a = laid e in
+    let p = start a .pre in
+    let more = sym (last (c .before)) ∙ not-true (c .before .ends-there .result) (c .if2 .taken) in
+    read-none (wish a) (came a) (p .0) (p .1) (p .3) (goes-on (wish a) (came a) (p .2) (given e) (p .1) more)
 
 number-in-requires : tie.Need-number-in-requires
 number-in-requires c κs = search needs
 
-gives-requires : tie.Need-gives-requires
-gives-requires c κs = start c .pre .2
-
-returns : tie.Need-returns
-returns c =
-    let n = c .before .before in
-    let a = start n in
-    let other = sym (tested (c .before)) ∙ not-true (c .before .gives .result) (c .if1 .taken) in
-    read-none (wish n) (came n) (a .pre .0) (a .pre .1) (a .pre .3) (not-given (wish n) (came n) (a .pre .2) (a .pre .1) other)
-
 could-say-requires : tie.Need-could-say-requires
-could-say-requires c κs = let a = start (number c) in (a .pre .1, a .pre .2, fitting c)
+could-say-requires c κs = let p = start (from c) .pre in (p .1, p .2, fitting c)
 
 says-requires : tie.Need-says-requires
 says-requires c κs = fitting (c .before .before)
 
-returns-2 : tie.Need-returns-2
-returns-2 c =
-    let e = c .before .before .before in
-    let n = number e in
-    let is = could (c .before .before) ∙ c .before .if2 .taken in
-    ap replySays (c .says .ensures)
-    ∙ read-reply (wish n) (came n) (start n .pre .0) (start n .pre .1) (start n .pre .3) _ is (word e ∙ sym (n .number-in .ensures))
-
 returns-3 : tie.Need-returns-3
 returns-3 c =
-    let n = number (c .before .before) in
-    read-none (wish n) (came n) (start n .pre .0) (start n .pre .1) (start n .pre .3) (could (c .before) ∙ c .if2 .left)
+    let n = c .before .before .before in
+    let a = from n in
+    let p = start a .pre in
+    ap replySays (c .says .ensures)
+    ∙ read-reply (wish a) (came a) (p .0) (p .1) (p .3) _ (could (c .before .before) ∙ c .before .if3 .taken) (sym (read n))
+
+returns-4 : tie.Need-returns-4
+returns-4 c =
+    let a = from (c .before .before) in
+    let p = start a .pre in
+    read-none (wish a) (came a) (p .0) (p .1) (p .3) (could (c .before) ∙ c .if3 .left)
 
 pub read-value-spec : {M : Type 1} → statement M
 read-value-spec =
     tie.close
     (tie.spec
-    number-in-requires
-    gives-requires
+    reply-layout-requires
+    has-layout-requires
     returns
+    ends-there-requires
+    returns-2
+    number-in-requires
     could-say-requires
     says-requires
-    returns-2
-    returns-3)
+    returns-3
+    returns-4)

@@ -1,13 +1,19 @@
 -- The reader's bytes are read, the packet by that reader, and the reader is written back where the packet was heard.
-use Prim.Native.Nat.{ℕ}
-use mathlib.Core.Path.{_≡_}
+use Prim.Native.Nat.{ℕ, _<_}
+use mathlib.Core.Path.{_≡_, ap, _∙_}
 use mathlib.Core.List.{List}
+use native.Mathlib.Omega.{arith}
 use lib.Dec.{eqb}
+use lib.ListN.{getD}
 use borrow.Author.Tests.{eq-eqb, ne-eqb}
 use Rattle.wire.specs.Choice.{pick}
+use Rattle.reader.specs.declared.Reader.{Reader}
+use Rattle.reader.specs.Reading.{readingOf}
 use Rattle.harvestdoor.specs.States.{readerBytes}
+use Rattle.harvestdoor.specs.Inside.{heardBytes}
 use Rattle.harvestdoor.specs.Reading.{readLeaving, readOver}
 use Rattle.harvestdoor.proofs.Heard.{read-whole, read-broken}
+use Rattle.harvestdoor.proofs.Going.{heard-stored}
 use borrow.Author.Needs.{needs}
 use Rattle.harvestdoor.proofs.reading.skvornela_read.Statement.{statement}
 use Rattle.harvestdoor.proofs.reading.skvornela_read.Tie as tie
@@ -27,14 +33,22 @@ read-over c after is =
     let a = start c .args in
     read-whole (a .state .now) (a .packet .now) after _ _ (whole c .if1 .taken) (c .before .reader-in .ensures) (c .read .ensures) is
 
+-- which are the ones that are stored
+stored : (c : tie.After-read) → (let h = c .read .result in heardBytes h (start c .args .state .now) ≡ readerBytes (h .reader))
+stored c =
+    let a = start c .args in
+    let small : (k : ℕ) → getD (a .state .now) k 0 < 256 = λ k. omega (arith, whole c .before .before .slice-known .given k) in
+    heard-stored (a .state .now) (whole c .if1 .taken) small (a .packet .now) (c .read .result)
+    (c .read .ensures ∙ ap (λ (r : Reader). readingOf r (a .packet .now)) (c .before .reader-in .ensures))
+
 reader-in-requires : tie.Need-reader-in-requires
 reader-in-requires c κs = search needs
 
 read-requires : tie.Need-read-requires
 read-requires c κs = search needs
 
-put-reader-requires : tie.Need-put-reader-requires
-put-reader-requires c κs = search needs
+put-heard-requires : tie.Need-put-heard-requires
+put-heard-requires c κs = search needs
 
 same-length : tie.Need-same-length
 same-length c = search needs
@@ -42,8 +56,9 @@ same-length c = search needs
 returns : tie.Need-returns
 returns c =
     let written = c .before .before in
-    let heard = written .before .before .before in
-    read-over (heard .before .before) _ (rw (eq-eqb _ 1 (heard .if2 .taken)) (written .put-reader .ensures))
+    let heard = written .before .before in
+    let r = heard .before .before in
+    read-over r _ (rw (eq-eqb _ 1 (heard .if2 .taken)) (written .put-heard .ensures ∙ stored r))
 
 same-length-2 : tie.Need-same-length-2
 same-length-2 c = search needs
@@ -60,7 +75,7 @@ skvornela-read-spec =
     (tie.spec
     reader-in-requires
     read-requires
-    put-reader-requires
+    put-heard-requires
     same-length
     returns
     same-length-2
