@@ -202,8 +202,7 @@ fn form_of_total(total: usize) -> Form
 }
 
 // The form of a slice that is one whole packet of a listed form; no form for any other slice. Its length is looked at first: that names
-// the form, and then the header must be 8000 more, as a data item's is. (Written so, and not by `wire::header_of`, since the compiler does
-// not see that the length fits 13 bits.)
+// the form, and then the header must be 8000 (hex) more, as a data item's is.
 pub fn whole(packet: &[u8]) -> Form
     ensures { λ r. ⌜ r ≡ wholeOf (now (packet .entry)) ⌝ }
 {
