@@ -136,6 +136,9 @@ def turn_code(code, rows, skip, dotted_only_camel):
         w = m[0]
         if w in skip or w not in rows:
             return w
+        # a lemma's own ending: what stands behind a dot is a step, a field or a function
+        if rows[w] == w + "_lem" and m.start() and code[m.start() - 1] == ".":
+            return w
         if dotted_only_camel and "-" in w and m.start() and code[m.start() - 1] == ".":
             return w
         return rows[w]
@@ -148,6 +151,9 @@ def turn(path, text, rows, own):
     skip = from_library(text, own)
     if proof:
         skip |= made_names(text)
+    if kind == ".rt":
+        # a function's name, which no lemma changes
+        skip |= {o for o, n in rows.items() if n == o + "_lem"}
     out, at = [], 0
     for m in COMMENT[kind].finditer(text):
         if kind == ".rt" and text.count('"', text.rfind("\n", 0, m.start()) + 1, m.start()) % 2:

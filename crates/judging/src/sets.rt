@@ -143,7 +143,7 @@ fn tune(s: Settings, byte: u8, hz: u64, code: u8) -> Judged
     if code != codes::DONE {
         return refused(code, s);
     }
-    let word = tuning::word_kept_lem(hz, s.clock);
+    let word = tuning::word_kept(hz, s.clock);
     let first = channels::covers(s.setup, byte, channels::FIRST);
     let second = channels::covers(s.setup, byte, channels::SECOND);
     let mut set = s;
@@ -189,8 +189,8 @@ fn renew(s: Settings, clock: u32, code: u8) -> Judged
     }
     let first = s.first;
     let second = s.second;
-    let first_word = tuning::word_kept_lem(first.frequency, clock);
-    let second_word = tuning::word_kept_lem(second.frequency, clock);
+    let first_word = tuning::word_kept(first.frequency, clock);
+    let second_word = tuning::word_kept(second.frequency, clock);
     let mut set = s;
     set.clock = clock;
     set.first.word = first_word;

@@ -135,7 +135,7 @@ fn position_after(position: u64, number: u16) -> u64
 
 // Whether a packet goes on in the reader's capture: the reader is sound and has heard one, and this one has its form and a number above
 // 0. So it is with nearly every packet, and these are all the tests that it takes: a form that a packet has is a listed one.
-fn goes_on_lem(r: Reader, packet: &[u8]) -> bool
+fn goes_on(r: Reader, packet: &[u8]) -> bool
     ensures { result ≡ goes_on r packet.now }
 {
     let form = packets::whole(packet);
@@ -173,7 +173,7 @@ fn next(r: Reader, packet: &[u8]) -> Heard
 pub fn read(r: Reader, packet: &[u8]) -> Heard
     ensures { result ≡ reading_of r packet.now }
 {
-    if goes_on_lem(r, packet) {
+    if goes_on(r, packet) {
         return next(r, packet);
     }
     if !is_sound(r) {

@@ -3,4 +3,4 @@ mod bands;
 mod word;
 
 pub use bands::{FIRST_MAXIMUM, FIRST_MINIMUM, in_bands, put_range};
-pub use word::{Word, agree, is_clock, word_kept_lem, word_of};
+pub use word::{Word, agree, is_clock, word_kept, word_of};

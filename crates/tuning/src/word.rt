@@ -81,7 +81,7 @@ pub fn word_of(hz: u64, clock: u32) -> Word
 }
 
 // The word that a box keeps with a frequency and a clock; 0 where they have none.
-pub fn word_kept_lem(hz: u64, clock: u32) -> u32
+pub fn word_kept(hz: u64, clock: u32) -> u32
     ensures { result ≡ word_kept hz clock }
 {
     match word_of(hz, clock) {

@@ -10,8 +10,8 @@ use Rattle.packets.specs.Forms.{whole_of, same_form}
 use Rattle.reader.specs.declared.Reader.{Reader}
 use Rattle.wire.proofs.Laws.{true_not_false}
 use Rattle.reader.proofs.Going.{stops, by_tests}
-use Rattle.reader.proofs.goes_on_lem.Statement.{statement}
-use Rattle.reader.proofs.goes_on_lem.Tie as tie
+use Rattle.reader.proofs.goes_on.Statement.{statement}
+use Rattle.reader.proofs.goes_on.Tie as tie
 
 -- ---- what each test found, and the places before it
 

@@ -31,7 +31,7 @@ abbrev packet : tie.Else1 → List ℕ
 packet c = (start c).args.packet.now
 
 stops : (c : tie.Else1) → goes_on (reader c) (packet c) ≡ false
-stops c = sym c.before.goes_on_lem.ensures ∙ c.if1.false
+stops c = sym c.before.goes_on.ensures ∙ c.if1.false
 
 -- the reader is sound
 abbrev stopped : tie.Else2 → tie.Else1
@@ -61,7 +61,7 @@ goes-on-requires : tie.Need-goes-on-requires
 goes-on-requires c κs = search rules
 
 next-requires : tie.Need-next-requires
-next-requires c κs = sym c.before.goes_on_lem.ensures ∙ c.if1.true
+next-requires c κs = sym c.before.goes_on.ensures ∙ c.if1.true
 
 returns : tie.Need-returns
 returns c = search rules

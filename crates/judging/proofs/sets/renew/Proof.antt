@@ -27,7 +27,7 @@ returns-2 c =
     let second = c.before.before.before in
     let first = second.before in
     c.accepted.ensures
-    ∙ rw (second.word-kept2.ensures, first.word_kept_lem.ensures, first.before.before.before.if1.false) refl
+    ∙ rw (second.word-kept2.ensures, first.word_kept.ensures, first.before.before.before.if1.false) refl
 
 pub renew-spec : {M : Type 1} → statement M
 renew-spec =

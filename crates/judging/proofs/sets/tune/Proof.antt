@@ -43,7 +43,7 @@ returns-2 c =
       first.tuned.ensures,
       covered.covers2.ensures,
       covered.before.covers.ensures,
-      worked.word_kept_lem.ensures,
+      worked.word_kept.ensures,
       worked.before.if1.false,
     ) refl
 

@@ -2,8 +2,8 @@
 use Rattle.std.proofs.Common.{sym, ap, ◌∙◌, rules}
 use Rattle.tuning.specs.Word.{word_says}
 use Rattle.tuning.proofs.Words.{kept_by, none_kept}
-use Rattle.tuning.proofs.word.word_kept_lem.Statement.{statement}
-use Rattle.tuning.proofs.word.word_kept_lem.Tie as tie
+use Rattle.tuning.proofs.word.word_kept.Statement.{statement}
+use Rattle.tuning.proofs.word.word_kept.Tie as tie
 
 word-of-requires : tie.Need-word-of-requires
 word-of-requires c κs = search rules
