@@ -6,7 +6,7 @@ use heads::Head;
 use wire::codes;
 
 // The code, and the shape, or zeros in the place of one that there is not.
-#[derive(Drop)]
+#[derive(Clone, Copy)]
 struct Shape {
     code: u8,
     channels: u8,

@@ -11,7 +11,7 @@ use wire::codes;
 
 // What one finished message came to: its code, how much was written at the start of the reply buffer, and the settings
 // after it.
-#[derive(Drop)]
+#[derive(Clone, Copy)]
 pub struct Answered {
     pub code: u8,
     pub wrote: usize,

@@ -57,7 +57,7 @@ pub extern "C" fn skvornela_feed(
 }
 
 // A tuning word as numbers.
-#[derive(Drop)]
+#[derive(Clone, Copy)]
 struct Tuned {
     code: u8,
     word: u32,

@@ -16,7 +16,7 @@ use station::Station;
 use wire::{codes, types};
 
 // What one call of cutting did: its code, how many bytes of packet it wrote, and the box after it.
-#[derive(Drop)]
+#[derive(Clone, Copy)]
 pub struct Cut {
     pub code: u8,
     pub wrote: usize,
@@ -25,7 +25,7 @@ pub struct Cut {
 
 // What one call of cutting did with a box whose held bytes were lent: the same, and of the box its settings. Of an
 // unfinished message cutting changes nothing.
-#[derive(Drop)]
+#[derive(Clone, Copy)]
 pub struct CutHeld {
     pub code: u8,
     pub wrote: usize,

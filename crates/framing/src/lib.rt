@@ -7,7 +7,7 @@ ghost use Rattle.framing.specs.Inside.{total_ahead};
 
 // What the box keeps of an unfinished message: its first 64 bytes and how many were taken. Unused places are zero, and
 // all is zero between messages.
-#[derive(Drop)]
+#[derive(Clone, Copy)]
 pub struct Store {
     pub held: [u8; 64],
     pub taken: usize,
@@ -16,7 +16,7 @@ pub struct Store {
 // What one call took of the host's bytes: how many, how many of the message are taken with them, whether they finished it,
 // and the ten bytes from the beginning of a finished message as they lie, zero where there are fewer. No message that the
 // box obeys is longer, and what lies behind one does not decide.
-#[derive(Drop)]
+#[derive(Clone, Copy)]
 pub struct Took {
     pub opening: [u8; 10],
     pub count: usize,

@@ -44,7 +44,7 @@ fn wish_of(which: u8, byte: u8, mode: u8, gain: i8, word: u32, hertz: u64, chann
 }
 
 // What the writer answered: its code, and how many bytes it wrote.
-#[derive(Drop)]
+#[derive(Clone, Copy)]
 struct Wrote {
     code: u8,
     wrote: usize,
@@ -100,7 +100,7 @@ pub extern "C" fn skvornela_wish(
 }
 
 // What a reply says, as numbers: the code, the item's code, how many values there are, the first two of them, and a gain.
-#[derive(Drop)]
+#[derive(Clone, Copy)]
 struct Shown {
     code: u8,
     item: u16,

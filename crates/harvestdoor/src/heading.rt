@@ -9,7 +9,7 @@ use heads::{Head, Moved, Opened, Written};
 use wire::codes;
 
 // What reading a head found: its code, and the head, or zeros in the place of one that was not found.
-#[derive(Drop)]
+#[derive(Clone, Copy)]
 struct Found {
     code: u8,
     head: Head,

@@ -21,7 +21,7 @@ pub const LONGEST: usize = 26;
 // What a capture's head says: its version, the D of the rate, the frequency in Hz, the mode byte (80 for 24 bits, 00 for 16, and
 // bit 6 for two channels), the size byte (0 large, 1 small), the box's serial as the number of its eight bytes (0 for unknown), and its
 // clock in Hz. Version 1 has no serial and no clock: of such a head they are 0 and 80,000,000.
-#[derive(Drop)]
+#[derive(Clone, Copy)]
 pub struct Head {
     pub version: u32,
     pub divisor: u32,
@@ -33,7 +33,7 @@ pub struct Head {
 }
 
 // What writing a head did.
-#[derive(Drop)]
+#[derive(Clone, Copy)]
 pub enum Written {
     // the 14 or 26 bytes stand at the start of the lent slice
     Whole,
@@ -44,7 +44,7 @@ pub enum Written {
 }
 
 // What reading a head found.
-#[derive(Drop)]
+#[derive(Clone, Copy)]
 pub enum Opened {
     Head(Head),
     NotAHead,
@@ -52,7 +52,7 @@ pub enum Opened {
 }
 
 // What moving a head to another version did.
-#[derive(Drop)]
+#[derive(Clone, Copy)]
 pub enum Moved {
     // the head stands at the start of the lent slice, in that version
     Whole,

@@ -60,7 +60,7 @@ pub fn head_in(s: &[u8]) -> Head
 
 // The 14 bytes that both versions have, by the first eight of them and the last eight: each is one read of the processor's, in a
 // part whose length the compiler sees.
-#[derive(Drop)]
+#[derive(Clone, Copy)]
 struct Words {
     low: u64,
     high: u64,
@@ -78,7 +78,7 @@ fn words_in(s: &[u8]) -> Words
 }
 
 // What version 2 adds, likewise.
-#[derive(Drop)]
+#[derive(Clone, Copy)]
 struct Names {
     serial: u64,
     clock: u32,

@@ -13,7 +13,7 @@ const TWICE_24: u8 = 0xC0;
 const TWICE_16: u8 = 0x40;
 
 // What words come to: a head, or the first of them that is none of those allowed.
-#[derive(Drop)]
+#[derive(Clone, Copy)]
 pub enum Worded {
     Head(Head),
     BadDivisor,

@@ -9,7 +9,7 @@ pub use pieces::hear;
 pub const FARTHEST: u64 = 0x8000_0000_0000_0000;
 
 // What is known while packets come: the packet that comes now, and the open capture.
-#[derive(Drop)]
+#[derive(Clone, Copy)]
 pub struct Tally {
     // the input byte where the packet begins
     pub begins: u64,
@@ -28,7 +28,7 @@ pub struct Tally {
 
 // How far hearing got in a piece: how many bytes it took, its code (0 where the piece is used up), and the tally then. A
 // packet with a code is counted as taken, and has had no effect yet.
-#[derive(Drop)]
+#[derive(Clone, Copy)]
 pub struct Reach {
     pub at: usize,
     pub code: u8,
@@ -36,7 +36,7 @@ pub struct Reach {
 }
 
 // What hearing a piece came to: how far it got, and the tally with which hearing goes on.
-#[derive(Drop)]
+#[derive(Clone, Copy)]
 pub struct Outcome {
     pub reach: Reach,
     pub next: Tally,

@@ -11,7 +11,7 @@ pub use ranges::{fresh, in_range};
 
 // A tuning channel. Gain and packet size have 32 bits where eight would do, and 0019's value 16: so no odd number of bytes is
 // left over in a box, which the compiler would copy one by one with each message (docs/BENCHMARKS.md).
-#[derive(Drop)]
+#[derive(Clone, Copy)]
 pub struct Channel {
     // Hz
     pub frequency: u64,
@@ -22,7 +22,7 @@ pub struct Channel {
 }
 
 // The settings of a box. A box started fresh keeps each within its range; specs/Settings.antt has the ranges.
-#[derive(Drop)]
+#[derive(Clone, Copy)]
 pub struct Settings {
     // channel 00
     pub first: Channel,
@@ -45,21 +45,21 @@ pub struct Settings {
 }
 
 // A fresh box: the code of starting it, and its settings.
-#[derive(Drop)]
+#[derive(Clone, Copy)]
 pub struct FreshSettings {
     pub code: u8,
     pub settings: Settings,
 }
 
 // What becomes of one message: its code, and the settings after it.
-#[derive(Drop)]
+#[derive(Clone, Copy)]
 pub struct Judged {
     pub code: u8,
     pub settings: Settings,
 }
 
 // The total length that the table of items gives for an item and a kind, or the refusal.
-#[derive(Drop)]
+#[derive(Clone, Copy)]
 pub enum Expected {
     Total(u16),
     // the item is not in the list

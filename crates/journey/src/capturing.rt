@@ -12,7 +12,7 @@ use wire::codes;
 use wishes::Wish;
 
 // The box, and the harvester's two readers of what it sends.
-#[derive(Drop)]
+#[derive(Clone, Copy)]
 struct Night {
     station: Station,
     reader: Reader,

@@ -7,7 +7,7 @@ ghost use Rattle.layouts.specs.Layouts.{size_of, laid, has_layout};
 
 // A message of a kind for an item. Its parameters are the channel byte or id that is echoed, where there is one, and a
 // value, a number in `width` bytes.
-#[derive(Drop)]
+#[derive(Clone, Copy)]
 pub struct Layout {
     pub kind: u8,
     pub item: u16,

@@ -6,7 +6,7 @@ pub use telling::{tell, time_of};
 
 // What comes last: nothing, where only a capture ended; a refusal with its code and the input byte; or the end of the input
 // with the count of captures.
-#[derive(Drop)]
+#[derive(Clone, Copy)]
 pub enum Ending {
     Nothing,
     Refusal { code: u8, offset: u64 },
@@ -15,7 +15,7 @@ pub enum Ending {
 
 // The lines that are due: the opening line, the line of the capture that ends (where packets were heard in it), and what
 // comes last. The clock is the box's, in Hz: with D it says how long a sample takes.
-#[derive(Drop)]
+#[derive(Clone, Copy)]
 pub struct Due {
     pub opening: bool,
     pub capture: u64,
@@ -29,14 +29,14 @@ pub struct Due {
 }
 
 // What writing lines did: its code and how many bytes it wrote.
-#[derive(Drop)]
+#[derive(Clone, Copy)]
 pub struct LinesAnswer {
     pub code: u8,
     pub wrote: usize,
 }
 
 // What asking for an end time answers: its code, and the microseconds.
-#[derive(Drop)]
+#[derive(Clone, Copy)]
 pub struct TimeAnswer {
     pub code: u8,
     pub microseconds: u64,

@@ -24,7 +24,7 @@ pub const SMALL: u8 = 1;
 
 // How a packet is laid out: the bits of a sample and the I/Q pairs in a packet. The four listed forms are those of the
 // table in specs/Forms.antt.
-#[derive(Drop)]
+#[derive(Clone, Copy)]
 pub struct Form {
     pub bits: u64,
     pub pairs: u64,

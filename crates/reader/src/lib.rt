@@ -11,7 +11,7 @@ use wire::codes;
 
 // How many channels the packets hold, as it was told; and what a reader has heard of the capture so far: the position and form of
 // the last packet, and how many packets were missed up to it. Before the first packet that is nothing, and then all is zero.
-#[derive(Drop)]
+#[derive(Clone, Copy)]
 pub struct Reader {
     pub heard: bool,
     pub channels: u8,
@@ -23,7 +23,7 @@ pub struct Reader {
 // What one call of reading answered: its code, the packet's position, its first sample's position in each channel, how many packets were
 // missed just before it and in the capture so far, and the reader after it. Where it refuses, these numbers are 0 and the
 // reader is the one given.
-#[derive(Drop)]
+#[derive(Clone, Copy)]
 pub struct Heard {
     pub code: u8,
     pub position: u64,
@@ -34,7 +34,7 @@ pub struct Heard {
 }
 
 // What unpacking did: its code, and how many numbers it wrote.
-#[derive(Drop)]
+#[derive(Clone, Copy)]
 pub struct Unpacked {
     pub code: u8,
     pub count: usize,

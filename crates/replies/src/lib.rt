@@ -15,7 +15,7 @@ use wishes::{StateFields, Wish};
 
 // What a reply says. A serial is the number in its eight characters, least significant first; a version is its id and the
 // two bytes after it; a status is whether the box is running; frequencies, clock and rate are in Hz.
-#[derive(Drop)]
+#[derive(Clone, Copy)]
 pub enum Reply {
     // the box refused
     Nak,

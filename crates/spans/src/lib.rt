@@ -7,7 +7,7 @@ pub use eating::{eat, finish, fresh};
 use hearing::Tally;
 
 // A span: what is kept of the input between two pieces of it.
-#[derive(Drop)]
+#[derive(Clone, Copy)]
 pub struct Span {
     // a refusal was printed, and no more bytes are wanted
     pub stopped: bool,
@@ -19,7 +19,7 @@ pub struct Span {
 
 // What one call of eating did: its code, how many bytes of the piece it consumed, how many bytes of lines it wrote, and the
 // span after it.
-#[derive(Drop)]
+#[derive(Clone, Copy)]
 pub struct Eaten {
     pub code: u8,
     pub consumed: usize,

@@ -11,7 +11,7 @@ use items::Settings;
 pub use talking::serve_talk;
 
 // A box: its settings, and what it keeps of an unfinished message.
-#[derive(Drop)]
+#[derive(Clone, Copy)]
 pub struct Station {
     pub settings: Settings,
     pub store: Store,
@@ -19,7 +19,7 @@ pub struct Station {
 
 // What one call of feeding did: its code, how many of the host's bytes it consumed, how many bytes of reply it wrote, and
 // the box after it.
-#[derive(Drop)]
+#[derive(Clone, Copy)]
 pub struct Fed {
     pub code: u8,
     pub consumed: usize,
@@ -29,7 +29,7 @@ pub struct Fed {
 
 // What one call of feeding did with a box whose held bytes were lent: the same, and of the box how many bytes of its
 // message are taken, and its settings.
-#[derive(Drop)]
+#[derive(Clone, Copy)]
 pub struct FedHeld {
     pub code: u8,
     pub consumed: usize,
@@ -39,14 +39,14 @@ pub struct FedHeld {
 }
 
 // A fresh box, and the code for its serial.
-#[derive(Drop)]
+#[derive(Clone, Copy)]
 pub struct FreshBox {
     pub code: u8,
     pub station: Station,
 }
 
 // The tuning word of a channel of a box. A channel that is not open has none, and a broken box has none.
-#[derive(Drop)]
+#[derive(Clone, Copy)]
 pub enum Tuning {
     Word(u32),
     NotAllowed,

@@ -7,7 +7,7 @@ ghost use Rattle.tuning.specs.Word.{offset_of, has_word, word_of, word_kept, is_
 use crate::bands::{FIRST_MAXIMUM, SECOND_OSCILLATOR, in_bands};
 
 // The word, or 01's refusal of a value that is not allowed.
-#[derive(Drop)]
+#[derive(Clone, Copy)]
 pub enum Word {
     Is(u32),
     NotAllowed,

@@ -14,7 +14,7 @@ use layouts::Layout;
 use wire::types;
 
 // The state that is wished for: its run byte, 1 for idle or 2 for run, and its capture mode, which idle does not look at.
-#[derive(Drop)]
+#[derive(Clone, Copy)]
 pub struct StateFields {
     pub run: u8,
     pub mode: u8,
@@ -22,7 +22,7 @@ pub struct StateFields {
 
 // "One wish for each kind and item above": a set holds the value to set, frequencies, clock and rate in Hz. Where the message has
 // a channel byte, the wish holds that first (02, No. 7): "Wishes gain 0019 and a channel byte".
-#[derive(Drop)]
+#[derive(Clone, Copy)]
 pub enum Wish {
     AskName,
     AskSerial,
@@ -48,7 +48,7 @@ pub enum Wish {
 
 // What the writer did: a message of so many bytes; or nothing, since no box allows the channel byte (15), since the box would not
 // allow the value (16), or since the buffer is under 16 bytes (20).
-#[derive(Drop)]
+#[derive(Clone, Copy)]
 pub enum Written {
     Message(usize),
     ChannelNotAllowed,

@@ -4,21 +4,21 @@ use borrow.Author.Rules.{rules}
 use Rattle.framing.proofs.announced_by.Statement.{statement}
 use Rattle.framing.proofs.announced_by.Tie as tie
 
-type-in-requires : tie.Need-type-in-requires
+type-in-requires : tie.Need-type_in-requires
 type-in-requires c κs = search rules
 
-length-in-requires : tie.Need-length-in-requires
+length-in-requires : tie.Need-length_in-requires
 length-in-requires c κs = search rules
 
-total-of-requires : tie.Need-total-of-requires
+total-of-requires : tie.Need-total_of-requires
 total-of-requires c κs = search rules
 
-cast-result : tie.Need-overflow-cast-result
+cast-result : tie.Need-overflow_cast-result
 cast-result c = search rules
 
 returns : tie.Need-returns
-returns c = c.total-of.ensures ∙ rw (c.before.length-in.ensures, c.before.before.type-in.ensures)
+returns c = c.total_of.ensures ∙ rw (c.length_in.ensures, c.type_in.ensures)
 
-pub announced-by-spec : {M : Type 1} → statement M
-announced-by-spec =
+pub announced_by_spec : {M : Type 1} → statement M
+announced_by_spec =
     tie.close (tie.spec type-in-requires length-in-requires total-of-requires cast-result returns)

@@ -11,37 +11,37 @@ use Rattle.framing.proofs.Zeros.{zeros_turn, zeros_end}
 use Rattle.framing.proofs.any_in.Statement.{statement}
 use Rattle.framing.proofs.any_in.Tie as tie
 
-abbrev invariant-loop : tie.invariant-loop
+abbrev invariant-loop : tie.invariant-loop-i
 invariant-loop held from to any₀ i₀ any i = (eqb any 0 && zeros (take (to - i) (drop i held))) ≡ zeros (take (to - from) (drop from held))
 
-abbrev decreases-loop : tie.decreases-loop
+abbrev decreases-loop : tie.decreases-loop-i
 decreases-loop held from to any₀ i₀ any i = to - i
 
-loop-holds : tie.Need-loop-init invariant-loop decreases-loop
+loop-holds : tie.Need-loop-i-init invariant-loop decreases-loop
 loop-holds c = refl
 
-shared-slice-read-any : tie.Need-shared-slice-read-any invariant-loop decreases-loop
+shared-slice-read-any : tie.Need-bounds-held-i invariant-loop decreases-loop
 shared-slice-read-any c = search rules
 
-add-i : tie.Need-overflow-add-i invariant-loop decreases-loop
+add-i : tie.Need-overflow_add-i invariant-loop decreases-loop
 add-i c = search rules
 
-loop-less : tie.Need-loop-smaller invariant-loop decreases-loop
+loop-less : tie.Need-loop-i-smaller invariant-loop decreases-loop
 loop-less c = omega arith
 
-loop-again : tie.Need-loop-preserved invariant-loop decreases-loop
+loop-again : tie.Need-loop-i-preserved invariant-loop decreases-loop
 loop-again c =
-    let l = c.before.before.loop in
-    let a = c.before.before.before.args in
+    let l = c.loop-i in
+    let a = c.args in
     zeros_turn a.held.now l.i a.to l.any _ (omega arith) (omega arith) l.invariant
 
 returns : tie.Need-returns invariant-loop decreases-loop
 returns c =
-    let l = c.before.loop in
-    let a = c.before.before.args in
+    let l = c.loop-i in
+    let a = c.args in
     zeros_end a.held.now l.i a.to l.any _ (omega arith) l.invariant
 
-pub any-in-spec : {M : Type 1} → statement M
-any-in-spec =
+pub any_in_spec : {M : Type 1} → statement M
+any_in_spec =
     tie.close
     (tie.spec invariant-loop decreases-loop loop-holds shared-slice-read-any add-i loop-less loop-again returns)

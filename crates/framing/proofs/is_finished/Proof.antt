@@ -7,32 +7,32 @@ use borrow.Author.Rules.{rules}
 use Rattle.framing.proofs.is_finished.Statement.{statement}
 use Rattle.framing.proofs.is_finished.Tie as tie
 
-returns : tie.Need-returns
+returns : tie.Need-returns-then-taken-lt2
 returns c =
-    let a = c.before.before.args in
-    sym (headless (record { held = a.held.now; taken = a.taken }) c.if1.true)
+    let a = c.args in
+    sym (headless (record { held = a.held.now; taken = a.taken }) c.if-taken-lt2.true)
 
-shared-slice-read-header : tie.Need-shared-slice-read-header
+shared-slice-read-header : tie.Need-bounds-held-0
 shared-slice-read-header c = search rules
 
-shared-slice-read-header-2 : tie.Need-shared-slice-read-header-2
+shared-slice-read-header-2 : tie.Need-bounds-held-1
 shared-slice-read-header-2 c = search rules
 
 header-requires : tie.Need-header-requires
 header-requires c κs = search rules
 
-announced-by-requires : tie.Need-announced-by-requires
+announced-by-requires : tie.Need-announced_by-requires
 announced-by-requires c κs = search rules
 
-returns-2 : tie.Need-returns-2
+returns-2 : tie.Need-returns
 returns-2 c =
-    let a = c.before.before.before.before.before.before.args in
+    let a = c.args in
     sym
-    (by_total_lem (record { held = a.held.now; taken = a.taken }) c.announced-by.result (omega arith)
-    (ap announced_by (header_held a.held.now (omega arith) ∙ sym c.before.header.ensures) ∙ sym c.announced-by.ensures))
+    (by_total_lem (record { held = a.held.now; taken = a.taken }) c.announced_by.result (omega arith)
+    (ap announced_by (header_held a.held.now (omega arith) ∙ sym c.header.ensures) ∙ sym c.announced_by.ensures))
 
-pub is-finished-spec : {M : Type 1} → statement M
-is-finished-spec =
+pub is_finished_spec : {M : Type 1} → statement M
+is_finished_spec =
     tie.close
     (tie.spec
     returns

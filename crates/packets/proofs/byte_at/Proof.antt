@@ -6,17 +6,17 @@ use lib.ListN.{get_or-eq_default}
 use Rattle.packets.proofs.byte_at.Statement.{statement}
 use Rattle.packets.proofs.byte_at.Tie as tie
 
-shared-slice-read-result : tie.Need-shared-slice-read-result
+shared-slice-read-result : tie.Need-bounds-s-at
 shared-slice-read-result c = search rules
 
-cast-result : tie.Need-overflow-cast-result
-cast-result c = omega (arith, c.shared-slice-known.given c.before.before.args.at)
+cast-result : tie.Need-overflow_cast-result
+cast-result c = omega (arith, c.shared_slice_known-1.given c.args.at)
 
-returns : tie.Need-returns
-returns c = (refl, omega (arith, c.shared-slice-known.given c.before.before.args.at))
+returns : tie.Need-returns-then-at-s
+returns c = (refl, omega (arith, c.shared_slice_known-1.given c.args.at))
 
-returns-2 : tie.Need-returns-2
-returns-2 c = (sym (get_or-eq_default c.before.args.s.now 0 c.if1.false), omega arith)
+returns-2 : tie.Need-returns
+returns-2 c = (sym (get_or-eq_default c.args.s.now 0 c.if-at-s.false), omega arith)
 
-pub byte-at-spec : {M : Type 1} → statement M
-byte-at-spec = tie.close (tie.spec shared-slice-read-result cast-result returns returns-2)
+pub byte_at_spec : {M : Type 1} → statement M
+byte_at_spec = tie.close (tie.spec shared-slice-read-result cast-result returns returns-2)

@@ -5,14 +5,14 @@ use Rattle.packets.proofs.Channels.{pairs_alone}
 use Rattle.packets.proofs.pairs_each.Statement.{statement}
 use Rattle.packets.proofs.pairs_each.Tie as tie
 
-returns : tie.Need-returns
-returns c = rw c.if1.true (sym (pairs_alone c.before.args.f))
+returns : tie.Need-returns-then-channels-eq1
+returns c = rw c.if-channels-eq1.true (sym (pairs_alone c.args.f))
 
-returns-2 : tie.Need-returns-2
-returns-2 c = rw c.before.if2.true
+returns-2 : tie.Need-returns-then-channels-eq2
+returns-2 c = rw c.if-channels-eq2.true
 
-returns-3 : tie.Need-returns-3
-returns-3 c = rw (ne_eqb _ 1 c.before.if1.false, ne_eqb _ 2 c.if2.false)
+returns-3 : tie.Need-returns
+returns-3 c = rw (ne_eqb _ 1 c.if-channels-eq1.false, ne_eqb _ 2 c.if-channels-eq2.false)
 
-pub pairs-each-spec : {M : Type 1} → statement M
-pairs-each-spec = tie.close (tie.spec returns returns-2 returns-3)
+pub pairs_each_spec : {M : Type 1} → statement M
+pairs_each_spec = tie.close (tie.spec returns returns-2 returns-3)

@@ -3,11 +3,11 @@ use Rattle.wire.proofs.Laws.{cases}
 use Rattle.packets.proofs.same_form.Statement.{statement}
 use Rattle.packets.proofs.same_form.Tie as tie
 
-returns : tie.Need-returns
+returns : tie.Need-returns-then-a-b
 returns c = search cases
 
-returns-2 : tie.Need-returns-2
+returns-2 : tie.Need-returns
 returns-2 c = search cases
 
-pub same-form-spec : {M : Type 1} → statement M
-same-form-spec = tie.close (tie.spec returns returns-2)
+pub same_form_spec : {M : Type 1} → statement M
+same_form_spec = tie.close (tie.spec returns returns-2)

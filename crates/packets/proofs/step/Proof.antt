@@ -4,19 +4,19 @@ use borrow.Author.Rules.{rules}
 use Rattle.packets.proofs.step.Statement.{statement}
 use Rattle.packets.proofs.step.Tie as tie
 
-sub-result : tie.Need-overflow-sub-result
+sub-result : tie.Need-overflow_sub-result
 sub-result c = search rules
 
-returns : tie.Need-returns
+returns : tie.Need-returns-then-s-t
 returns c = search cases
 
-add-result : tie.Need-overflow-add-result
+add-result : tie.Need-overflow_add-result
 add-result c = search rules
 
-sub-result-2 : tie.Need-overflow-sub-result-2
+sub-result-2 : tie.Need-overflow_sub-result-2
 sub-result-2 c = search rules
 
-returns-2 : tie.Need-returns-2
+returns-2 : tie.Need-returns
 returns-2 c = search cases
 
 pub step_spec : {M : Type 1} → statement M

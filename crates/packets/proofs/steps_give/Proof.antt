@@ -6,25 +6,25 @@ use Rattle.packets.proofs.Missed.{steps_give_by_tests}
 use Rattle.packets.proofs.steps_give.Statement.{statement}
 use Rattle.packets.proofs.steps_give.Tie as tie
 
-returns : tie.Need-returns
+returns : tie.Need-returns-then-position-gt-LAST
 returns c =
-    let a = c.before.args in
-    sym (steps_give_by_tests a.position a.total (lt-leb _ _ c.if1.true) refl refl)
+    let a = c.args in
+    sym (steps_give_by_tests a.position a.total (lt-leb _ _ c.if-position-gt-LAST.true) refl refl)
 
-returns-2 : tie.Need-returns-2
+returns-2 : tie.Need-returns-then-position-total
 returns-2 c =
-    let near = c.before in
-    let a = near.before.args in
-    sym (steps_give_by_tests a.position a.total (le-leb _ _ near.if1.false) (lt-leb _ _ c.if2.true) refl)
+    let near = c in
+    let a = near.args in
+    sym (steps_give_by_tests a.position a.total (le-leb _ _ near.if-position-gt-LAST.false) (lt-leb _ _ c.if-position-total.true) refl)
 
-mul-result : tie.Need-overflow-mul-result
+mul-result : tie.Need-overflow_mul-result
 mul-result c = omega arith
 
-returns-3 : tie.Need-returns-3
+returns-3 : tie.Need-returns
 returns-3 c =
-    let near = c.before in
-    let a = near.before.args in
-    sym (steps_give_by_tests a.position a.total (le-leb _ _ near.if1.false) (le-leb _ _ c.if2.false) refl)
+    let near = c in
+    let a = near.args in
+    sym (steps_give_by_tests a.position a.total (le-leb _ _ near.if-position-gt-LAST.false) (le-leb _ _ c.if-position-total.false) refl)
 
-pub steps-give-spec : {M : Type 1} → statement M
-steps-give-spec = tie.close (tie.spec returns returns-2 mul-result returns-3)
+pub steps_give_spec : {M : Type 1} → statement M
+steps_give_spec = tie.close (tie.spec returns returns-2 mul-result returns-3)

@@ -9,5 +9,5 @@ within-requires c κs = search rules
 returns : tie.Need-returns
 returns c = c.within.ensures
 
-pub may-ask-spec : {M : Type 1} → statement M
-may-ask-spec = tie.close (tie.spec within-requires returns)
+pub may_ask_spec : {M : Type 1} → statement M
+may_ask_spec = tie.close (tie.spec within-requires returns)

@@ -4,25 +4,25 @@ use Rattle.rates.proofs.Rates.{d_of_hit, d_of_miss}
 use Rattle.rates.proofs.table.d_of.Statement.{statement}
 use Rattle.rates.proofs.table.d_of.Tie as tie
 
-nearest-requires : tie.Need-nearest-requires
+nearest-requires : tie.Need-nearest-d-requires
 nearest-requires c κs = search rules
 
 achieved-requires : tie.Need-achieved-requires
 achieved-requires c κs = search rules
 
-returns : tie.Need-returns
+returns : tie.Need-returns-then-achieved-rate
 returns c =
-    let found = c.before in
-    let near = found.before in
-    d_of_hit near.before.args.rate near.nearest.result found.achieved.result
-    near.nearest.ensures found.achieved.ensures c.if1.true
+    let found = c in
+    let near = found in
+    d_of_hit near.args.rate near.nearest-d.result found.achieved.result
+    near.nearest-d.ensures found.achieved.ensures c.if-achieved-rate.true
 
-returns-2 : tie.Need-returns-2
+returns-2 : tie.Need-returns
 returns-2 c =
-    let found = c.before in
-    let near = found.before in
-    d_of_miss near.before.args.rate near.nearest.result found.achieved.result
-    near.nearest.ensures found.achieved.ensures c.if1.false
+    let found = c in
+    let near = found in
+    d_of_miss near.args.rate near.nearest-d.result found.achieved.result
+    near.nearest-d.ensures found.achieved.ensures c.if-achieved-rate.false
 
-pub d-of-spec : {M : Type 1} → statement M
-d-of-spec = tie.close (tie.spec nearest-requires achieved-requires returns returns-2)
+pub d_of_spec : {M : Type 1} → statement M
+d_of_spec = tie.close (tie.spec nearest-requires achieved-requires returns returns-2)

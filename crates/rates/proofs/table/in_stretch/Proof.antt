@@ -12,54 +12,54 @@ use Rattle.rates.proofs.table.in_stretch.Tie as tie
 abbrev Copied : List ℕ → ℕ → ℕ → ℕ → Type 0
 Copied table first j v = v ≡ get_or table (first + j) 0
 
-abbrev invariant-loop : tie.invariant-loop
+abbrev invariant-loop : tie.invariant-loop-i
 invariant-loop table first rest held₀ i₀ held i = (i ≤ 56) × (length held ≡ 56) × Held (Copied table first) held i
 
-abbrev decreases-loop : tie.decreases-loop
+abbrev decreases-loop : tie.decreases-loop-i
 decreases-loop table first rest held₀ i₀ held i = 56 - i
 
-loop-holds : tie.Need-loop-init invariant-loop decreases-loop
+loop-holds : tie.Need-loop-i-init invariant-loop decreases-loop
 loop-holds c = (omega arith, refl, λ j h. absurd (omega arith))
 
-add-held : tie.Need-overflow-add-held invariant-loop decreases-loop
+add-held : tie.Need-overflow_add-held invariant-loop decreases-loop
 add-held c = omega arith
 
-mul-held : tie.Need-overflow-mul-held invariant-loop decreases-loop
+mul-held : tie.Need-offset_bounds-table-first invariant-loop decreases-loop
 mul-held c = omega arith
 
-element-copy-out-held : tie.Need-element-copy-out-held invariant-loop decreases-loop
+element-copy-out-held : tie.Need-bounds-table-first invariant-loop decreases-loop
 element-copy-out-held c = omega arith
 
-mul-held-2 : tie.Need-overflow-mul-held-2 invariant-loop decreases-loop
+mul-held-2 : tie.Need-offset_bounds-held-i invariant-loop decreases-loop
 mul-held-2 c = omega arith
 
-array-write-held : tie.Need-array-write-held invariant-loop decreases-loop
+array-write-held : tie.Need-bounds-held-i invariant-loop decreases-loop
 array-write-held c = omega arith
 
-add-i : tie.Need-overflow-add-i invariant-loop decreases-loop
+add-i : tie.Need-overflow_add-i invariant-loop decreases-loop
 add-i c = omega arith
 
-loop-less : tie.Need-loop-smaller invariant-loop decreases-loop
+loop-less : tie.Need-loop-i-smaller invariant-loop decreases-loop
 loop-less c = omega arith
 
-loop-again : tie.Need-loop-preserved invariant-loop decreases-loop
+loop-again : tie.Need-loop-i-preserved invariant-loop decreases-loop
 loop-again c =
-    let a = c.before.before.before.args in
-    let l = c.before.before.loop in
+    let a = c.args in
+    let l = c.loop-i in
     let one_more = hold_turn (Copied a.table.now a.first) l.held l.i _ (omega arith) refl l.invariant.2 in
     (omega arith, simp length-set l.invariant.1, one_more)
 
-mul-result : tie.Need-overflow-mul-result invariant-loop decreases-loop
+mul-result : tie.Need-offset_bounds-held-rest invariant-loop decreases-loop
 mul-result c = omega arith
 
-array-read-result : tie.Need-array-read-result invariant-loop decreases-loop
+array-read-result : tie.Need-bounds-held-rest invariant-loop decreases-loop
 array-read-result c = omega arith
 
 returns : tie.Need-returns invariant-loop decreases-loop
-returns c = c.before.loop.invariant.2 c.before.before.args.rest (omega arith)
+returns c = c.loop-i.invariant.2 c.args.rest (omega arith)
 
-pub in-stretch-spec : {M : Type 1} → statement M
-in-stretch-spec =
+pub in_stretch_spec : {M : Type 1} → statement M
+in_stretch_spec =
     tie.close
     (tie.spec
     invariant-loop

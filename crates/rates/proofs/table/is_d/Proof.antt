@@ -9,5 +9,5 @@ within-requires c κs = search rules
 returns : tie.Need-returns
 returns c = c.within.ensures
 
-pub is-d-spec : {M : Type 1} → statement M
-is-d-spec = tie.close (tie.spec within-requires returns)
+pub is_d_spec : {M : Type 1} → statement M
+is_d_spec = tie.close (tie.spec within-requires returns)

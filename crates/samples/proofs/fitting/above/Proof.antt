@@ -26,20 +26,20 @@ sum : (c : tie.Start)
     → to_z w64 (of_z w64 (to_z w64 (of_z w64 (to_z w32 (of_z w32 c.args.x))) +ℤ pos 4_303_355_904)) ≡ pos (lifted 4_303_355_904 c.args.x)
 sum c = rw (to_z-of_z c.ranges.x) (lift_is w64 4_303_355_904 c.args.x (wide c) (small c) (room c))
 
-cast-result : tie.Need-overflow-cast-result
+cast-result : tie.Need-overflow_cast-result
 cast-result c = rw (to_z-of_z c.ranges.x) (wide c)
 
-add-result : tie.Need-overflow-add-result
+add-result : tie.Need-overflow_add-result
 add-result c = rw (to_z-of_z c.ranges.x) (lift_fits w64 4_303_355_904 c.args.x (wide c) (small c) (room c))
 
-cast-result-2 : tie.Need-overflow-cast-result-2
+cast-result-2 : tie.Need-overflow_cast-result-2
 cast-result-2 c = rw (sum c) (tt, omega (arith, lifted_below 4_303_355_904 c.args.x (small c)))
 
-cast-result-3 : tie.Need-overflow-cast-result-3
+cast-result-3 : tie.Need-overflow_cast-result-3
 cast-result-3 c = search rules
 
 returns : tie.Need-returns
 returns c = rw (sum c) (lifted_sample c.args.x _ (omega (arith, c.ranges.x.sfits)) refl)
 
-pub above-spec : {M : Type 1} → statement M
-above-spec = tie.close (tie.spec cast-result add-result cast-result-2 cast-result-3 returns)
+pub above_spec : {M : Type 1} → statement M
+above_spec = tie.close (tie.spec cast-result add-result cast-result-2 cast-result-3 returns)

@@ -9,98 +9,98 @@ use Rattle.samples.proofs.Written.{pack_four, pack_end}
 use Rattle.samples.proofs.packing.pack24.Statement.{statement}
 use Rattle.samples.proofs.packing.pack24.Tie as tie
 
-abbrev invariant-loop : tie.invariant-loop
+abbrev invariant-loop : tie.invariant-loop-i
 invariant-loop samples packet₀ fours i₀ packet i =
     (i ≤ fours)
     × (length packet ≡ length packet₀)
     × (sets packet (4 + 3 * (4 * i)) (samples_bytes 24 (drop (4 * i) samples)) ≡ sets packet₀ 4 (samples_bytes 24 samples))
 
-abbrev decreases-loop : tie.decreases-loop
+abbrev decreases-loop : tie.decreases-loop-i
 decreases-loop samples packet₀ fours i₀ packet i = fours - i
 
-loop-holds : tie.Need-loop-init invariant-loop decreases-loop
+loop-holds : tie.Need-loop-i-init invariant-loop decreases-loop
 loop-holds c = (omega arith, refl, refl)
 
-mul-code24 : tie.Need-overflow-mul-code24 invariant-loop decreases-loop
+mul-code24 : tie.Need-overflow_mul-i invariant-loop decreases-loop
 mul-code24 c = omega arith
 
-code24-requires : tie.Need-code24-requires invariant-loop decreases-loop
-code24-requires c κs = (c.before.before.before.requires.0, omega arith)
+code24-requires : tie.Need-code24-a-requires invariant-loop decreases-loop
+code24-requires c κs = (c.requires.0, omega arith)
 
-mul-code24-2 : tie.Need-overflow-mul-code24-2 invariant-loop decreases-loop
+mul-code24-2 : tie.Need-overflow_mul-i-in-loop-i invariant-loop decreases-loop
 mul-code24-2 c = omega arith
 
-add-code24 : tie.Need-overflow-add-code24 invariant-loop decreases-loop
+add-code24 : tie.Need-overflow_add-i invariant-loop decreases-loop
 add-code24 c = omega arith
 
-code24-requires-2 : tie.Need-code24-requires-2 invariant-loop decreases-loop
-code24-requires-2 c κs = (c.before.before.before.before.requires.0, omega arith)
+code24-requires-2 : tie.Need-code24-b-requires invariant-loop decreases-loop
+code24-requires-2 c κs = (c.requires.0, omega arith)
 
-mul-code24-3 : tie.Need-overflow-mul-code24-3 invariant-loop decreases-loop
+mul-code24-3 : tie.Need-overflow_mul-i-in-loop-i-2 invariant-loop decreases-loop
 mul-code24-3 c = omega arith
 
-add-code24-2 : tie.Need-overflow-add-code24-2 invariant-loop decreases-loop
+add-code24-2 : tie.Need-overflow_add-i-in-loop-i invariant-loop decreases-loop
 add-code24-2 c = omega arith
 
-code24-requires-3 : tie.Need-code24-requires-3 invariant-loop decreases-loop
-code24-requires-3 c κs = (c.before.before.before.before.before.requires.0, omega arith)
+code24-requires-3 : tie.Need-code24-c-requires invariant-loop decreases-loop
+code24-requires-3 c κs = (c.requires.0, omega arith)
 
-mul-code24-4 : tie.Need-overflow-mul-code24-4 invariant-loop decreases-loop
+mul-code24-4 : tie.Need-overflow_mul-i-in-loop-i-3 invariant-loop decreases-loop
 mul-code24-4 c = omega arith
 
-add-code24-3 : tie.Need-overflow-add-code24-3 invariant-loop decreases-loop
+add-code24-3 : tie.Need-overflow_add-i-in-loop-i-2 invariant-loop decreases-loop
 add-code24-3 c = omega arith
 
-code24-requires-4 : tie.Need-code24-requires-4 invariant-loop decreases-loop
-code24-requires-4 c κs = (c.before.before.before.before.before.before.requires.0, omega arith)
+code24-requires-4 : tie.Need-code24-d-requires invariant-loop decreases-loop
+code24-requires-4 c κs = (c.requires.0, omega arith)
 
-mul-put-four24 : tie.Need-overflow-mul-put-four24 invariant-loop decreases-loop
+mul-put-four24 : tie.Need-overflow_mul-i-in-loop-i-4 invariant-loop decreases-loop
 mul-put-four24 c = omega arith
 
-add-put-four24 : tie.Need-overflow-add-put-four24 invariant-loop decreases-loop
+add-put-four24 : tie.Need-overflow_add-i-in-loop-i-3 invariant-loop decreases-loop
 add-put-four24 c = omega arith
 
-put-four24-requires : tie.Need-put-four24-requires invariant-loop decreases-loop
+put-four24-requires : tie.Need-put_four24-requires invariant-loop decreases-loop
 put-four24-requires c κs =
-    let fourth = c.before in
-    let third = fourth.before in
-    let second = third.before in
-    let first = second.before in
-    (omega arith, first.code24.ensures.1, second.code242.ensures.1, third.code243.ensures.1, fourth.code244.ensures.1)
+    let fourth = c in
+    let third = fourth in
+    let second = third in
+    let first = second in
+    (omega arith, first.code24-a.ensures.1, second.code24-b.ensures.1, third.code24-c.ensures.1, fourth.code24-d.ensures.1)
 
-add-i : tie.Need-overflow-add-i invariant-loop decreases-loop
+add-i : tie.Need-overflow_add-i-in-loop-i-4 invariant-loop decreases-loop
 add-i c = omega arith
 
-loop-less : tie.Need-loop-smaller invariant-loop decreases-loop
+loop-less : tie.Need-loop-i-smaller invariant-loop decreases-loop
 loop-less c = omega arith
 
-loop-again : tie.Need-loop-preserved invariant-loop decreases-loop
+loop-again : tie.Need-loop-i-preserved invariant-loop decreases-loop
 loop-again c =
-    let p = c.before.before in
-    let fourth = p.before.before in
-    let third = fourth.before in
-    let second = third.before in
-    let first = second.before in
-    let l = first.before.before in
-    let zs = l.before.before.args.samples.now in (
+    let p = c in
+    let fourth = p in
+    let third = fourth in
+    let second = third in
+    let first = second in
+    let l = first in
+    let zs = l.args.samples.now in (
       omega arith,
-      p.put-four24.auto.0 ∙ l.loop.invariant.1,
-      rw p.put-four24.ensures
-          (pack_four zs l.loop.packet _ l.loop.i _ _ _ _ (omega arith)
-          first.code24.ensures.0 second.code242.ensures.0 third.code243.ensures.0 fourth.code244.ensures.0
-          l.loop.invariant.2),
+      p.put_four24.auto.dst ∙ l.loop-i.invariant.1,
+      rw p.put_four24.ensures
+          (pack_four zs l.loop-i.packet _ l.loop-i.i _ _ _ _ (omega arith)
+          first.code24-a.ensures.0 second.code24-b.ensures.0 third.code24-c.ensures.0 fourth.code24-d.ensures.0
+          l.loop-i.invariant.2),
     )
 
-same_length : tie.Need-same-length invariant-loop decreases-loop
-same_length c = c.before.loop.invariant.1
+same_length : tie.Need-shape_of-packet invariant-loop decreases-loop
+same_length c = c.loop-i.invariant.1
 
 returns : tie.Need-returns invariant-loop decreases-loop
 returns c =
-    let l = c.before in
-    pack_end 24 4 l.loop.packet _ l.before.before.args.samples.now (4 * l.loop.i) (omega arith) l.loop.invariant.2
+    let l = c in
+    pack_end 24 4 l.loop-i.packet _ l.args.samples.now (4 * l.loop-i.i) (omega arith) l.loop-i.invariant.2
 
-pub pack24-spec : {M : Type 1} → statement M
-pack24-spec =
+pub pack24_spec : {M : Type 1} → statement M
+pack24_spec =
     tie.close
     (tie.spec
     invariant-loop

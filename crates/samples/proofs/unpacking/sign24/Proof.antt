@@ -7,13 +7,13 @@ use Rattle.samples.proofs.Codes.{drop_fits, drop_is, unturned}
 use Rattle.samples.proofs.unpacking.sign24.Statement.{statement}
 use Rattle.samples.proofs.unpacking.sign24.Tie as tie
 
-add-result : tie.Need-overflow-add-result
+add-result : tie.Need-overflow_add-result
 add-result c = search rules
 
-cast-result : tie.Need-overflow-cast-result
+cast-result : tie.Need-overflow_cast-result
 cast-result c = search rules
 
-sub-result : tie.Need-overflow-sub-result
+sub-result : tie.Need-overflow_sub-result
 sub-result c = drop_fits 8_388_608 ((c.args.v + 8_388_608) % 16_777_216) (omega arith) (omega arith)
 
 returns : tie.Need-returns
@@ -21,5 +21,5 @@ returns c =
     drop_is 8_388_608 ((c.args.v + 8_388_608) % 16_777_216) (omega arith) (omega arith)
     ∙ unturned 24 8_388_608 c.args.v refl refl (omega arith)
 
-pub sign24-spec : {M : Type 1} → statement M
-sign24-spec = tie.close (tie.spec add-result cast-result sub-result returns)
+pub sign24_spec : {M : Type 1} → statement M
+sign24_spec = tie.close (tie.spec add-result cast-result sub-result returns)

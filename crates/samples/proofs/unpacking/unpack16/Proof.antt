@@ -10,56 +10,56 @@ use Rattle.samples.proofs.Taken.{unpack_block, unpack_end}
 use Rattle.samples.proofs.unpacking.unpack16.Statement.{statement}
 use Rattle.samples.proofs.unpacking.unpack16.Tie as tie
 
-abbrev invariant-loop : tie.invariant-loop
+abbrev invariant-loop : tie.invariant-loop-i
 invariant-loop packet out₀ blocks i₀ out i =
     (i ≤ blocks)
     × (length out ≡ length out₀)
     × (sets out (64 * i) (samples_from 16 (drop 4 packet) (64 * i) (64 * blocks - 64 * i))
     ≡ sets out₀ 0 (samples_from 16 (drop 4 packet) 0 (64 * blocks)))
 
-abbrev decreases-loop : tie.decreases-loop
+abbrev decreases-loop : tie.decreases-loop-i
 decreases-loop packet out₀ blocks i₀ out i = blocks - i
 
-loop-holds : tie.Need-loop-init invariant-loop decreases-loop
-loop-holds c = (omega arith, refl, rw (sub-zero (64 * c.before.args.blocks)))
+loop-holds : tie.Need-loop-i-init invariant-loop decreases-loop
+loop-holds c = (omega arith, refl, rw (sub-zero (64 * c.args.blocks)))
 
-mul-block16 : tie.Need-overflow-mul-block16 invariant-loop decreases-loop
+mul-block16 : tie.Need-overflow_mul-i invariant-loop decreases-loop
 mul-block16 c = omega arith
 
 block16-requires : tie.Need-block16-requires invariant-loop decreases-loop
 block16-requires c κs = omega arith
 
-add-i : tie.Need-overflow-add-i invariant-loop decreases-loop
+add-i : tie.Need-overflow_add-i invariant-loop decreases-loop
 add-i c = omega arith
 
-loop-less : tie.Need-loop-smaller invariant-loop decreases-loop
+loop-less : tie.Need-loop-i-smaller invariant-loop decreases-loop
 loop-less c = omega arith
 
-loop-again : tie.Need-loop-preserved invariant-loop decreases-loop
+loop-again : tie.Need-loop-i-preserved invariant-loop decreases-loop
 loop-again c =
-    let b = c.before in
-    let l = b.before.before.before in
-    let a = l.before.before.args in
-    let here : 64 * l.loop.i ≡ 2 * (32 * l.loop.i) = omega arith in
-    let next : 64 * (l.loop.i + 1) ≡ 2 * (32 * l.loop.i + 32) = omega arith in (
+    let b = c in
+    let l = b in
+    let a = l.args in
+    let here : 64 * l.loop-i.i ≡ 2 * (32 * l.loop-i.i) = omega arith in
+    let next : 64 * (l.loop-i.i + 1) ≡ 2 * (32 * l.loop-i.i + 32) = omega arith in (
       omega arith,
-      b.block16.auto.1.0 ∙ l.loop.invariant.1,
+      b.block16.auto.1.0 ∙ l.loop-i.invariant.1,
       rw (b.block16.ensures, next)
-          (unpack_block 16 (drop 4 a.packet.now) l.loop.out _
-          (2 * (32 * l.loop.i)) (2 * (32 * l.loop.i + 32)) (64 * a.blocks) (omega arith) (omega arith) (rw here at l.loop.invariant.2)),
+          (unpack_block 16 (drop 4 a.packet.now) l.loop-i.out _
+          (2 * (32 * l.loop-i.i)) (2 * (32 * l.loop-i.i + 32)) (64 * a.blocks) (omega arith) (omega arith) (rw here at l.loop-i.invariant.2)),
     )
 
-same_length : tie.Need-same-length invariant-loop decreases-loop
-same_length c = c.before.loop.invariant.1
+same_length : tie.Need-shape_of-out invariant-loop decreases-loop
+same_length c = c.loop-i.invariant.1
 
 returns : tie.Need-returns invariant-loop decreases-loop
 returns c =
-    let l = c.before in
-    let a = l.before.before.args in
-    unpack_end 16 (drop 4 a.packet.now) l.loop.out _ (64 * l.loop.i) (64 * a.blocks) (omega arith) l.loop.invariant.2
+    let l = c in
+    let a = l.args in
+    unpack_end 16 (drop 4 a.packet.now) l.loop-i.out _ (64 * l.loop-i.i) (64 * a.blocks) (omega arith) l.loop-i.invariant.2
 
-pub unpack16-spec : {M : Type 1} → statement M
-unpack16-spec =
+pub unpack16_spec : {M : Type 1} → statement M
+unpack16_spec =
     tie.close
     (tie.spec
     invariant-loop

@@ -14,7 +14,7 @@ either : (a : Bool) {a' b b' : Bool} → a ≡ a' → b ≡ b' → (a || b) ≡ 
 either a {a'} {b} {b'} p q = rw (p, q) (ap (λ (c : Bool). a' || c) (sym (or_false b')))
 
 returns : tie.Need-returns
-returns c = either c.before.within.result c.before.within.ensures c.within2.ensures
+returns c = either c.within.result c.within.ensures c.within-2.ensures
 
-pub in-bands-spec : {M : Type 1} → statement M
-in-bands-spec = tie.close (tie.spec within-requires within-requires-2 returns)
+pub in_bands_spec : {M : Type 1} → statement M
+in_bands_spec = tie.close (tie.spec within-requires within-requires-2 returns)

@@ -9,30 +9,30 @@ use Rattle.tuning.proofs.bands.put_range.Tie as tie
 abbrev band_bytes : ℕ → ℕ → ℕ → List ℕ
 band_bytes minimum maximum oscillator = bytes 5 minimum ++ bytes 5 maximum ++ bytes 5 oscillator
 
-returns : tie.Need-returns
-returns c = sym (sets_out c.before.before.args.dst.now c.before.before.args.at (range_bytes bands) c.if1.true)
+returns : tie.Need-returns-then-dst-at
+returns c = sym (sets_out c.args.dst.now c.args.at (range_bytes bands) c.if-dst-at.true)
 
-put-band-requires : tie.Need-put-band-requires
+put-band-requires : tie.Need-put_band-requires
 put-band-requires c κs = search rules
 
-add-put-band : tie.Need-overflow-add-put-band
+add-put-band : tie.Need-overflow_add-at
 add-put-band c = search rules
 
-put-band-requires-2 : tie.Need-put-band-requires-2
+put-band-requires-2 : tie.Need-put_band-requires-2
 put-band-requires-2 c κs = search rules
 
-same_length : tie.Need-same-length
+same_length : tie.Need-shape_of-dst
 same_length c = search rules
 
-returns-2 : tie.Need-returns-2
+returns-2 : tie.Need-returns
 returns-2 c =
-    let second = c.before.before in
-    let first = second.before.before.before.before in
-    let a = first.before.before.before.before.args in
+    let second = c in
+    let first = second in
+    let a = first.args in
     sets_then a.dst.now a.at (band_bytes 100000 34000000 0) (band_bytes 140000000 150000000 160000000)
-    first.put-band.ensures second.put-band2.ensures
+    first.put_band.ensures second.put_band-2.ensures
 
-pub put-range-spec : {M : Type 1} → statement M
-put-range-spec =
+pub put_range_spec : {M : Type 1} → statement M
+put_range_spec =
     tie.close
     (tie.spec returns put-band-requires add-put-band put-band-requires-2 same_length returns-2)

@@ -9,5 +9,5 @@ within-requires c κs = search rules
 returns : tie.Need-returns
 returns c = c.within.ensures
 
-pub is-clock-spec : {M : Type 1} → statement M
-is-clock-spec = tie.close (tie.spec within-requires returns)
+pub is_clock_spec : {M : Type 1} → statement M
+is_clock_spec = tie.close (tie.spec within-requires returns)

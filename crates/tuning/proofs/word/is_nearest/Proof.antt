@@ -8,16 +8,16 @@ use Rattle.tuning.proofs.word.is_nearest.Tie as tie
 small : (c : tie.Start) → c.args.clock * c.args.word ≤ c.args.clock * 4294967295
 small c = mul-le-mul_left c.args.clock (omega arith)
 
-mul-dividend : tie.Need-overflow-mul-dividend
+mul-dividend : tie.Need-overflow_mul-dividend
 mul-dividend c = search rules
 
-add-dividend : tie.Need-overflow-add-dividend
+add-dividend : tie.Need-overflow_add-dividend
 add-dividend c = search rules
 
-mul-least : tie.Need-overflow-mul-least
+mul-least : tie.Need-overflow_mul-least
 mul-least c = omega (arith, small c)
 
-add-result : tie.Need-overflow-add-result
+add-result : tie.Need-overflow_add-result
 add-result c = omega (arith, small c)
 
 returns : tie.Need-returns
@@ -27,5 +27,5 @@ returns c =
     λ some.
     by_product x a.clock a.word some ∙ ap (λ (w : ℕ). eqb a.word w) (half_more (a.n * 2 ^ 32) a.clock some)
 
-pub is-nearest-spec : {M : Type 1} → statement M
-is-nearest-spec = tie.close (tie.spec mul-dividend add-dividend mul-least add-result returns)
+pub is_nearest_spec : {M : Type 1} → statement M
+is_nearest_spec = tie.close (tie.spec mul-dividend add-dividend mul-least add-result returns)

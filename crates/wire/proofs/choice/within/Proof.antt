@@ -4,11 +4,11 @@ use Rattle.wire.proofs.Laws.{cases}
 use Rattle.wire.proofs.choice.within.Statement.{statement}
 use Rattle.wire.proofs.choice.within.Tie as tie
 
-returns : tie.Need-returns
+returns : tie.Need-returns-then-n-low
 returns c = search cases
 
-returns-2 : tie.Need-returns-2
-returns-2 c = rw (le-leb c.before.args.low c.before.args.n c.if1.false)
+returns-2 : tie.Need-returns
+returns-2 c = rw (le-leb c.args.low c.args.n c.if-n-low.false)
 
-pub within-spec : {M : Type 1} → statement M
-within-spec = tie.close (tie.spec returns returns-2)
+pub within_spec : {M : Type 1} → statement M
+within_spec = tie.close (tie.spec returns returns-2)

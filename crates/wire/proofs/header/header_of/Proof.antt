@@ -14,11 +14,11 @@ joined kind total =
     ∙ or_shifted (kind % 8) 13 (bit_and total 8191) (mask_lt total 13)
     ∙ omega (arith, and_mask total 13)
 
-cast-result : tie.Need-overflow-cast-result
+cast-result : tie.Need-overflow_cast-result
 cast-result c = omega (arith, and_mask c.args.kind 3)
 
 returns : tie.Need-returns
 returns c = joined c.args.kind c.args.total
 
-pub header-of-spec : {M : Type 1} → statement M
-header-of-spec = tie.close (tie.spec cast-result returns)
+pub header_of_spec : {M : Type 1} → statement M
+header_of_spec = tie.close (tie.spec cast-result returns)

@@ -6,5 +6,5 @@ use Rattle.wire.proofs.header.length_in.Tie as tie
 returns : tie.Need-returns
 returns c = and_mask c.args.header 13
 
-pub length-in-spec : {M : Type 1} → statement M
-length-in-spec = tie.close (tie.spec returns)
+pub length_in_spec : {M : Type 1} → statement M
+length_in_spec = tie.close (tie.spec returns)

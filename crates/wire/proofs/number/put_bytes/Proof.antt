@@ -11,60 +11,60 @@ use Rattle.wire.proofs.Numbers.{put_turn, put_end}
 use Rattle.wire.proofs.number.put_bytes.Statement.{statement}
 use Rattle.wire.proofs.number.put_bytes.Tie as tie
 
-abbrev invariant-loop : tie.invariant-loop
+abbrev invariant-loop : tie.invariant-loop-i
 invariant-loop dst₀ at n v fits rest₀ i₀ dst rest i =
     (i ≤ fits) × (length dst ≡ length dst₀) × (sets dst (at + i) (bytes (n - i) rest) ≡ sets dst₀ at (bytes n v))
 
-abbrev decreases-loop : tie.decreases-loop
+abbrev decreases-loop : tie.decreases-loop-i
 decreases-loop dst₀ at n v fits rest₀ i₀ dst rest i = fits - i
 
 left-requires : tie.Need-left-requires invariant-loop decreases-loop
 left-requires c κs = search rules
 
-lesser-requires : tie.Need-lesser-requires invariant-loop decreases-loop
+lesser-requires : tie.Need-lesser-fits-requires invariant-loop decreases-loop
 lesser-requires c κs = search rules
 
-loop-holds : tie.Need-loop-init invariant-loop decreases-loop
+loop-holds : tie.Need-loop-i-init invariant-loop decreases-loop
 loop-holds c =
-    let a = c.before.before.before.args in
+    let a = c.args in
     (search rules, refl, rw (add-zero a.at, sub-zero a.n))
 
 -- the call, from the loop
-abbrev start : tie.At-loop invariant-loop decreases-loop → tie.Start invariant-loop decreases-loop
+abbrev start : tie.At-loop-i invariant-loop decreases-loop → tie.Start invariant-loop decreases-loop
 start c = c.before.before.before.before
 
-cast-dst : tie.Need-overflow-cast-dst invariant-loop decreases-loop
+cast-dst : tie.Need-overflow_cast-dst invariant-loop decreases-loop
 cast-dst c = omega arith
 
-add-dst : tie.Need-overflow-add-dst invariant-loop decreases-loop
+add-dst : tie.Need-overflow_add-dst invariant-loop decreases-loop
 add-dst c = omega arith
 
-slice-write-dst : tie.Need-slice-write-dst invariant-loop decreases-loop
+slice-write-dst : tie.Need-bounds-dst-at invariant-loop decreases-loop
 slice-write-dst c = omega arith
 
-add-i : tie.Need-overflow-add-i invariant-loop decreases-loop
+add-i : tie.Need-overflow_add-i invariant-loop decreases-loop
 add-i c = omega arith
 
-loop-less : tie.Need-loop-smaller invariant-loop decreases-loop
+loop-less : tie.Need-loop-i-smaller invariant-loop decreases-loop
 loop-less c = omega arith
 
-loop-again : tie.Need-loop-preserved invariant-loop decreases-loop
+loop-again : tie.Need-loop-i-preserved invariant-loop decreases-loop
 loop-again c =
     let a = (start c.before).args in
-    let l = c.before.loop in
+    let l = c.loop-i in
     (omega arith, simp length-set l.invariant.1, put_turn l.dst _ a.at a.n l.i l.rest (omega arith) l.invariant.2)
 
-same_length : tie.Need-same-length invariant-loop decreases-loop
+same_length : tie.Need-shape_of-dst invariant-loop decreases-loop
 same_length c = omega arith
 
 returns : tie.Need-returns invariant-loop decreases-loop
 returns c =
     let a = (start c.before).args in
-    let l = c.before.loop in
+    let l = c.loop-i in
     put_end l.dst _ a.at a.n l.i l.rest (omega arith) l.invariant.2
 
-pub put-bytes-spec : {M : Type 1} → statement M
-put-bytes-spec =
+pub put_bytes_spec : {M : Type 1} → statement M
+put_bytes_spec =
     tie.close
     (tie.spec
     invariant-loop
