@@ -1,7 +1,7 @@
 -- What was packed is unpacked: at every width of whole bytes, what comes back is what was sent of the samples that went in
 -- (`narrowed`). Assumes nothing.
 use Prim.Native.Nat.{ℕ, ◌+◌, ◌*◌, ◌-◌, ◌/◌, ◌^◌, ◌≤◌, ◌<◌}
-use mathlib.Core.Path.{◌≡◌, refl, sym}
+use mathlib.Core.Path.{◌≡◌, refl, sym, ap, ◌∙◌}
 use mathlib.Core.Bool.{true}
 use mathlib.Core.List.{List, [], ◌∷◌, ◌++◌, map, append_assoc}
 use native.Mathlib.Nat.{mul-suc, mul-zero}
@@ -43,7 +43,11 @@ module _ (bits : ℕ) (some : 1 ≤ bits) (most : bits ≤ 24) (whole : 2 ^ bits
       let next : length (before ++ sample_bytes bits z) ≡ bits / 8 * (i + 1)
       = rw (length-append before (sample_bytes bits z), its, add-one i, mul-suc (bits / 8) i, long) in
       let rest = from (before ++ sample_bytes bits z) (i + 1) zs next (and_right (is_sample z) (all_samples zs) all) in
-      rw (first, ← append_assoc before (sample_bytes bits z) (samples_bytes bits zs), rest)
+      let joined : before ++ samples_bytes bits (z ∷ zs) ≡ before ++ sample_bytes bits z ++ samples_bytes bits zs
+      = sym (append_assoc before (sample_bytes bits z) (samples_bytes bits zs)) in
+      rw first
+          (ap (λ (l : List ℕ). narrowed bits z ∷ samples_from bits l (i + 1) (length zs)) joined
+          ∙ ap (λ (ns : List ℤ). narrowed bits z ∷ ns) rest)
 
   -- all samples come back, narrowed to the width
   pub round_trip : (zs : List ℤ) → all_samples zs ≡ true → samples_from bits (samples_bytes bits zs) 0 (length zs) ≡ map (narrowed bits) zs

@@ -32,7 +32,7 @@ abbrev sized : tie.After-number_at → tie.After-size_of-size
 sized c = c.before.before.before.before
 
 long : (c : tie.After-number_at) → length (came (sized c)) ≡ size_of (awaited (sized c))
-long c = c.if-bytes-size.false ∙ (sized c).type_size.ensures
+long c = c.if-bytes-size.false ∙ (sized c).size_of-size.ensures
 
 -- the number that the front is compared with
 front : (c : tie.After-number_at)
@@ -58,7 +58,7 @@ size-of-requires c κs = search rules
 returns : tie.Need-returns-then-bytes-size
 returns c =
     let s = c in
-    rw (ne_eqb (length (came s)) (size_of (awaited s)) (λ is. c.if-bytes-size.true (is ∙ sym s.size_of-size.ensures))) at (looked s)
+    rw (ne_eqb (length (came s.before)) (size_of (awaited s.before)) (λ is. c.if-bytes-size.true (is ∙ sym s.size_of-size.ensures))) at (looked s.before)
 
 cast-header-of : tie.Need-overflow_cast-size
 cast-header-of c = omega (arith, c.size_of-size.ensures, greatest (awaited c.before))
@@ -85,7 +85,7 @@ returns-2 : tie.Need-returns-then-number_at-front
 returns-2 c =
     let n = c in
     let s = sized n.before in
-    let differs = ne_eqb (field 0 4 (came s)) (front_of (awaited s)) (λ is. c.if-number_at-front.true (n.number_at.ensures ∙ is ∙ sym (front n))) in
+    let differs = ne_eqb (field 0 4 (came s)) (front_of (awaited s)) (λ is. c.if-number_at-front.true (n.number_at.ensures ∙ is ∙ sym (front n.before))) in
     rw (eq-eqb (length (came s)) (size_of (awaited s)) (long n.before), differs) at (looked s)
 
 shared-slice-read-result : tie.Need-bounds-bytes-4

@@ -46,7 +46,7 @@ start c = (sized c).before.before
 slice-write-dst : tie.Need-bounds-dst-4
 slice-write-dst c =
     let h = c in
-    omega (arith, h.put_header_and_item.auto.dst, (sized h.before.before.before.before).type_size.ensures, echoing (start h).args.a c.if-a.true)
+    omega (arith, h.put_header_and_item.auto.dst, (sized h.before.before.before.before).size_of-size.ensures, echoing (start h.before.before.before.before).args.a c.if-a.true)
 
 put-requires : tie.Need-put-requires
 put-requires c κs = search rules
@@ -62,8 +62,8 @@ returns-2 c =
     let p = c in
     let echo = p in
     let h = echo in
-    put_echoed (start h).args.dst.now (start h.before.before.before.before.before.before.before.before).args.a (sized h.before.before.before.before.before.before.before.before).type_size.result (headed h.before.before.before.before.before.before.before.before).header_of.result
-    h.put_header_and_item.new.0 p.put.new.0 (sized h.before.before.before.before.before.before.before.before).type_size.ensures (roomy h.before.before.before.before.before.before.before.before).if1.false (headed h.before.before.before.before.before.before.before.before).header_of.ensures
+    put_echoed (start h.before.before.before.before.before.before.before.before).args.dst.now (start h.before.before.before.before.before.before.before.before).args.a (sized h.before.before.before.before.before.before.before.before).size_of-size.result (headed h.before.before.before.before.before.before.before.before).header_of.result
+    h.put_header_and_item.new.dst p.put.new.dst (sized h.before.before.before.before.before.before.before.before).size_of-size.ensures (roomy h.before.before.before.before.before.before.before.before).if-dst-size.false (headed h.before.before.before.before.before.before.before.before).header_of.ensures
     h.put_header_and_item.ensures echo.if-a.true p.put.ensures
 
 put-requires-2 : tie.Need-put-requires-2
@@ -77,8 +77,8 @@ returns-3 c =
     let p = c in
     let plain = p in
     let h = plain in
-    put_plain (start h).args.dst.now (start h.before.before.before.before.before.before.before.before).args.a (sized h.before.before.before.before.before.before.before.before).type_size.result (headed h.before.before.before.before.before.before.before.before).header_of.result
-    h.put_header_and_item.new.0 p.put-2.new.0 (sized h.before.before.before.before.before.before.before.before).type_size.ensures (roomy h.before.before.before.before.before.before.before.before).if1.false (headed h.before.before.before.before.before.before.before.before).header_of.ensures
+    put_plain (start h.before.before.before.before.before.before.before.before).args.dst.now (start h.before.before.before.before.before.before.before.before).args.a (sized h.before.before.before.before.before.before.before.before).size_of-size.result (headed h.before.before.before.before.before.before.before.before).header_of.result
+    h.put_header_and_item.new.dst p.put-2.new.dst (sized h.before.before.before.before.before.before.before.before).size_of-size.ensures (roomy h.before.before.before.before.before.before.before.before).if-dst-size.false (headed h.before.before.before.before.before.before.before.before).header_of.ensures
     h.put_header_and_item.ensures plain.if-a.false p.put-2.ensures
 
 pub put_message_spec : {M : Type 1} → statement M

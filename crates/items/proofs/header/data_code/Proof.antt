@@ -5,11 +5,11 @@ use Rattle.items.proofs.Classes.{data_other}
 use Rattle.items.proofs.header.data_code.Statement.{statement}
 use Rattle.items.proofs.header.data_code.Tie as tie
 
-returns : tie.Need-returns
-returns c = rw c.match.keys1 refl
+returns : tie.Need-returns-in-1
+returns c = rw c.in-1.is refl
 
-returns-2 : tie.Need-returns-2
-returns-2 c = data_other 4 c.before.args.size 0 (omega arith) c.match.rest.1
+returns-2 : tie.Need-returns-in_default
+returns-2 c = data_other 4 c.args.size 0 (omega arith) c.in_default.in_default-own.rest.1
 
-pub data-code-spec : {M : Type 1} → statement M
-data-code-spec = tie.close (tie.spec returns returns-2)
+pub data_code_spec : {M : Type 1} → statement M
+data_code_spec = tie.close (tie.spec returns returns-2)

@@ -36,56 +36,56 @@ module _ (l : List ℕ) (channel : ℕ) where
       let s = le-ltb (length l) 36 h in
       (rw s refl, rw s (third ∙ rw (second, first, head) refl))
 
-returns : tie.Need-returns
+returns : tie.Need-returns-then-dst-lt-LENGTH
 returns c =
-    let s = c.before.before in
-    too_short s.args.dst.now s.args.channel c.if1.true
+    let s = c in
+    too_short s.args.dst.now s.args.channel c.if-dst-lt-LENGTH.true
 
-cast-header-of : tie.Need-overflow-cast-header-of
+cast-header-of : tie.Need-overflow_cast-header_of
 cast-header-of c = search rules
 
-header-of-requires : tie.Need-header-of-requires
+header-of-requires : tie.Need-header_of-header-requires
 header-of-requires c κs = search rules
 
-cast-put : tie.Need-overflow-cast-put
+cast-put : tie.Need-overflow_cast-header
 cast-put c = search rules
 
 put-requires : tie.Need-put-requires
 put-requires c κs = search rules
 
-cast-put-2 : tie.Need-overflow-cast-put-2
+cast-put-2 : tie.Need-overflow_cast-put
 cast-put-2 c = search rules
 
 put-requires-2 : tie.Need-put-requires-2
 put-requires-2 c κs = search rules
 
-slice-write-dst : tie.Need-slice-write-dst
+slice-write-dst : tie.Need-bounds-dst-4
 slice-write-dst c = search rules
 
-slice-write-dst-2 : tie.Need-slice-write-dst-2
+slice-write-dst-2 : tie.Need-bounds-dst-5
 slice-write-dst-2 c = simp length-set (omega arith)
 
-put-range-requires : tie.Need-put-range-requires
+put-range-requires : tie.Need-put_range-requires
 put-range-requires c κs = search rules
 
-same_length : tie.Need-same-length
+same_length : tie.Need-shape_of-dst
 same_length c =
-    let item = c.before.before.before.before.before.before in
-    c.before.before.put-range.auto.0 ∙ simp length-set (item.put2.auto.0 ∙ item.before.before.before.before.put.auto.0)
+    let item = c in
+    c.put_range.auto.dst ∙ simp length-set (item.put-2.auto.dst ∙ item.put.auto.dst)
 
-returns-2 : tie.Need-returns-2
+returns-2 : tie.Need-returns
 returns-2 c =
-    let range = c.before.before in
-    let item = range.before.before.before.before in
-    let first = item.before.before.before.before in
-    let head = first.before.before in
-    let s = head.before.before.before in
-    put_whole s.args.dst.now s.args.channel first.put.new.0 item.put2.new.0 range.put-range.new.0
-    head.header_of.result head.before.if1.false head.header_of.ensures first.put.ensures item.put2.ensures
-    range.put-range.ensures
+    let range = c in
+    let item = range in
+    let first = item in
+    let head = first in
+    let s = head in
+    put_whole s.args.dst.now s.args.channel first.put.new.dst item.put-2.new.dst range.put_range.new.dst
+    head.header_of-header.result head.if-dst-lt-LENGTH.false head.header_of-header.ensures first.put.ensures item.put-2.ensures
+    range.put_range.ensures
 
-pub put-range-reply-spec : {M : Type 1} → statement M
-put-range-reply-spec =
+pub put_range_reply_spec : {M : Type 1} → statement M
+put_range_reply_spec =
     tie.close
     (tie.spec
     returns

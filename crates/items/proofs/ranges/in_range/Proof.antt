@@ -15,45 +15,45 @@ use Rattle.items.specs.Settings.{in_range, is_gain, is_mode, is_size, is_setup}
 use Rattle.items.proofs.ranges.in_range.Statement.{statement}
 use Rattle.items.proofs.ranges.in_range.Tie as tie
 
-all-serial-requires : tie.Need-all-serial-requires
+all-serial-requires : tie.Need-all_serial-requires
 all-serial-requires c κs = search rules
 
 long : (c : tie.Start) → length c.args.s.serial ≡ 8
 long c = search rules
 
-returns : tie.Need-returns
+returns : tie.Need-returns-then-not-all_serial
 unfolding in_range
 returns c =
-    let d = c.before in
-    let start = d.before.before.before in
+    let d = c in
+    let start = d in
     simp (
-      eq-eqb (length start.args.s.serial) 8 (long start),
-      sym d.all-serial.ensures ∙ not-true d.all-serial.result c.if1.taken,
+      eq-eqb (length start.args.s.serial) 8 (long start.before.before.before.before),
+      sym d.all_serial.ensures ∙ c.if-not-all_serial.true,
       and-false,
     )
 
 agree-requires : tie.Need-agree-requires
 agree-requires c κs = search rules
 
-is-gain-requires : tie.Need-is-gain-requires
+is-gain-requires : tie.Need-is_gain-requires
 is-gain-requires c κs = search rules
 
 agree-requires-2 : tie.Need-agree-requires-2
 agree-requires-2 c κs = search rules
 
-is-gain-requires-2 : tie.Need-is-gain-requires-2
+is-gain-requires-2 : tie.Need-is_gain-requires-2
 is-gain-requires-2 c κs = search rules
 
-is-d-requires : tie.Need-is-d-requires
+is-d-requires : tie.Need-is_d-requires
 is-d-requires c κs = search rules
 
-is-size-requires : tie.Need-is-size-requires
+is-size-requires : tie.Need-is_size-requires
 is-size-requires c κs = search rules
 
-is-setup-requires : tie.Need-is-setup-requires
+is-setup-requires : tie.Need-is_setup-requires
 is-setup-requires c κs = search rules
 
-is-mode-requires : tie.Need-is-mode-requires
+is-mode-requires : tie.Need-is_mode-requires
 is-mode-requires c κs = search rules
 
 -- each channel's test has the clock's; it counts once, before them
@@ -71,37 +71,37 @@ clock_once false false word gain band' word' gain' = refl
 abbrev agrees : ℕ → Channel → Bool
 agrees clock c = eqb c.word (word_of c.frequency clock)
 
-returns-2 : tie.Need-returns-2
+returns-2 : tie.Need-returns
 unfolding in_range
 returns-2 c =
     -- the tests, from the last back to the first
-    let setup = c.before in
-    let size = setup.before in
-    let divisor = size.before in
-    let second = divisor.before.before in
-    let first = second.before.before in
-    let d = first.before.before.before in
-    let start = d.before.before.before in
+    let setup = c in
+    let size = setup in
+    let divisor = size in
+    let second = divisor in
+    let first = second in
+    let d = first in
+    let start = d in
     let s = start.args.s in
     rw (
-      first.before.agree.ensures,
-      first.is-gain.ensures,
-      second.before.agree2.ensures,
-      second.is-gain2.ensures,
-      divisor.is-d.ensures,
-      size.is-size.ensures,
-      setup.is-setup.ensures,
-      c.is-mode.ensures,
-      eq-eqb (length s.serial) 8 (long start),
-      sym d.all-serial.ensures ∙ not-false d.all-serial.result first.before.before.if1.left,
+      first.agree.ensures,
+      first.is_gain.ensures,
+      second.agree-2.ensures,
+      second.is_gain-2.ensures,
+      divisor.is_d.ensures,
+      size.is_size.ensures,
+      setup.is_setup.ensures,
+      c.is_mode.ensures,
+      eq-eqb (length s.serial) 8 (long start.before.before.before.before.before.before.before.before.before.before.before.before.before),
+      sym d.all_serial.ensures ∙ first.if-not-all_serial.false,
     )
     (sym (and-true _)
     ∙ ap (λ (b : Bool). b && leb s.count most && is_d s.divisor && is_size s.size && is_setup s.setup && is_mode s.mode && true)
     (clock_once (in_bands s.first.frequency) (is_clock s.clock) (agrees s.clock s.first) (is_gain s.first.gain)
     (in_bands s.second.frequency) (agrees s.clock s.second) (is_gain s.second.gain)))
 
-pub in-range-spec : {M : Type 1} → statement M
-in-range-spec =
+pub in_range_spec : {M : Type 1} → statement M
+in_range_spec =
     tie.close
     (tie.spec
     all-serial-requires

@@ -43,73 +43,73 @@ eight n p q r s t u v w =
     rw (p, q, r, s, t, u, v, w)
     (joined (low n) (low (up 1 n)) (low (up 2 n)) (low (up 3 n)) (low (up 4 n)) (low (up 5 n)) (low (up 6 n)) (low (up 7 n)))
 
-cast-is-serial-byte : tie.Need-cast-is-serial-byte
+cast-is-serial-byte : tie.Need-overflow_cast-n
 cast-is-serial-byte c = search rules
 
-is-serial-byte-requires : tie.Need-is-serial-byte-requires
+is-serial-byte-requires : tie.Need-is_serial_byte-requires
 is-serial-byte-requires c κs = search rules
 
-cast-is-serial-byte-2 : tie.Need-cast-is-serial-byte-2
+cast-is-serial-byte-2 : tie.Need-overflow_cast-second
 cast-is-serial-byte-2 c = search rules
 
-is-serial-byte-requires-2 : tie.Need-is-serial-byte-requires-2
+is-serial-byte-requires-2 : tie.Need-is_serial_byte-requires-2
 is-serial-byte-requires-2 c κs = search rules
 
-cast-is-serial-byte-3 : tie.Need-cast-is-serial-byte-3
+cast-is-serial-byte-3 : tie.Need-overflow_cast-third
 cast-is-serial-byte-3 c = search rules
 
-is-serial-byte-requires-3 : tie.Need-is-serial-byte-requires-3
+is-serial-byte-requires-3 : tie.Need-is_serial_byte-requires-3
 is-serial-byte-requires-3 c κs = search rules
 
-cast-is-serial-byte-4 : tie.Need-cast-is-serial-byte-4
+cast-is-serial-byte-4 : tie.Need-overflow_cast-fourth
 cast-is-serial-byte-4 c = search rules
 
-is-serial-byte-requires-4 : tie.Need-is-serial-byte-requires-4
+is-serial-byte-requires-4 : tie.Need-is_serial_byte-requires-4
 is-serial-byte-requires-4 c κs = search rules
 
-cast-is-serial-byte-5 : tie.Need-cast-is-serial-byte-5
+cast-is-serial-byte-5 : tie.Need-overflow_cast-fifth
 cast-is-serial-byte-5 c = search rules
 
-is-serial-byte-requires-5 : tie.Need-is-serial-byte-requires-5
+is-serial-byte-requires-5 : tie.Need-is_serial_byte-requires-5
 is-serial-byte-requires-5 c κs = search rules
 
-cast-is-serial-byte-6 : tie.Need-cast-is-serial-byte-6
+cast-is-serial-byte-6 : tie.Need-overflow_cast-sixth
 cast-is-serial-byte-6 c = search rules
 
-is-serial-byte-requires-6 : tie.Need-is-serial-byte-requires-6
+is-serial-byte-requires-6 : tie.Need-is_serial_byte-requires-6
 is-serial-byte-requires-6 c κs = search rules
 
-cast-is-serial-byte-7 : tie.Need-cast-is-serial-byte-7
+cast-is-serial-byte-7 : tie.Need-overflow_cast-seventh
 cast-is-serial-byte-7 c = search rules
 
-is-serial-byte-requires-7 : tie.Need-is-serial-byte-requires-7
+is-serial-byte-requires-7 : tie.Need-is_serial_byte-requires-7
 is-serial-byte-requires-7 c κs = search rules
 
-cast-is-serial-byte-8 : tie.Need-cast-is-serial-byte-8
+cast-is-serial-byte-8 : tie.Need-overflow_cast-eighth
 cast-is-serial-byte-8 c = search rules
 
-is-serial-byte-requires-8 : tie.Need-is-serial-byte-requires-8
+is-serial-byte-requires-8 : tie.Need-is_serial_byte-requires-8
 is-serial-byte-requires-8 c κs = search rules
 
 returns : tie.Need-returns
 returns c =
-    let seventh = c.before in
-    let sixth = seventh.before in
-    let fifth = sixth.before in
-    let fourth = fifth.before in
-    let third = fourth.before in
-    let second = third.before in
-    let first = second.before in
-    let n = first.before.args.n in
+    let seventh = c in
+    let sixth = seventh in
+    let fifth = sixth in
+    let fourth = fifth in
+    let third = fourth in
+    let second = third in
+    let first = second in
+    let n = first.args.n in
     let fits : n < 256 ^ 8 = omega arith in
     rw (lt-ltb n (256 ^ 8) fits)
-    (eight n first.is-serial-byte.ensures second.is-serial-byte2.ensures third.is-serial-byte3.ensures
-    fourth.is-serial-byte4.ensures fifth.is-serial-byte5.ensures sixth.is-serial-byte6.ensures
-    seventh.is-serial-byte7.ensures c.is-serial-byte8.ensures
+    (eight n first.is_serial_byte.ensures second.is_serial_byte-2.ensures third.is_serial_byte-3.ensures
+    fourth.is_serial_byte-4.ensures fifth.is_serial_byte-5.ensures sixth.is_serial_byte-6.ensures
+    seventh.is_serial_byte-7.ensures c.is_serial_byte-8.ensures
     ∙ and_true (all_serial (bytes 8 n)))
 
-pub is-serial-spec : {M : Type 1} → statement M
-is-serial-spec =
+pub is_serial_spec : {M : Type 1} → statement M
+is_serial_spec =
     tie.close
     (tie.spec
     cast-is-serial-byte

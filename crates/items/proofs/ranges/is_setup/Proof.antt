@@ -8,5 +8,5 @@ use Rattle.items.proofs.ranges.is_setup.Tie as tie
 returns : tie.Need-returns
 returns c = ap (λ (b : Bool). eqb c.args.byte 0 || b) (sym (or-false (eqb c.args.byte 4)))
 
-pub is-setup-spec : {M : Type 1} → statement M
-is-setup-spec = tie.close (tie.spec returns)
+pub is_setup_spec : {M : Type 1} → statement M
+is_setup_spec = tie.close (tie.spec returns)

@@ -12,43 +12,43 @@ use Rattle.items.proofs.table.listed_code.Tie as tie
 expected-requires : tie.Need-expected-requires
 expected-requires c κs = search rules
 
-enum_told : tie.Need-enum-told
+enum_told : tie.Need-enum_told-1
 enum_told c = search rules
 
-enum-told-2 : tie.Need-enum-told-2
+enum-told-2 : tie.Need-enum_told-in-NotOffered
 enum-told-2 c = search rules
 
-enum-known-length : tie.Need-enum-known-length
+enum-known-length : tie.Need-enum_known-length
 enum-known-length c = search rules
 
 -- the code by what the table said
 said : (c : tie.After-expected)
-    → let a = c.before.args in
+    → let a = c.args in
     code_by (expected_says c.expected.result) a.size ≡ first_of (table_checks a.item a.kind a.size) 1
 said c =
-    let a = c.before.args in
+    let a = c.args in
     ap (λ (t : Told). code_by t a.size) c.expected.ensures ∙ code_by_lem a.item a.kind a.size
 
-returns : tie.Need-returns
+returns : tie.Need-returns-then-size-length
 returns c =
-    let known = c.before.before.length.given in
-    let asked = c.before.before.before.before in
-    simp (eq-eqb asked.before.args.size known.0.0 c.if1.true) at (rw known.1 at (said asked))
+    let known = c.length-1.given in
+    let asked = c in
+    simp (eq-eqb asked.args.size known.0.0 c.if-size-length.true) at (rw known.1 at (said asked.before.before.before.before))
 
-returns-2 : tie.Need-returns-2
-returns-2 c = rw c.enum_told.given.1 at (said c.before.before)
+returns-2 : tie.Need-returns-in-Unlisted
+returns-2 c = rw c.in-Unlisted.is at (said c.before.before)
 
-returns-3 : tie.Need-returns-3
-returns-3 c = rw c.enum-told2.given.1 at (said c.before.before)
+returns-3 : tie.Need-returns-in-NotOffered
+returns-3 c = rw c.in-NotOffered.is at (said c.before.before)
 
-returns-4 : tie.Need-returns-4
+returns-4 : tie.Need-returns-else-size-length
 returns-4 c =
-    let known = c.before.before.length.given in
-    let asked = c.before.before.before.before in
-    simp (ne_eqb asked.before.args.size known.0.0 c.if1.false) at (rw known.1 at (said asked))
+    let known = c.length-1.given in
+    let asked = c in
+    simp (ne_eqb asked.args.size known.0.0 c.if-size-length.false) at (rw known.1 at (said asked.before.before.before.before))
 
-pub listed-code-spec : {M : Type 1} → statement M
-listed-code-spec =
+pub listed_code_spec : {M : Type 1} → statement M
+listed_code_spec =
     tie.close
     (tie.spec
     expected-requires

@@ -19,11 +19,11 @@ joined run mode r m =
     let above = or_shifted mode 16 (run * 256) (omega arith) ∙ both in
     rw (third, second, above) (or_shifted (mode * 256 + run) 8 0x80 (lit< tt) ∙ omega arith)
 
-cast-result : tie.Need-overflow-cast-result
+cast-result : tie.Need-overflow_cast-result-3
 cast-result c = search rules
 
 returns : tie.Need-returns
 returns c = joined c.args.run c.args.mode c.ranges.run.fits c.ranges.mode.fits
 
-pub state-number-spec : {M : Type 1} → statement M
-state-number-spec = tie.close (tie.spec cast-result returns)
+pub state_number_spec : {M : Type 1} → statement M
+state_number_spec = tie.close (tie.spec cast-result returns)

@@ -19,28 +19,28 @@ row (suc (suc zero)) h = refl
 row (suc (suc (suc zero))) h = refl
 row (suc (suc (suc (suc n)))) h = absurd (omega arith)
 
-is-version-requires : tie.Need-is-version-requires
+is-version-requires : tie.Need-is_version-requires
 is-version-requires c κs = search rules
 
 -- an id of a version is below four
-below : (c : tie.Then1) → c.before.before.args.id < 4
-below c = ltb-true c.before.before.args.id 4 (sym c.before.is-version.ensures ∙ c.if1.true)
+below : (c : tie.Then-is_version) → c.args.id < 4
+below c = ltb-true c.args.id 4 (sym c.is_version.ensures ∙ c.if-is_version.true)
 
-mul-result : tie.Need-overflow-mul-result
+mul-result : tie.Need-offset_bounds-id
 mul-result c = search rules
 
-array-read-result : tie.Need-array-read-result
-array-read-result c = omega (arith, below c)
+array-read-result : tie.Need-bounds-id
+array-read-result c = omega (arith, below c.before)
 
-returns : tie.Need-returns
-returns c = row c.before.before.args.id (below c)
+returns : tie.Need-returns-then-is_version
+returns c = row c.args.id (below c.before.before)
 
-returns-2 : tie.Need-returns-2
+returns-2 : tie.Need-returns
 returns-2 c =
-    let id = c.before.before.args.id in
-    let past : 4 ≤ id = ltb-false id 4 (sym c.before.is-version.ensures ∙ c.if1.false) in
+    let id = c.args.id in
+    let past : 4 ≤ id = ltb-false id 4 (sym c.is_version.ensures ∙ c.if-is_version.false) in
     sym (ap number (get_or-eq_default version_table [] past))
 
-pub version-of-spec : {M : Type 1} → statement M
-version-of-spec =
+pub version_of_spec : {M : Type 1} → statement M
+version_of_spec =
     tie.close (tie.spec is-version-requires mul-result array-read-result returns returns-2)

@@ -134,7 +134,7 @@ unfolding entries
 returns-12 c =
     let m = c in
     let s = m in
-    c.in_stretch-in_default.ensures ∙ entry s.before.before.before _ (stretch 10 _ (last_stretch _ (inside s) m.in_default.in_default-own.rest))
+    c.in_stretch-in_default.ensures ∙ entry s.before.before.before _ (stretch 10 _ (last_stretch _ (inside s.before.before.before) m.in_default.in_default-own.rest))
 
 pub achieved_spec : {M : Type 1} → statement M
 achieved_spec =

@@ -28,7 +28,7 @@ is_sample_lem c = sample_at_lem c.args.samples.now c.args.at c.requires.0 c.requ
 
 -- the sample, with 128 added, and divided, as the machine has them
 itself : (c : tie.After-hold16-arg-1) → to_z w32 (of_z w32 (sample c)) ≡ sample c
-itself c = to_z-of_z {z = sample c} (sfits_of c.hold16-arg-1.given)
+itself c = to_z-of_z {w = w32} {z = sample c} (sfits_of c.hold16-arg-1.given)
 
 raised : (c : tie.After-hold16-arg-1) → to_z w32 (of_z w32 (to_z w32 (of_z w32 (sample c)) +ℤ pos 128)) ≡ sample c +ℤ pos 128
 raised c = rw (itself c) (to_z-of_z (raised_fits (sample c) (is_sample_lem c)))

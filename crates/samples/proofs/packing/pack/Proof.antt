@@ -60,7 +60,7 @@ returns-3 c =
     let t = c in
     let e = past_form t.before.before in
     let a = (start e).args in
-    pack_room a.f a.samples.now a.packet.now (form e) t.if-samples-f.false (rw (total t) at c.if-packet-total_of.true)
+    pack_room a.f a.samples.now a.packet.now (form e) t.if-samples-f.false (rw (total t.before) at c.if-packet-total_of.true)
 
 -- past the third test there is room for the form's total
 room : (c : tie.Else-packet-total_of) → (let a = (start (past_form (past_count c))).args in total_of a.f ≤ length a.packet.now)

@@ -10,6 +10,7 @@ use lib.IntN.{ℤ}
 use lib.ListN.{length, drop, length-set}
 use lib.Seq.{sets}
 use mir.Facts.{to_z-of_z}
+use mir.Syntax.{w32}
 use Rattle.packets.specs.Samples.{samples_from}
 use Rattle.wire.proofs.Held.{Held}
 use Rattle.samples.proofs.Taken.{StandFor, hold_pair, unpack_turn, unpack_end}
@@ -99,7 +100,7 @@ mul-held-4 : tie.Need-offset_bounds-held-i-in-loop-i invariant-loop2 decreases-l
 mul-held-4 c = omega arith
 
 array-write-held-2 :
-    tie.Need-array-write-held-2 invariant-loop2 decreases-loop2 invariant-loop3 decreases-loop3 invariant-loop decreases-loop
+    tie.Need-bounds-held-i-in-loop-i invariant-loop2 decreases-loop2 invariant-loop3 decreases-loop3 invariant-loop decreases-loop
 array-write-held-2 c = omega arith
 
 add-i : tie.Need-overflow_add-i invariant-loop2 decreases-loop2 invariant-loop3 decreases-loop3 invariant-loop decreases-loop
@@ -150,7 +151,7 @@ mul-t28 : tie.Need-offset_bounds-out-first invariant-loop2 decreases-loop2 invar
 mul-t28 c = omega arith
 
 slice-set-from-out :
-    tie.Need-slice-set-from-out invariant-loop2 decreases-loop2 invariant-loop3 decreases-loop3 invariant-loop decreases-loop
+    tie.Need-bounds-out-first invariant-loop2 decreases-loop2 invariant-loop3 decreases-loop3 invariant-loop decreases-loop
 slice-set-from-out c = omega arith
 
 add-k : tie.Need-overflow_add-k invariant-loop2 decreases-loop2 invariant-loop3 decreases-loop3 invariant-loop decreases-loop
@@ -169,7 +170,7 @@ loop3-again c =
       simp length-set l3.loop-k.invariant.1,
       rw next
           (unpack_turn 16 (drop 4 a.packet.now) l3.loop-k.out _ (2 * a.first + l3.loop-k.k) (2 * (a.first + 32)) _ (omega arith)
-          (to_z-of_z (sfits_of c.sign16.type_inv) ∙ c.sign16.ensures ∙ l2.loop-i.invariant.2 l3.loop-k.k (omega arith))
+          (to_z-of_z {w = w32} (sfits_of c.sign16.type_inv) ∙ c.sign16.ensures ∙ l2.loop-i.invariant.2 l3.loop-k.k (omega arith))
           l3.loop-k.invariant.2),
     )
 

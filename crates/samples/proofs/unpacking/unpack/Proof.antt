@@ -47,7 +47,7 @@ returns-2 : tie.Need-returns-then-packet-total_of
 returns-2 c =
     let t = c in
     let a = (start t.before.before).args in
-    unpack_short a.f a.packet.now a.out.now (form t.before.before) (rw (total t) at c.if-packet-total_of.true)
+    unpack_short a.f a.packet.now a.out.now (form t.before.before) (rw (total t.before) at c.if-packet-total_of.true)
 
 -- past the second test the packet is long enough
 long : (c : tie.Else-packet-total_of) → (let a = (start (past_form c)).args in total_of a.f ≤ length a.packet.now)
@@ -56,7 +56,7 @@ long c = rw (total c.before) at c.if-packet-total_of.false
 mul-if3 : tie.Need-overflow_mul-f
 mul-if3 c =
     let e = c in
-    omega (arith, (is_listed_form (start e).args.f (form e.before.before.before)).few)
+    omega (arith, (is_listed_form (start e.before.before.before).args.f (form e.before.before.before)).few)
 
 returns-3 : tie.Need-returns-then-out-f
 returns-3 c =

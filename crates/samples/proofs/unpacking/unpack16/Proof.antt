@@ -43,7 +43,7 @@ loop-again c =
     let here : 64 * l.loop-i.i ≡ 2 * (32 * l.loop-i.i) = omega arith in
     let next : 64 * (l.loop-i.i + 1) ≡ 2 * (32 * l.loop-i.i + 32) = omega arith in (
       omega arith,
-      b.block16.auto.1.0 ∙ l.loop-i.invariant.1,
+      b.block16.auto.out ∙ l.loop-i.invariant.1,
       rw (b.block16.ensures, next)
           (unpack_block 16 (drop 4 a.packet.now) l.loop-i.out _
           (2 * (32 * l.loop-i.i)) (2 * (32 * l.loop-i.i + 32)) (64 * a.blocks) (omega arith) (omega arith) (rw here at l.loop-i.invariant.2)),

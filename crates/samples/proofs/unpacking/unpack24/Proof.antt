@@ -7,6 +7,7 @@ use borrow.Author.Rules.{sfits_of}
 use lib.ListN.{length, drop, length-set}
 use lib.Seq.{sets}
 use mir.Facts.{to_z-of_z}
+use mir.Syntax.{w32}
 use Rattle.packets.specs.Samples.{samples_from}
 use Rattle.samples.proofs.Taken.{sample_24, unpack_turn, unpack_end}
 use Rattle.samples.proofs.unpacking.unpack24.Statement.{statement}
@@ -59,7 +60,7 @@ loop-again c =
       omega arith,
       simp length-set l.loop-i.invariant.1,
       unpack_turn 24 (drop 4 a.packet.now) l.loop-i.out _ l.loop-i.i a.n _ w.loop-i-test.true
-          (to_z-of_z (sfits_of c.sign24.type_inv) ∙ c.sign24.ensures ∙ sample)
+          (to_z-of_z {w = w32} (sfits_of c.sign24.type_inv) ∙ c.sign24.ensures ∙ sample)
           l.loop-i.invariant.2,
     )
 

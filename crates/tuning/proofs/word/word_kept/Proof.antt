@@ -18,8 +18,7 @@ returns : tie.Need-returns-in-Is
 returns c =
     let asked = c in
     let a = asked.args in
-    let w = c.w-1.given in
-    kept_by a.hz a.clock (ap word_says (sym w.1) ∙ asked.word_of.ensures)
+    kept_by a.hz a.clock (ap word_says (sym c.in-Is.is) ∙ asked.word_of.ensures)
 
 returns-2 : tie.Need-returns-in-NotAllowed
 returns-2 c =
