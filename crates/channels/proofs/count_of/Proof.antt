@@ -4,11 +4,11 @@ use borrow.Author.Tests.{ne_eqb}
 use Rattle.channels.proofs.count_of.Statement.{statement}
 use Rattle.channels.proofs.count_of.Tie as tie
 
-returns : tie.Need-returns
-returns c = rw c.if1.true refl
+returns : tie.Need-returns-then-s-eq-DUAL
+returns c = rw c.if-s-eq-DUAL.true refl
 
-returns-2 : tie.Need-returns-2
-returns-2 c = rw (ne_eqb _ 4 c.if1.false) refl
+returns-2 : tie.Need-returns
+returns-2 c = rw (ne_eqb _ 4 c.if-s-eq-DUAL.false) refl
 
-pub count-of-spec : {M : Type 1} → statement M
-count-of-spec = tie.close (tie.spec returns returns-2)
+pub count_of_spec : {M : Type 1} → statement M
+count_of_spec = tie.close (tie.spec returns returns-2)

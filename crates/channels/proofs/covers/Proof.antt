@@ -4,11 +4,11 @@ use borrow.Author.Rules.{rules}
 use Rattle.channels.proofs.covers.Statement.{statement}
 use Rattle.channels.proofs.covers.Tie as tie
 
-is-open-requires : tie.Need-is-open-requires
+is-open-requires : tie.Need-is_open-requires
 is-open-requires c κs = search rules
 
 returns : tie.Need-returns
 returns c = rw c.is_open.ensures refl
 
-pub covers-spec : {M : Type 1} → statement M
-covers-spec = tie.close (tie.spec is-open-requires returns)
+pub covers_spec : {M : Type 1} → statement M
+covers_spec = tie.close (tie.spec is-open-requires returns)

@@ -16,5 +16,5 @@ by_setup channel false = rw (and-false (eqb channel 0x02)) refl
 returns : tie.Need-returns
 returns c = by_setup c.args.channel (eqb c.args.setup 4)
 
-pub is-open-spec : {M : Type 1} → statement M
-is-open-spec = tie.close (tie.spec returns)
+pub is_open_spec : {M : Type 1} → statement M
+is_open_spec = tie.close (tie.spec returns)

@@ -3,11 +3,11 @@ use mathlib.Core.Path.{refl}
 use Rattle.channels.proofs.tuned.Statement.{statement}
 use Rattle.channels.proofs.tuned.Tie as tie
 
-returns : tie.Need-returns
-returns c = rw c.if1.true refl
+returns : tie.Need-returns-then-covered
+returns c = rw c.if-covered.true refl
 
-returns-2 : tie.Need-returns-2
-returns-2 c = rw c.if1.false refl
+returns-2 : tie.Need-returns
+returns-2 c = rw c.if-covered.false refl
 
-pub tuned-spec : {M : Type 1} → statement M
-tuned-spec = tie.close (tie.spec returns returns-2)
+pub tuned_spec : {M : Type 1} → statement M
+tuned_spec = tie.close (tie.spec returns returns-2)

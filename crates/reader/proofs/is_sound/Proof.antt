@@ -14,82 +14,82 @@ use Rattle.reader.proofs.is_sound.Statement.{statement}
 use Rattle.reader.proofs.is_sound.Tie as tie
 
 -- the reader was told a count
-abbrev told : tie.Else1 → Reader
-told c = c.before.before.before.args.r
+abbrev told : tie.Else-not-is_count → Reader
+told c = c.args.r
 
-count : (c : tie.Else1) → is_count (told c).channels ≡ true
-count c = sym c.before.is-count.ensures ∙ not-false _ c.if1.false
+count : (c : tie.Else-not-is_count) → is_count (told c).channels ≡ true
+count c = sym c.is_count.ensures ∙ c.if-not-is_count.false
 
 -- it has heard a packet, and position and total are looked at
-abbrev heard : tie.After-steps-give → Reader
+abbrev heard : tie.After-steps_give → Reader
 heard c = told c.before.before
 
-given : (c : tie.After-steps-give) {a : Bool} → c.steps-give.result ≡ a
+given : (c : tie.After-steps_give) {a : Bool} → c.steps_give.result ≡ a
     → (leb (heard c).position last && steps_give (heard c).position (heard c).total) ≡ a
-given c p = sym c.steps-give.ensures ∙ p
+given c p = sym c.steps_give.ensures ∙ p
 
 -- it has not
-abbrev silent : tie.Else2 → Reader
+abbrev silent : tie.Else-r → Reader
 silent c = told c.before
 
-is-count-requires : tie.Need-is-count-requires
+is-count-requires : tie.Need-is_count-requires
 is-count-requires c κs = search rules
 
-returns : tie.Need-returns
+returns : tie.Need-returns-then-not-is_count
 returns c =
-    let n = c.before in
-    sym (untold_broken n.before.before.args.r (sym n.is-count.ensures ∙ not-true _ c.if1.true))
+    let n = c in
+    sym (untold_broken n.args.r (sym n.is_count.ensures ∙ c.if-not-is_count.true))
 
-steps-give-requires : tie.Need-steps-give-requires
+steps-give-requires : tie.Need-steps_give-requires
 steps-give-requires c κs = search rules
 
-returns-2 : tie.Need-returns-2
+returns-2 : tie.Need-returns-then-not-steps_give
 returns-2 c =
-    let g = c.before in
-    let n = g.before.before in
-    sym (heard_sound (heard g) (count n) g.before.if2.true (given g (not-true _ c.if3.true)) refl)
+    let g = c in
+    let n = g in
+    sym (heard_sound (heard g.before) (count n.before.before.before) g.if-r.true (given g.before (c.if-not-steps_give.true)) refl)
 
-is-listed-requires : tie.Need-is-listed-requires
+is-listed-requires : tie.Need-is_listed-requires
 is-listed-requires c κs = search rules
 
-returns-3 : tie.Need-returns-3
+returns-3 : tie.Need-returns-then-r
 returns-3 c =
-    let g = c.before.before in
-    let n = g.before.before in
-    c.is-listed.ensures
-    ∙ sym (heard_sound (heard g) (count n) g.before.if2.true (given g (not-false _ c.before.if3.false)) refl)
+    let g = c in
+    let n = g in
+    c.is_listed.ensures
+    ∙ sym (heard_sound (heard g.before.before) (count n.before.before.before.before) g.if-r.true (given g.before.before (c.if-not-steps_give.false)) refl)
 
-returns-4 : tie.Need-returns-4
+returns-4 : tie.Need-returns-then-r-ne0
 returns-4 c =
-    let u = c.before.before in
-    sym (unheard_sound (silent u) (count u.before) u.if2.false (ne_eqb _ 0 c.if4.true) refl refl)
+    let u = c in
+    sym (unheard_sound (silent u.before.before) (count u.before.before.before) u.if-r.false (ne_eqb _ 0 c.if-r-ne0.true) refl refl)
 
-returns-5 : tie.Need-returns-5
+returns-5 : tie.Need-returns-then-r-ne0-2
 returns-5 c =
-    let z = c.before.before in
-    let u = z.before.before in
+    let z = c in
+    let u = z in
     sym
-    (unheard_sound (silent u) (count u.before) u.if2.false (eq-eqb _ 0 z.if4.false) (ne_eqb _ 0 c.if5.true) refl)
+    (unheard_sound (silent u.before.before.before.before) (count u.before.before.before.before.before) u.if-r.false (eq-eqb _ 0 z.if-r-ne0.false) (ne_eqb _ 0 c.if-r-ne0-2.true) refl)
 
-no-form-requires : tie.Need-no-form-requires
+no-form-requires : tie.Need-no_form-requires
 no-form-requires c κs = search rules
 
-same-form-requires : tie.Need-same-form-requires
+same-form-requires : tie.Need-same_form-requires
 same-form-requires c κs = search rules
 
-returns-6 : tie.Need-returns-6
+returns-6 : tie.Need-returns
 returns-6 c =
-    let f = c.before in
-    let n = f.before in
-    let z = n.before.before in
-    let u = z.before.before in
-    c.same-form.ensures
-    ∙ ap (same_form (silent u).form) f.no-form.ensures
+    let f = c in
+    let n = f in
+    let z = n in
+    let u = z in
+    c.same_form.ensures
+    ∙ ap (same_form (silent u.before.before.before.before.before.before).form) f.no_form.ensures
     ∙ sym
-    (unheard_sound (silent u) (count u.before) u.if2.false (eq-eqb _ 0 z.if4.false) (eq-eqb _ 0 n.if5.false) refl)
+    (unheard_sound (silent u.before.before.before.before.before.before) (count u.before.before.before.before.before.before.before) u.if-r.false (eq-eqb _ 0 z.if-r-ne0.false) (eq-eqb _ 0 n.if-r-ne0-2.false) refl)
 
-pub is-sound-spec : {M : Type 1} → statement M
-is-sound-spec =
+pub is_sound_spec : {M : Type 1} → statement M
+is_sound_spec =
     tie.close
     (tie.spec
     is-count-requires

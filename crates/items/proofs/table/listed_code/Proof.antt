@@ -31,21 +31,19 @@ said c =
 
 returns : tie.Need-returns-then-size-length
 returns c =
-    let known = c.length-1.given in
     let asked = c in
-    simp (eq-eqb asked.args.size known.0.0 c.if-size-length.true) at (rw known.1 at (said asked.before.before.before.before))
+    simp (eq-eqb asked.args.size c.in-Total.length c.if-size-length.true) at (rw c.in-Total.is at (said asked.before.before))
 
 returns-2 : tie.Need-returns-in-Unlisted
-returns-2 c = rw c.in-Unlisted.is at (said c.before.before)
+returns-2 c = rw c.in-Unlisted.is at (said c.before)
 
 returns-3 : tie.Need-returns-in-NotOffered
-returns-3 c = rw c.in-NotOffered.is at (said c.before.before)
+returns-3 c = rw c.in-NotOffered.is at (said c.before)
 
 returns-4 : tie.Need-returns-else-size-length
 returns-4 c =
-    let known = c.length-1.given in
     let asked = c in
-    simp (ne_eqb asked.args.size known.0.0 c.if-size-length.false) at (rw known.1 at (said asked.before.before.before.before))
+    simp (ne_eqb asked.args.size c.in-Total.length c.if-size-length.false) at (rw c.in-Total.is at (said asked.before.before))
 
 pub listed_code_spec : {M : Type 1} → statement M
 listed_code_spec =
