@@ -5,34 +5,34 @@ use borrow.Author.Rules.{rules}
 use Rattle.judging.proofs.message.asked_code.Statement.{statement}
 use Rattle.judging.proofs.message.asked_code.Tie as tie
 
-asked-version-requires : tie.Need-asked-version-requires
+asked-version-requires : tie.Need-asked_version-requires
 asked-version-requires c κs = search rules
 
-asked-channel-requires : tie.Need-asked-channel-requires
+asked-channel-requires : tie.Need-asked_channel-requires
 asked-channel-requires c κs = search rules
 
-asked-channel-requires-2 : tie.Need-asked-channel-requires-2
+asked-channel-requires-2 : tie.Need-asked_channel-requires-in-56
 asked-channel-requires-2 c κs = search rules
 
-returns : tie.Need-returns
+returns : tie.Need-returns-in-4
 unfolding row_of
-returns c = rw c.before.match.keys1 c.asked-version.ensures
+returns c = rw c.in-4.is c.asked_version.ensures
 
-returns-2 : tie.Need-returns-2
+returns-2 : tie.Need-returns-in-32
 unfolding row_of
-returns-2 c = rw c.before.match.keys2 c.asked-channel.ensures
+returns-2 c = rw c.in-32.is c.asked_channel.ensures
 
-returns-3 : tie.Need-returns-3
+returns-3 : tie.Need-returns-in-56
 unfolding row_of
-returns-3 c = rw c.before.match.keys3 c.asked-channel2.ensures
+returns-3 c = rw c.in-56.is c.asked_channel-in-56.ensures
 
-returns-4 : tie.Need-returns-4
+returns-4 : tie.Need-returns-in_default
 returns-4 c =
-    let a = c.before.before.args in
-    asked_else a.item c.match.rest.0.0.1 c.match.rest.0.1 c.match.rest.1 a.setup a.p.now
+    let a = c.args in
+    asked_else a.item c.in_default.in_default-own.rest.0.0.1 c.in_default.in_default-own.rest.0.1 c.in_default.in_default-own.rest.1 a.setup a.p.now
 
-pub asked-code-spec : {M : Type 1} → statement M
-asked-code-spec =
+pub asked_code_spec : {M : Type 1} → statement M
+asked_code_spec =
     tie.close
     (tie.spec
     asked-version-requires

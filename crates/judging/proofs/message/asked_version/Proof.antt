@@ -4,17 +4,17 @@ use borrow.Author.Rules.{rules}
 use Rattle.judging.proofs.message.asked_version.Statement.{statement}
 use Rattle.judging.proofs.message.asked_version.Tie as tie
 
-shared-slice-read-is-version : tie.Need-shared-slice-read-is-version
+shared-slice-read-is-version : tie.Need-bounds-p-0
 shared-slice-read-is-version c = search rules
 
-is-version-requires : tie.Need-is-version-requires
+is-version-requires : tie.Need-is_version-requires
 is-version-requires c κs = search rules
 
-returns : tie.Need-returns
-returns c = rw (sym c.before.is-version.ensures ∙ c.if1.true) refl
+returns : tie.Need-returns-then-is_version
+returns c = rw (sym c.is_version.ensures ∙ c.if-is_version.true) refl
 
-returns-2 : tie.Need-returns-2
-returns-2 c = rw (sym c.before.is-version.ensures ∙ c.if1.false) refl
+returns-2 : tie.Need-returns
+returns-2 c = rw (sym c.is_version.ensures ∙ c.if-is_version.false) refl
 
-pub asked-version-spec : {M : Type 1} → statement M
-asked-version-spec = tie.close (tie.spec shared-slice-read-is-version is-version-requires returns returns-2)
+pub asked_version_spec : {M : Type 1} → statement M
+asked_version_spec = tie.close (tie.spec shared-slice-read-is-version is-version-requires returns returns-2)

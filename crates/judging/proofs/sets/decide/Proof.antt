@@ -8,18 +8,18 @@ use Rattle.judging.proofs.sets.decide.Tie as tie
 accepted-requires : tie.Need-accepted-requires
 accepted-requires c κs = search rules
 
-returns : tie.Need-returns
+returns : tie.Need-returns-then-code-eq-DONE
 returns c =
-    let a = c.before.before.args in
-    c.accepted.ensures ∙ decided_accepted a.s a.to a.code c.before.if1.true
+    let a = c.args in
+    c.accepted.ensures ∙ decided_accepted a.s a.to a.code c.if-code-eq-DONE.true
 
 refused-requires : tie.Need-refused-requires
 refused-requires c κs = search rules
 
-returns-2 : tie.Need-returns-2
+returns-2 : tie.Need-returns
 returns-2 c =
-    let a = c.before.before.args in
-    c.refused.ensures ∙ decided_refused a.s a.to a.code c.before.if1.false
+    let a = c.args in
+    c.refused.ensures ∙ decided_refused a.s a.to a.code c.if-code-eq-DONE.false
 
-pub decide-spec : {M : Type 1} → statement M
-decide-spec = tie.close (tie.spec accepted-requires returns refused-requires returns-2)
+pub decide_spec : {M : Type 1} → statement M
+decide_spec = tie.close (tie.spec accepted-requires returns refused-requires returns-2)

@@ -8,29 +8,29 @@ use Rattle.judging.proofs.sets.renew.Tie as tie
 refused-requires : tie.Need-refused-requires
 refused-requires c κs = search rules
 
-returns : tie.Need-returns
+returns : tie.Need-returns-then-code-ne-DONE
 returns c =
-    let a = c.before.before.args in
-    c.refused.ensures ∙ decided_refused a.s _ a.code c.before.if1.true
+    let a = c.args in
+    c.refused.ensures ∙ decided_refused a.s _ a.code c.if-code-ne-DONE.true
 
-word-kept-requires : tie.Need-word-kept-requires
+word-kept-requires : tie.Need-word_kept-first_word-requires
 word-kept-requires c κs = search rules
 
-word-kept-requires-2 : tie.Need-word-kept-requires-2
+word-kept-requires-2 : tie.Need-word_kept-second_word-requires
 word-kept-requires-2 c κs = search rules
 
 accepted-requires : tie.Need-accepted-requires
 accepted-requires c κs = search rules
 
-returns-2 : tie.Need-returns-2
+returns-2 : tie.Need-returns
 returns-2 c =
-    let second = c.before.before.before in
-    let first = second.before in
+    let second = c in
+    let first = second in
     c.accepted.ensures
-    ∙ rw (second.word-kept2.ensures, first.word_kept.ensures, first.before.before.before.if1.false) refl
+    ∙ rw (second.word_kept-second_word.ensures, first.word_kept-first_word.ensures, first.if-code-ne-DONE.false) refl
 
-pub renew-spec : {M : Type 1} → statement M
-renew-spec =
+pub renew_spec : {M : Type 1} → statement M
+renew_spec =
     tie.close
     (tie.spec
     refused-requires

@@ -9,10 +9,10 @@ use borrow.Author.Rules.{rules}
 use Rattle.judging.proofs.sets.start.Statement.{statement}
 use Rattle.judging.proofs.sets.start.Tie as tie
 
-is-mode-requires : tie.Need-is-mode-requires
+is-mode-requires : tie.Need-is_mode-requires
 is-mode-requires c κs = search rules
 
-set-code-requires : tie.Need-set-code-requires
+set-code-requires : tie.Need-set_code-code-requires
 set-code-requires c κs = search rules
 
 started-requires : tie.Need-started-requires
@@ -23,12 +23,12 @@ decide-requires c κs = search rules
 
 returns : tie.Need-returns
 returns c =
-    let begun = c.before in
-    let coded = begun.before in
-    let moded = coded.before.before.before in
-    let a = moded.before.args in
-    set_by_lem state a.s (a.first ∷ run ∷ a.mode ∷ []) coded.set_code.ensures refl
-    (ap (λ (b : Bool). eqb a.first 0x80 && b) moded.is-mode.ensures) refl c.decide.ensures
+    let begun = c in
+    let coded = begun in
+    let moded = coded in
+    let a = moded.args in
+    set_by_lem state a.s (a.first ∷ run ∷ a.mode ∷ []) coded.set_code-code.ensures refl
+    (ap (λ (b : Bool). eqb a.first 0x80 && b) moded.is_mode.ensures) refl c.decide.ensures
     (λ e. begun.started.ensures)
 
 pub start_spec : {M : Type 1} → statement M

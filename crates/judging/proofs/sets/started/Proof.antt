@@ -4,11 +4,11 @@ use borrow.Author.Rules.{rules}
 use Rattle.judging.proofs.sets.started.Statement.{statement}
 use Rattle.judging.proofs.sets.started.Tie as tie
 
-returns : tie.Need-returns
+returns : tie.Need-returns-then-s
 returns c = search rules
 
-returns-2 : tie.Need-returns-2
-returns-2 c = rw c.if1.false refl
+returns-2 : tie.Need-returns
+returns-2 c = rw c.if-s.false refl
 
-pub started-spec : {M : Type 1} → statement M
-started-spec = tie.close (tie.spec returns returns-2)
+pub started_spec : {M : Type 1} → statement M
+started_spec = tie.close (tie.spec returns returns-2)

@@ -8,47 +8,47 @@ use Rattle.judging.proofs.sets.tune.Tie as tie
 refused-requires : tie.Need-refused-requires
 refused-requires c κs = search rules
 
-returns : tie.Need-returns
+returns : tie.Need-returns-then-code-ne-DONE
 returns c =
-    let a = c.before.before.args in
-    c.refused.ensures ∙ decided_refused a.s _ a.code c.before.if1.true
+    let a = c.args in
+    c.refused.ensures ∙ decided_refused a.s _ a.code c.if-code-ne-DONE.true
 
-word-kept-requires : tie.Need-word-kept-requires
+word-kept-requires : tie.Need-word_kept-word-requires
 word-kept-requires c κs = search rules
 
-covers-requires : tie.Need-covers-requires
+covers-requires : tie.Need-covers-first-requires
 covers-requires c κs = search rules
 
-covers-requires-2 : tie.Need-covers-requires-2
+covers-requires-2 : tie.Need-covers-second-requires
 covers-requires-2 c κs = search rules
 
-tuned-requires : tie.Need-tuned-requires
+tuned-requires : tie.Need-tuned-set-requires
 tuned-requires c κs = search rules
 
-tuned-requires-2 : tie.Need-tuned-requires-2
+tuned-requires-2 : tie.Need-tuned-set-requires-2
 tuned-requires-2 c κs = search rules
 
 accepted-requires : tie.Need-accepted-requires
 accepted-requires c κs = search rules
 
-returns-2 : tie.Need-returns-2
+returns-2 : tie.Need-returns
 returns-2 c =
-    let second = c.before in
-    let first = second.before in
-    let covered = first.before in
-    let worked = covered.before.before in
+    let second = c in
+    let first = second in
+    let covered = first in
+    let worked = covered in
     c.accepted.ensures
     ∙ rw (
-      second.tuned2.ensures,
-      first.tuned.ensures,
-      covered.covers2.ensures,
-      covered.before.covers.ensures,
-      worked.word_kept.ensures,
-      worked.before.if1.false,
+      second.tuned-set-2.ensures,
+      first.tuned-set.ensures,
+      covered.covers-second.ensures,
+      covered.covers-first.ensures,
+      worked.word_kept-word.ensures,
+      worked.if-code-ne-DONE.false,
     ) refl
 
-pub tune-spec : {M : Type 1} → statement M
-tune-spec =
+pub tune_spec : {M : Type 1} → statement M
+tune_spec =
     tie.close
     (tie.spec
     refused-requires
