@@ -13,7 +13,7 @@ use borrow.Author.Rules.{rules}
 use Rattle.answers.proofs.answer.Statement.{statement}
 use Rattle.answers.proofs.answer.Tie as tie
 
-judge-requires : tie.Need-judge-requires
+judge-requires : tie.Need-judge-judged-requires
 judge-requires c κs = search rules
 
 abbrev message : tie.Start → Message
@@ -21,53 +21,53 @@ message c = record { type = c.args.kind; size = c.args.size; bytes = c.args.open
 
 -- ---- what is judged
 
-abbrev start : tie.After-judge → tie.Start
+abbrev start : tie.After-judge-judged → tie.Start
 start j = j.before.before
 
-code_is : (j : tie.After-judge) → j.judge.result.code ≡ code_of (start j).args.s (message (start j))
-code_is j = ap (λ (x : Judged). x.code) j.judge.ensures
+code_is : (j : tie.After-judge-judged) → j.judge-judged.result.code ≡ code_of (start j).args.s (message (start j))
+code_is j = ap (λ (x : Judged). x.code) j.judge-judged.ensures
 
-after_is : (j : tie.After-judge) → j.judge.result.settings ≡ settings_after (start j).args.s (message (start j))
-after_is j = ap (λ (x : Judged). x.settings) j.judge.ensures
+after_is : (j : tie.After-judge-judged) → j.judge-judged.result.settings ≡ settings_after (start j).args.s (message (start j))
+after_is j = ap (λ (x : Judged). x.settings) j.judge-judged.ensures
 
-returns : tie.Need-returns
+returns : tie.Need-returns-then-code-eq-NO_REPLY_DUE
 returns c =
-    let j = c.before.before in
-    let s = start j in
-    answers_nothing s.args.s (message s) s.args.reply.now j.judge.result.code j.judge.result.settings
-    (code_is j) c.if1.true (after_is j)
+    let j = c in
+    let s = start j.before.before in
+    answers_nothing s.args.s (message s) s.args.reply.now j.judge-judged.result.code j.judge-judged.result.settings
+    (code_is j.before.before) c.if-code-eq-NO_REPLY_DUE.true (after_is j.before.before)
 
-item-in-requires : tie.Need-item-in-requires
+item-in-requires : tie.Need-item_in-requires
 item-in-requires c κs = search rules
 
-shared-slice-read-write : tie.Need-shared-slice-read-write
+shared-slice-read-write : tie.Need-bounds-message-4
 shared-slice-read-write c = search rules
 
-write-requires : tie.Need-write-requires
+write-requires : tie.Need-write-wrote-requires
 write-requires c κs =
-    let j = c.before.before.before.before.before.before in
-    let i = c.before.before.item_in.ensures in
-    let s = (start j).args.s in
-    let m = message (start j) in
-    λ one. rw i (accepted_row s m (sym (code_is j) ∙ one), range_row s m (sym (code_is j) ∙ one))
+    let j = c in
+    let i = c.item_in.ensures in
+    let s = (start j.before.before.before.before.before.before).args.s in
+    let m = message (start j.before.before.before.before.before.before) in
+    λ one. rw i (accepted_row s m (sym (code_is j.before.before.before.before.before.before) ∙ one), range_row s m (sym (code_is j.before.before.before.before.before.before) ∙ one))
 
-same_length : tie.Need-same-length
+same_length : tie.Need-shape_of-reply-then-wrote-eq0
 same_length c = search rules
 
 -- ---- what is written: the message was answered, and there is a fifth byte
 
-abbrev judged : tie.After-write → tie.After-judge
+abbrev judged : tie.After-write-wrote → tie.After-judge-judged
 judged w = w.before.before.before.before.before.before.before
 
-module _ (w : tie.After-write) where
-  abbrev j : tie.After-judge
+module _ (w : tie.After-write-wrote) where
+  abbrev j : tie.After-judge-judged
   j = judged w
 
   abbrev s : tie.Start
   s = start j
 
   abbrev item : ℕ
-  item = w.before.before.before.item_in.result
+  item = w.item_in.result
 
   abbrev fifth : ℕ
   fifth = get_or s.args.opening.now 4 0
@@ -79,31 +79,31 @@ module _ (w : tie.After-write) where
   is_reply_lem =
       let long : 4 < length s.args.opening.now = search rules in
       judged_reply s.args.s (message s) j.judge.result.code item j.judge.result.settings
-      (code_is j) w.before.before.before.item_in.ensures (after_is j) long w.before.before.before.before.before.if1.left
+      (code_is j) w.item_in.ensures (after_is j) long w.if-code-eq-NO_REPLY_DUE.false
 
   some : 0 < length written
   some = some_due j.judge.result.code s.args.kind item fifth j.judge.result.settings
 
-returns-2 : tie.Need-returns-2
+returns-2 : tie.Need-returns-then-wrote-eq0
 returns-2 c =
-    let w = c.before.before.before in
+    let w = c in
     let a = (s w).args in
-    answers_short a.s (message (s w)) a.reply.now w.write.result w.write.new.1.1.1.1.1.0 (written w) (is_reply_lem w)
-    w.write.ensures.0 w.write.ensures.1 (some w) c.if2.true
+    answers_short a.s (message (s w)) a.reply.now w.write-wrote.result w.write-wrote.new.reply (written w) (is_reply_lem w)
+    w.write-wrote.ensures.0 w.write-wrote.ensures.1 (some w) c.if-wrote-eq0.true
 
-same-length-2 : tie.Need-same-length-2
+same-length-2 : tie.Need-shape_of-reply
 same-length-2 c = search rules
 
-returns-3 : tie.Need-returns-3
+returns-3 : tie.Need-returns
 returns-3 c =
-    let w = c.before.before.before in
+    let w = c in
     let a = (s w).args in
     let r = (j w).judge.result in
-    answers_whole a.s (message (s w)) a.reply.now w.write.result w.write.new.1.1.1.1.1.0 (written w) (is_reply_lem w)
-    w.write.ensures.0 w.write.ensures.1 r.code r.settings (code_is (j w)) (after_is (j w)) c.if2.false
+    answers_whole a.s (message (s w)) a.reply.now w.write-wrote.result w.write-wrote.new.reply (written w) (is_reply_lem w)
+    w.write-wrote.ensures.0 w.write-wrote.ensures.1 r.code r.settings (code_is (j w)) (after_is (j w)) c.if-wrote-eq0.false
 
-pub answer-spec : {M : Type 1} → statement M
-answer-spec =
+pub answer_spec : {M : Type 1} → statement M
+answer_spec =
     tie.close
     (tie.spec
     judge-requires

@@ -76,7 +76,7 @@ returns-2 c =
 returns-3 : tie.Need-returns-then-not-r
 returns-3 c =
     let l = (packet_at c.before.before.before).before in
-    sym (stops (reader l) (slice l) (λ g. true_not_false (sym g.begun ∙ c.if-not-r.true)))
+    sym (stops (reader l) (slice l) (λ g. true_not_false (sym g.begun ∙ not-true _ c.if-not-r.true)))
 
 number-in-requires : tie.Need-number_in-requires
 number-in-requires c κs = search rules
@@ -102,7 +102,7 @@ returns-5 c =
     let f = packet_at e.before in
     let l = f in
     sym
-    (by_tests (reader l.before) (slice l.before) (some f) (same e) (h.if-not-r.false) (λ z. b.if-number_in-eq0.false (b.number_in.ensures ∙ z))
+    (by_tests (reader l.before) (slice l.before) (some f) (same e) (not-false _ h.if-not-r.false) (λ z. b.if-number_in-eq0.false (b.number_in.ensures ∙ z))
     (sym n.is_count.ensures) (sym c.steps_give.ensures))
 
 pub goes_on_spec : {M : Type 1} → statement M

@@ -113,7 +113,7 @@ returns-5 c =
     let n = c in
     let p = packet_at n.before.before.before in
     c.refused-then-not-r.ensures
-    ∙ unbegun _ _ (fine (sound_at p)) (some p) (later n.before.before.before) (c.if-not-r.true)
+    ∙ unbegun _ _ (fine (sound_at p)) (some p) (later n.before.before.before) (not-true _ c.if-not-r.true)
 
 refused-requires-4 : tie.Need-refused-requires-2
 refused-requires-4 c κs = search rules
@@ -123,7 +123,7 @@ returns-6 c =
     let n = c in
     let p = packet_at n.before.before.before in
     let f = sound_at p in
-    let begun = c.if-not-r.false in
+    let begun = not-false _ c.if-not-r.false in
     let other = other_form _ _ (stops (stopped f)) (fine f) (some p) (later n.before.before.before) begun in
     c.refused-2.ensures ∙ changed _ _ (fine f) (some p) (later n.before.before.before) begun other
 

@@ -4,14 +4,14 @@ use borrow.Author.Rules.{rules}
 use Rattle.answers.proofs.value.serial_value.Statement.{statement}
 use Rattle.answers.proofs.value.serial_value.Tie as tie
 
-number-at-requires : tie.Need-number-at-requires
+number-at-requires : tie.Need-number_at-requires
 number-at-requires c κs = search rules
 
 returns : tie.Need-returns
 returns c =
-    let s = c.before.before in
-    serial_bytes s.args.serial.now s.requires (λ k. (c.before.shared-slice-known.given k).fits)
+    let s = c in
+    serial_bytes s.args.serial.now s.requires (λ k. (c.shared_slice_known-1.given k).fits)
     c.number_at.result c.number_at.ensures
 
-pub serial-value-spec : {M : Type 1} → statement M
-serial-value-spec = tie.close (tie.spec number-at-requires returns)
+pub serial_value_spec : {M : Type 1} → statement M
+serial_value_spec = tie.close (tie.spec number-at-requires returns)

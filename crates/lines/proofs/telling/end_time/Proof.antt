@@ -21,38 +21,38 @@ counted_below c =
     rw (counted a.divisor a.clock a.samples (some c))
     (time_below a.samples a.divisor c.requires.0 c.requires.1 a.clock c.requires.2)
 
-mul-cycles : tie.Need-overflow-mul-cycles
+mul-cycles : tie.Need-overflow_mul-cycles
 mul-cycles c = omega arith
 
-mul-cycles-2 : tie.Need-overflow-mul-cycles-2
+mul-cycles-2 : tie.Need-overflow_mul-cycles-2
 mul-cycles-2 c = omega (arith, few_cycles c)
 
-div-result : tie.Need-nonzero-div-result
+div-result : tie.Need-nonzero_div-result
 div-result c = omega (arith, some c)
 
-mul-result : tie.Need-overflow-mul-result
+mul-result : tie.Need-overflow_mul-result
 mul-result c = omega (arith, counted_below c)
 
-rem-result : tie.Need-nonzero-rem-result
+rem-result : tie.Need-nonzero_rem-result
 rem-result c = omega (arith, some c)
 
-mul-result-2 : tie.Need-overflow-mul-result-2
+mul-result-2 : tie.Need-overflow_mul-result-2
 mul-result-2 c =
     let a = c.args in
     let cycles = a.samples * (4 * a.divisor) in
     omega (arith, mod-lt cycles (some c), within_high 79_992_000 80_008_000 a.clock c.requires.2)
 
-div-result-2 : tie.Need-nonzero-div-result-2
+div-result-2 : tie.Need-nonzero_div-result-2
 div-result-2 c = omega (arith, some c)
 
-add-result : tie.Need-overflow-add-result
+add-result : tie.Need-overflow_add-result
 add-result c = omega (arith, counted_below c)
 
 returns : tie.Need-returns
 returns c = counted c.args.divisor c.args.clock c.args.samples (some c)
 
-pub end-time-spec : {M : Type 1} → statement M
-end-time-spec =
+pub end_time_spec : {M : Type 1} → statement M
+end_time_spec =
     tie.close
     (tie.spec
     mul-cycles

@@ -8,19 +8,19 @@ use Rattle.wire.proofs.Laws.{and_not_right}
 use Rattle.lines.proofs.telling.is_clock.Statement.{statement}
 use Rattle.lines.proofs.telling.is_clock.Tie as tie
 
-returns : tie.Need-returns
+returns : tie.Need-returns-then-hz-gt4294967295
 returns c =
-    let hz = c.before.args.hz in
-    sym (and_not_right (leb 79_992_000 hz) (leb hz 80_008_000) (lt-leb hz 80_008_000 (omega (arith, c.if1.true))))
+    let hz = c.args.hz in
+    sym (and_not_right (leb 79_992_000 hz) (leb hz 80_008_000) (lt-leb hz 80_008_000 (omega (arith, c.if-hz-gt4294967295.true))))
 
-cast-is-clock : tie.Need-overflow-cast-is-clock
+cast-is-clock : tie.Need-overflow_cast-hz
 cast-is-clock c = search rules
 
-is-clock-requires : tie.Need-is-clock-requires
+is-clock-requires : tie.Need-is_clock-requires
 is-clock-requires c κs = search rules
 
-returns-2 : tie.Need-returns-2
+returns-2 : tie.Need-returns
 returns-2 c = search rules
 
-pub is-clock-spec : {M : Type 1} → statement M
-is-clock-spec = tie.close (tie.spec returns cast-is-clock is-clock-requires returns-2)
+pub is_clock_spec : {M : Type 1} → statement M
+is_clock_spec = tie.close (tie.spec returns cast-is-clock is-clock-requires returns-2)

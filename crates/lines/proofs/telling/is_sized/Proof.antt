@@ -13,55 +13,55 @@ use Rattle.lines.proofs.telling.is_sized.Statement.{statement}
 use Rattle.lines.proofs.telling.is_sized.Tie as tie
 
 -- what was given, from where its position, its pairs and its D passed
-abbrev near : tie.Else1 → Due
-near c = c.before.before.args.d
+abbrev near : tie.Else-d-gt-LAST → Due
+near c = c.args.d
 
-abbrev few : tie.Else2 → tie.Else1
+abbrev few : tie.Else-d-gt256 → tie.Else-d-gt-LAST
 few c = c.before.before
 
-abbrev low : tie.Else3 → tie.Else2
+abbrev low : tie.Else-d-gt625 → tie.Else-d-gt256
 low c = c.before.before
 
-abbrev given : tie.Else3 → Due
+abbrev given : tie.Else-d-gt625 → Due
 given c = near (few (low c))
 
 -- from there on the clock and the packets heard decide
-sized_then : (c : tie.Else3) {k e : Bool} → is_clock (given c).clock ≡ k → leb (given c).heard ((given c).position + 1) ≡ e
+sized_then : (c : tie.Else-d-gt625) {k e : Bool} → is_clock (given c).clock ≡ k → leb (given c).heard ((given c).position + 1) ≡ e
     → sized (given c) ≡ k && e
 sized_then c =
     let f = low c in
     let n = few f in
-    sized_by (near n) (le-leb _ _ n.if1.left) (le-leb _ _ f.if2.left) (le-leb _ _ c.if3.false)
+    sized_by (near n) (le-leb _ _ n.if-d-gt-LAST.false) (le-leb _ _ f.if-d-gt256.false) (le-leb _ _ c.if-d-gt625.false)
 
-returns : tie.Need-returns
-returns c = sym (sized_by c.before.before.args.d (lt-leb _ _ c.if1.true) refl refl refl refl)
+returns : tie.Need-returns-then-d-gt-LAST
+returns c = sym (sized_by c.args.d (lt-leb _ _ c.if-d-gt-LAST.true) refl refl refl refl)
 
-returns-2 : tie.Need-returns-2
+returns-2 : tie.Need-returns-then-d-gt256
 returns-2 c =
-    let n = c.before.before in
-    sym (sized_by (near n) (le-leb _ _ n.if1.false) (lt-leb _ _ c.if2.true) refl refl refl)
+    let n = c in
+    sym (sized_by (near n.before.before) (le-leb _ _ n.if-d-gt-LAST.false) (lt-leb _ _ c.if-d-gt256.true) refl refl refl)
 
-returns-3 : tie.Need-returns-3
+returns-3 : tie.Need-returns-then-d-gt625
 returns-3 c =
-    let f = c.before.before in
-    let n = few f in
-    sym (sized_by (near n) (le-leb _ _ n.if1.left) (le-leb _ _ f.if2.false) (lt-leb _ _ c.if3.true) refl refl)
+    let f = c in
+    let n = few f.before.before in
+    sym (sized_by (near n) (le-leb _ _ n.if-d-gt-LAST.false) (le-leb _ _ f.if-d-gt256.false) (lt-leb _ _ c.if-d-gt625.true) refl refl)
 
-is-clock-requires : tie.Need-is-clock-requires
+is-clock-requires : tie.Need-is_clock-requires
 is-clock-requires c κs = search rules
 
-returns-4 : tie.Need-returns-4
-returns-4 c = sym (sized_then c.before.before (sym c.before.is-clock.ensures ∙ not-true _ c.if4.true) refl)
+returns-4 : tie.Need-returns-then-not-is_clock
+returns-4 c = sym (sized_then c.before.before (sym c.is_clock.ensures ∙ c.if-not-is_clock.true) refl)
 
-add-result : tie.Need-overflow-add-result
+add-result : tie.Need-overflow_add-result
 add-result c = search rules
 
-returns-5 : tie.Need-returns-5
+returns-5 : tie.Need-returns
 returns-5 c =
-    let clocked = c.before.before in
-    sym (sized_then clocked.before.before (sym clocked.before.is-clock.ensures ∙ not-false _ clocked.if4.false) refl)
+    let clocked = c in
+    sym (sized_then clocked.before.before.before.before (sym clocked.is_clock.ensures ∙ clocked.if-not-is_clock.false) refl)
 
-pub is-sized-spec : {M : Type 1} → statement M
-is-sized-spec =
+pub is_sized_spec : {M : Type 1} → statement M
+is_sized_spec =
     tie.close
     (tie.spec returns returns-2 returns-3 is-clock-requires returns-4 add-result returns-5)

@@ -7,53 +7,53 @@ use Rattle.lines.proofs.Dues.{one_line}
 use Rattle.lines.proofs.telling.put_ending.Statement.{statement}
 use Rattle.lines.proofs.telling.put_ending.Tie as tie
 
-enum_told : tie.Need-enum-told
+enum_told : tie.Need-enum_told-1
 enum_told c = search rules
 
-enum-known-e : tie.Need-enum-known-e
+enum-known-e : tie.Need-enum_known-e
 enum-known-e c = search rules
 
-cast-t10 : tie.Need-overflow-cast-t10
+cast-t10 : tie.Need-overflow_cast-ns
 cast-t10 c = search rules
 
-slice-aggregate-put-line : tie.Need-slice-aggregate-put-line
+slice-aggregate-put-line : tie.Need-slice_bounds-put_line-end
 slice-aggregate-put-line c = search rules
 
-put-line-requires : tie.Need-put-line-requires
+put-line-requires : tie.Need-put_line-requires
 put-line-requires c κs = search rules
 
-enum-known-e-2 : tie.Need-enum-known-e-2
+enum-known-e-2 : tie.Need-enum_known-e-in-Captures-1
 enum-known-e-2 c = search rules
 
-slice-aggregate-put-line-2 : tie.Need-slice-aggregate-put-line-2
+slice-aggregate-put-line-2 : tie.Need-slice_bounds-put_line-end-in-Captures
 slice-aggregate-put-line-2 c = search rules
 
-put-line-requires-2 : tie.Need-put-line-requires-2
+put-line-requires-2 : tie.Need-put_line-requires-in-Captures
 put-line-requires-2 c κs = search rules
 
-returns : tie.Need-returns
-returns c = rw c.enum_told.given.1 (stored_within 44 (omega arith) (nothing_stored _ _))
+returns : tie.Need-returns-in-Nothing
+returns c = rw c.in-Nothing.is (stored_within 44 (omega arith) (nothing_stored _ _))
 
-same_length : tie.Need-same-length
+same_length : tie.Need-shape_of-buf-in-Refusal
 same_length c = search rules
 
-returns-2 : tie.Need-returns-2
+returns-2 : tie.Need-returns-in-Refusal
 returns-2 c =
-    let put = c.before.before in
-    let told = put.before.before.before.before in
-    rw told.e.given.1 (one_line (refusal_line _ _) put.put-line.ensures)
+    let put = c in
+    let told = put in
+    rw told.in-Refusal.is (one_line (refusal_line _ _) put.put_line.ensures)
 
-same-length-2 : tie.Need-same-length-2
+same-length-2 : tie.Need-shape_of-buf-in-Captures
 same-length-2 c = search rules
 
-returns-3 : tie.Need-returns-3
+returns-3 : tie.Need-returns-in-Captures
 returns-3 c =
-    let put = c.before.before in
-    let told = put.before.before.before.before in
-    rw told.e2.given.1 (stored_within 44 (omega arith) (one_line (end_line _) put.put-line2.ensures))
+    let put = c in
+    let told = put in
+    rw told.in-Captures.is (stored_within 44 (omega arith) (one_line (end_line _) put.put_line-in-Captures.ensures))
 
-pub put-ending-spec : {M : Type 1} → statement M
-put-ending-spec =
+pub put_ending_spec : {M : Type 1} → statement M
+put_ending_spec =
     tie.close
     (tie.spec
     enum_told

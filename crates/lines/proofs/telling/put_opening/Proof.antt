@@ -7,23 +7,23 @@ use Rattle.lines.proofs.Dues.{one_line}
 use Rattle.lines.proofs.telling.put_opening.Statement.{statement}
 use Rattle.lines.proofs.telling.put_opening.Tie as tie
 
-slice-aggregate-put-line : tie.Need-slice-aggregate-put-line
+slice-aggregate-put-line : tie.Need-slice_bounds-put_line-end
 slice-aggregate-put-line c = search rules
 
-put-line-requires : tie.Need-put-line-requires
+put-line-requires : tie.Need-put_line-requires
 put-line-requires c κs = search rules
 
-same_length : tie.Need-same-length
+same_length : tie.Need-shape_of-buf-then-on
 same_length c = search rules
 
-returns : tie.Need-returns
+returns : tie.Need-returns-then-on
 returns c =
-    let put = c.before.before in
-    rw put.before.before.before.if1.true (one_line opening_line put.put-line.ensures)
+    let put = c in
+    rw put.if-on.true (one_line opening_line put.put_line.ensures)
 
-returns-2 : tie.Need-returns-2
-returns-2 c = rw c.if1.false (stored_within 26 (omega arith) (nothing_stored _ _))
+returns-2 : tie.Need-returns
+returns-2 c = rw c.if-on.false (stored_within 26 (omega arith) (nothing_stored _ _))
 
-pub put-opening-spec : {M : Type 1} → statement M
-put-opening-spec =
+pub put_opening_spec : {M : Type 1} → statement M
+put_opening_spec =
     tie.close (tie.spec slice-aggregate-put-line put-line-requires same_length returns returns-2)

@@ -14,65 +14,65 @@ use Rattle.lines.proofs.telling.tell.Statement.{statement}
 use Rattle.lines.proofs.telling.tell.Tie as tie
 
 -- the numbers are some that a capture has
-fits : (c : tie.Else1) → sized c.before.before.before.args.d ≡ true
-fits c = sym c.before.is-sized.ensures ∙ not-false _ c.if1.false
+fits : (c : tie.Else-not-is_sized) → sized c.args.d ≡ true
+fits c = sym c.is_sized.ensures ∙ c.if-not-is_sized.false
 
 -- the text ends within the buffer
-inside : (c : tie.After-put-due) → c.put-due.result ≤ length c.put-due.new.1.0
-inside c = omega (arith, c.put-due.ensures.short, c.put-due.auto.1.0)
+inside : (c : tie.After-put_due-n) → c.put_due-n.result ≤ length c.put_due-n.new.buf
+inside c = omega (arith, c.put_due-n.ensures.short, c.put_due-n.auto.buf)
 
-is-sized-requires : tie.Need-is-sized-requires
+is-sized-requires : tie.Need-is_sized-requires
 is-sized-requires c κs = search rules
 
-returns : tie.Need-returns
+returns : tie.Need-returns-then-not-is_sized
 returns c =
-    let s = c.before in
-    let a = s.before.before.args in
-    let says = telling_refused a.d (length a.out.now) (sym s.is-sized.ensures ∙ not-true _ c.if1.true) in
+    let s = c in
+    let a = s.args in
+    let says = telling_refused a.d (length a.out.now) (sym s.is_sized.ensures ∙ c.if-not-is_sized.true) in
     (rw says, rw says)
 
-slice-aggregate-put-due : tie.Need-slice-aggregate-put-due
+slice-aggregate-put-due : tie.Need-slice_bounds-put_due-end
 slice-aggregate-put-due c = search rules
 
-put-due-requires : tie.Need-put-due-requires
+put-due-requires : tie.Need-put_due-n-requires
 put-due-requires c κs = (omega arith, fits c.before)
 
-returns-2 : tie.Need-returns-2
+returns-2 : tie.Need-returns-then-out-n
 returns-2 c =
-    let put = c.before.before in
-    let tested = put.before.before in
-    let a = tested.before.before.before.args in
+    let put = c in
+    let tested = put in
+    let a = tested.args in
     let n = length a.out.now in
-    let ends = put.put-due.ensures.ends in
-    let says = telling_sized a.d n (fits tested) ∙ telling_short (text_of (due_lines a.d)) n _ ends c.if2.true in
+    let ends = put.put_due-n.ensures.ends in
+    let says = telling_sized a.d n (fits tested.before.before.before.before) ∙ telling_short (text_of (due_lines a.d)) n _ ends c.if-out-n.true in
     (rw says, rw says)
 
-array-share-prefix-text : tie.Need-array-share-prefix-text
+array-share-prefix-text : tie.Need-slice_bounds-text-end
 array-share-prefix-text c = search rules
 
-slice-aggregate-copy : tie.Need-slice-aggregate-copy
+slice-aggregate-copy : tie.Need-slice_bounds-copy-end
 slice-aggregate-copy c = text_there _ _ (inside c.before.before.before)
 
 copy-requires : tie.Need-copy-requires
 copy-requires c κs = search rules
 
-same_length : tie.Need-same-length
+same_length : tie.Need-shape_of-out
 same_length c = search rules
 
-returns-3 : tie.Need-returns-3
+returns-3 : tie.Need-returns
 returns-3 c =
-    let copied = c.before.before in
-    let room = copied.before.before.before in
-    let put = room.before.before in
-    let tested = put.before.before in
-    let a = tested.before.before.before.args in
+    let copied = c in
+    let room = copied in
+    let put = room in
+    let tested = put in
+    let a = tested.args in
     let n = length a.out.now in
-    let ends = put.put-due.ensures.ends in
-    let says = telling_sized a.d n (fits tested) ∙ telling_whole (text_of (due_lines a.d)) n _ ends room.if2.false in
-    (rw says, rw says (copied.copy.ensures ∙ ap (sets a.out.now 0) (taken_back _ _ _ _ put.put-due.ensures (omega arith))))
+    let ends = put.put_due-n.ensures.ends in
+    let says = telling_sized a.d n (fits tested.before.before.before.before.before.before.before.before.before) ∙ telling_whole (text_of (due_lines a.d)) n _ ends room.if-out-n.false in
+    (rw says, rw says (copied.copy.ensures ∙ ap (sets a.out.now 0) (taken_back _ _ _ _ put.put_due-n.ensures (omega arith))))
 
-pub tell-spec : {M : Type 1} → statement M
-tell-spec =
+pub tell_spec : {M : Type 1} → statement M
+tell_spec =
     tie.close
     (tie.spec
     is-sized-requires

@@ -9,25 +9,25 @@ use Rattle.lines.proofs.telling.time_of.Statement.{statement}
 use Rattle.lines.proofs.telling.time_of.Tie as tie
 
 -- a capture can have them, from where the test has passed
-have : (c : tie.Else1) → (let a = c.before.before.args in of_a_capture a.samples a.divisor a.clock ≡ true)
-have c = sym c.before.of-a-capture.ensures ∙ not-false _ c.if1.false
+have : (c : tie.Else-not-of_a_capture) → (let a = c.args in of_a_capture a.samples a.divisor a.clock ≡ true)
+have c = sym c.of_a_capture.ensures ∙ c.if-not-of_a_capture.false
 
-of-a-capture-requires : tie.Need-of-a-capture-requires
+of-a-capture-requires : tie.Need-of_a_capture-requires
 of-a-capture-requires c κs = search rules
 
-returns : tie.Need-returns
+returns : tie.Need-returns-then-not-of_a_capture
 returns c =
-    let a = c.before.before.args in
-    sym (timing_by a.samples a.divisor a.clock (sym c.before.of-a-capture.ensures ∙ not-true _ c.if1.true))
+    let a = c.args in
+    sym (timing_by a.samples a.divisor a.clock (sym c.of_a_capture.ensures ∙ c.if-not-of_a_capture.true))
 
-end-time-requires : tie.Need-end-time-requires
-end-time-requires c κs = let a = c.before.before.args in capture_fits a.samples a.divisor a.clock (have c)
+end-time-requires : tie.Need-end_time-requires
+end-time-requires c κs = let a = c.args in capture_fits a.samples a.divisor a.clock (have c)
 
-returns-2 : tie.Need-returns-2
+returns-2 : tie.Need-returns
 returns-2 c =
-    let tested = c.before in
-    let a = tested.before.before.args in
-    rw c.end-time.ensures (sym (timing_by a.samples a.divisor a.clock (have tested)))
+    let tested = c in
+    let a = tested.args in
+    rw c.end_time.ensures (sym (timing_by a.samples a.divisor a.clock (have tested.before)))
 
-pub time-of-spec : {M : Type 1} → statement M
-time-of-spec = tie.close (tie.spec of-a-capture-requires returns end-time-requires returns-2)
+pub time_of_spec : {M : Type 1} → statement M
+time_of_spec = tie.close (tie.spec of-a-capture-requires returns end-time-requires returns-2)

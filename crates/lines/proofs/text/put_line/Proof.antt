@@ -7,31 +7,31 @@ use Rattle.lines.proofs.text.put_line.Tie as tie
 put-requires : tie.Need-put-requires
 put-requires c κs = search rules
 
-add-put-numbers : tie.Need-overflow-add-put-numbers
+add-put-numbers : tie.Need-overflow_add-at
 add-put-numbers c = search rules
 
-put-numbers-requires : tie.Need-put-numbers-requires
+put-numbers-requires : tie.Need-put_numbers-to-requires
 put-numbers-requires c κs = search rules
 
 put-requires-2 : tie.Need-put-requires-2
 put-requires-2 c κs = search rules
 
-add-result : tie.Need-overflow-add-result
+add-result : tie.Need-overflow_add-result
 add-result c = search rules
 
-same_length : tie.Need-same-length
+same_length : tie.Need-shape_of-buf
 same_length c = search rules
 
 returns : tie.Need-returns
 returns c =
-    let last = c.before.before in
-    let numbers = last.before.before.before.before in
-    let first = numbers.before.before.before.before in
-    line_stored _ _ _ _ first.before.before.before.before.args.ns.now _ _ _ _
-    first.put.ensures numbers.put-numbers.ensures last.put2.ensures
+    let last = c in
+    let numbers = last in
+    let first = numbers in
+    line_stored _ _ _ _ first.args.ns.now _ _ _ _
+    first.put.ensures numbers.put_numbers-to.ensures last.put-2.ensures
 
-pub put-line-spec : {M : Type 1} → statement M
-put-line-spec =
+pub put_line_spec : {M : Type 1} → statement M
+put_line_spec =
     tie.close
     (tie.spec
     put-requires
