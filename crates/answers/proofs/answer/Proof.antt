@@ -73,23 +73,23 @@ module _ (w : tie.After-write-wrote) where
   fifth = get_or s.args.opening.now 4 0
 
   abbrev written : List ℕ
-  written = due j.judge.result.code s.args.kind item fifth j.judge.result.settings
+  written = due j.judge-judged.result.code s.args.kind item fifth j.judge-judged.result.settings
 
   is_reply_lem : written ≡ reply_of s.args.s (message s)
   is_reply_lem =
       let long : 4 < length s.args.opening.now = search rules in
-      judged_reply s.args.s (message s) j.judge.result.code item j.judge.result.settings
+      judged_reply s.args.s (message s) j.judge-judged.result.code item j.judge-judged.result.settings
       (code_is j) w.item_in.ensures (after_is j) long w.if-code-eq-NO_REPLY_DUE.false
 
   some : 0 < length written
-  some = some_due j.judge.result.code s.args.kind item fifth j.judge.result.settings
+  some = some_due j.judge-judged.result.code s.args.kind item fifth j.judge-judged.result.settings
 
 returns-2 : tie.Need-returns-then-wrote-eq0
 returns-2 c =
     let w = c in
-    let a = (s w).args in
-    answers_short a.s (message (s w)) a.reply.now w.write-wrote.result w.write-wrote.new.reply (written w) (is_reply_lem w)
-    w.write-wrote.ensures.0 w.write-wrote.ensures.1 (some w) c.if-wrote-eq0.true
+    let a = (s w.before.before.before).args in
+    answers_short a.s (message (s w.before.before.before)) a.reply.now w.write-wrote.result w.write-wrote.new.reply (written w.before.before.before) (is_reply_lem w.before.before.before)
+    w.write-wrote.ensures.0 w.write-wrote.ensures.1 (some w.before.before.before) c.if-wrote-eq0.true
 
 same-length-2 : tie.Need-shape_of-reply
 same-length-2 c = search rules
@@ -97,10 +97,10 @@ same-length-2 c = search rules
 returns-3 : tie.Need-returns
 returns-3 c =
     let w = c in
-    let a = (s w).args in
-    let r = (j w).judge.result in
-    answers_whole a.s (message (s w)) a.reply.now w.write-wrote.result w.write-wrote.new.reply (written w) (is_reply_lem w)
-    w.write-wrote.ensures.0 w.write-wrote.ensures.1 r.code r.settings (code_is (j w)) (after_is (j w)) c.if-wrote-eq0.false
+    let a = (s w.before.before.before).args in
+    let r = (j w.before.before.before).judge-judged.result in
+    answers_whole a.s (message (s w.before.before.before)) a.reply.now w.write-wrote.result w.write-wrote.new.reply (written w.before.before.before) (is_reply_lem w.before.before.before)
+    w.write-wrote.ensures.0 w.write-wrote.ensures.1 r.code r.settings (code_is (j w.before.before.before)) (after_is (j w.before.before.before)) c.if-wrote-eq0.false
 
 pub answer_spec : {M : Type 1} → statement M
 answer_spec =

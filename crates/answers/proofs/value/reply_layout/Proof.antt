@@ -99,10 +99,10 @@ module _ (a : tie.Start) (width value : ℕ)
   reply = framed type_reply (reply_body (row_of item) a.args.s (a.args.echo ∷ []))
 
   plain_at : echoes (row_of item).echoed ≡ 0 → laid (plainly item width value) ≡ reply
-  plain_at = shows_plainly (row_of item) item width value a.args.s a.args.echo a.pre shown
+  plain_at = shows_plainly (row_of item) item width value a.args.s a.args.echo a.requires shown
 
   echo_at : echoes (row_of item).echoed ≡ 1 → laid (echoing item a.args.echo width value) ≡ reply
-  echo_at = shows_echoing (row_of item) item width value a.args.s a.args.echo a.pre shown
+  echo_at = shows_echoing (row_of item) item width value a.args.s a.args.echo a.requires shown
 
 returns : tie.Need-returns-in-1
 unfolding row_of
@@ -110,7 +110,7 @@ returns c =
     let a = c in
     let key = c.in-1.is in
     ap laid c.plain.ensures
-    ∙ plain_at a 7 0x00_52_44_53_74_65_4E (rw key refl) (rw key refl)
+    ∙ plain_at a.before.before 7 0x00_52_44_53_74_65_4E (rw key refl) (rw key refl)
 
 returns-2 : tie.Need-returns-in-2
 unfolding row_of
@@ -118,7 +118,7 @@ returns-2 c =
     let a = c in
     let key = c.in-2.is in
     ap laid c.plain-in-2.ensures
-    ∙ plain_at a 9 c.serial_value.result (rw key (sym c.serial_value.ensures)) (rw key refl)
+    ∙ plain_at a.before.before.before.before.before 9 c.serial_value.result (rw key (sym c.serial_value.ensures)) (rw key refl)
 
 returns-3 : tie.Need-returns-in-3
 unfolding row_of
@@ -126,7 +126,7 @@ returns-3 c =
     let a = c in
     let key = c.in-3.is in
     ap laid c.plain-in-3.ensures
-    ∙ plain_at a 2 105 (rw key refl) (rw key refl)
+    ∙ plain_at a.before.before 2 105 (rw key refl) (rw key refl)
 
 returns-4 : tie.Need-returns-in-4
 unfolding row_of
@@ -138,7 +138,7 @@ returns-5 c =
     let a = c in
     let key = c.in-5.is in
     ap laid c.plain-in-5.ensures
-    ∙ plain_at a 1 c.status_value.result (rw (key, c.status_value.ensures) (status_bytes a.args.s.running))
+    ∙ plain_at a.before.before.before 1 c.status_value.result (rw (key, c.status_value.ensures) (status_bytes a.args.s.running))
     (rw key refl)
 
 returns-6 : tie.Need-returns-in-24
@@ -147,7 +147,7 @@ returns-6 c =
     let a = c in
     let key = c.in-24.is in
     ap laid c.plain-in-24.ensures
-    ∙ plain_at a 4 c.state_value.result (rw key (sym c.state_value.ensures)) (rw key refl)
+    ∙ plain_at a.before.before.before 4 c.state_value.result (rw key (sym c.state_value.ensures)) (rw key refl)
 
 returns-7 : tie.Need-returns-in-25
 unfolding row_of
@@ -155,7 +155,7 @@ returns-7 c =
     let a = c in
     let key = c.in-25.is in
     ap laid c.plain-in-25.ensures
-    ∙ plain_at a 1 a.args.s.setup (rw key refl) (rw key refl)
+    ∙ plain_at a.before.before.before 1 a.args.s.setup (rw key refl) (rw key refl)
 
 returns-8 : tie.Need-returns-in-32
 unfolding row_of
@@ -164,7 +164,7 @@ returns-8 c =
     let a = named in
     let key = named.in-32.is in
     ap laid c.with_echo.ensures
-    ∙ echo_at a 5 named.channel_at.result.frequency
+    ∙ echo_at a.before.before.before 5 named.channel_at.result.frequency
     (rw (key, named.channel_at.ensures) refl) (rw key refl)
 
 returns-9 : tie.Need-returns-in-56
@@ -174,7 +174,7 @@ returns-9 c =
     let a = named in
     let key = named.in-56.is in
     ap laid c.with_echo-in-56.ensures
-    ∙ echo_at a 1 named.channel_at-in-56.result.gain
+    ∙ echo_at a.before.before.before.before 1 named.channel_at-in-56.result.gain
     (rw (key, named.channel_at-in-56.ensures) refl) (rw key refl)
 
 returns-10 : tie.Need-returns-in-176
@@ -183,7 +183,7 @@ returns-10 c =
     let a = c in
     let key = c.in-176.is in
     ap laid c.with_echo-in-176.ensures
-    ∙ echo_at a 4 a.args.s.clock (rw key refl) (rw key refl)
+    ∙ echo_at a.before.before.before 4 a.args.s.clock (rw key refl) (rw key refl)
 
 returns-11 : tie.Need-returns-in-184
 unfolding row_of
@@ -191,7 +191,7 @@ returns-11 c =
     let a = c in
     let key = c.in-184.is in
     ap laid c.with_echo-in-184.ensures
-    ∙ echo_at a 4 c.achieved.result (rw key (ap (bytes 4) (sym c.achieved.ensures))) (rw key refl)
+    ∙ echo_at a.before.before.before 4 c.achieved.result (rw key (ap (bytes 4) (sym c.achieved.ensures))) (rw key refl)
 
 returns-12 : tie.Need-returns-in-196
 unfolding row_of
@@ -199,7 +199,7 @@ returns-12 c =
     let a = c in
     let key = c.in-196.is in
     ap laid c.plain-in-196.ensures
-    ∙ plain_at a 1 a.args.s.size (rw key refl) (rw key refl)
+    ∙ plain_at a.before.before.before 1 a.args.s.size (rw key refl) (rw key refl)
 
 returns-13 : tie.Need-returns-in_default
 returns-13 c =
@@ -213,7 +213,7 @@ returns-13 c =
     no_row a.args.item r3.0.0.1 r3.0.1 r3.1 r6.0.0.1 r6.0.1 r6.1 r9.0.0.1 r9.0.1 r9.1
     r.0.0.1 r.0.1 r.1 in
     ap laid c.plain-in_default.ensures
-    ∙ plain_at a 0 0 (rw none refl) (rw none refl)
+    ∙ plain_at a.before.before 0 0 (rw none refl) (rw none refl)
 
 pub reply_layout_spec : {M : Type 1} → statement M
 reply_layout_spec =

@@ -52,7 +52,7 @@ returns c =
     let put = spaced copied.before.before in
     let d = spelt put in
     let digits = d.decimal-k.ensures in
-    number_stored _ _ _ _ _ _ _ put.put.ensures copied.copy.ensures digits.0.1 (few d) digits.1.0 digits.1.1
+    number_stored _ _ _ _ _ _ _ put.put.ensures copied.copy.ensures digits.0.1 (few d) digits.1.0 digits.1.1.0
 
 pub put_number_spec : {M : Type 1} → statement M
 put_number_spec =
