@@ -6,21 +6,21 @@ use borrow.Author.Rules.{rules}
 use Rattle.station.proofs.is_sound.Statement.{statement}
 use Rattle.station.proofs.is_sound.Tie as tie
 
-in-range-requires : tie.Need-in-range-requires
+in-range-requires : tie.Need-in_range-requires
 in-range-requires c κs = search rules
 
-returns : tie.Need-returns
+returns : tie.Need-returns-then-not-in_range
 unfolding valid
-returns c = rw (← c.before.in-range.ensures, not-true c.before.in-range.result c.if1.true)
+returns c = rw (← c.in_range.ensures, c.if-not-in_range.true)
 
-could-be-left-requires : tie.Need-could-be-left-requires
+could-be-left-requires : tie.Need-could_be_left-requires
 could-be-left-requires c κs = search rules
 
-returns-2 : tie.Need-returns-2
+returns-2 : tie.Need-returns
 unfolding valid
 returns-2 c =
-    let ranged = c.before.before.in-range in
-    rw (c.could-be-left.ensures, ← ranged.ensures, not-false ranged.result c.before.if1.false)
+    let ranged = c.in_range in
+    rw (c.could_be_left.ensures, ← ranged.ensures, c.if-not-in_range.false)
 
-pub is-sound-spec : {M : Type 1} → statement M
-is-sound-spec = tie.close (tie.spec in-range-requires returns could-be-left-requires returns-2)
+pub is_sound_spec : {M : Type 1} → statement M
+is_sound_spec = tie.close (tie.spec in-range-requires returns could-be-left-requires returns-2)

@@ -12,102 +12,101 @@ use Rattle.wishes.proofs.Allowed.{gain_bits, valueless, valueless_allowed}
 use Rattle.wishes.proofs.is_allowed.Statement.{statement}
 use Rattle.wishes.proofs.is_allowed.Tie as tie
 
-enum-known-w : tie.Need-enum-known-w
+enum-known-w : tie.Need-enum_known-w
 enum-known-w c = search rules
 
-is-version-requires : tie.Need-is-version-requires
+is-version-requires : tie.Need-is_version-requires
 is-version-requires c κs = search rules
 
-enum-known-w-2 : tie.Need-enum-known-w-2
+enum-known-w-2 : tie.Need-enum_known-w-in-SetState-1
 enum-known-w-2 c = search rules
 
-may-state-requires : tie.Need-may-state-requires
+may-state-requires : tie.Need-may_state-requires
 may-state-requires c κs = search rules
 
-enum-known-w-3 : tie.Need-enum-known-w-3
+enum-known-w-3 : tie.Need-enum_known-w-in-SetChannelSetup-1
 enum-known-w-3 c = search rules
 
-cast-is-setup : tie.Need-overflow-cast-is-setup
+cast-is-setup : tie.Need-overflow_cast-n
 cast-is-setup c = search rules
 
-is-setup-requires : tie.Need-is-setup-requires
+is-setup-requires : tie.Need-is_setup-requires
 is-setup-requires c κs = search rules
 
-enum-known-w-4 : tie.Need-enum-known-w-4
+enum-known-w-4 : tie.Need-enum_known-w-in-SetFrequency-1
 enum-known-w-4 c = search rules
 
-in-bands-requires : tie.Need-in-bands-requires
+in-bands-requires : tie.Need-in_bands-requires
 in-bands-requires c κs = search rules
 
-enum-known-w-5 : tie.Need-enum-known-w-5
+enum-known-w-5 : tie.Need-enum_known-w-in-SetGain-1
 enum-known-w-5 c = search rules
 
-gain-byte-requires : tie.Need-gain-byte-requires
+gain-byte-requires : tie.Need-gain_byte-requires
 gain-byte-requires c κs = search rules
 
-cast-is-gain : tie.Need-overflow-cast-is-gain
+cast-is-gain : tie.Need-overflow_cast-gain_byte
 cast-is-gain c = search rules
 
-is-gain-requires : tie.Need-is-gain-requires
+is-gain-requires : tie.Need-is_gain-requires
 is-gain-requires c κs = search rules
 
-enum-known-w-6 : tie.Need-enum-known-w-6
+enum-known-w-6 : tie.Need-enum_known-w-in-SetClock-1
 enum-known-w-6 c = search rules
 
-is-clock-requires : tie.Need-is-clock-requires
+is-clock-requires : tie.Need-is_clock-requires
 is-clock-requires c κs = search rules
 
-enum-known-w-7 : tie.Need-enum-known-w-7
+enum-known-w-7 : tie.Need-enum_known-w-in-SetRate-1
 enum-known-w-7 c = search rules
 
-may-ask-requires : tie.Need-may-ask-requires
+may-ask-requires : tie.Need-may_ask-requires
 may-ask-requires c κs = search rules
 
-enum-known-w-8 : tie.Need-enum-known-w-8
+enum-known-w-8 : tie.Need-enum_known-w-in-SetPacketSize-1
 enum-known-w-8 c = search rules
 
-cast-is-size : tie.Need-overflow-cast-is-size
+cast-is-size : tie.Need-overflow_cast-n-in-SetPacketSize
 cast-is-size c = search rules
 
-is-size-requires : tie.Need-is-size-requires
+is-size-requires : tie.Need-is_size-requires
 is-size-requires c κs = search rules
 
-returns : tie.Need-returns
-returns c = rw c.before.before.w.given.1 c.is-version.ensures
+returns : tie.Need-returns-in-AskVersion
+returns c = rw c.in-AskVersion.is c.is_version.ensures
 
-returns-2 : tie.Need-returns-2
-returns-2 c = rw c.before.before.w2.given.1 c.may-state.ensures
+returns-2 : tie.Need-returns-in-SetState
+returns-2 c = rw c.in-SetState.is c.may_state.ensures
 
-returns-3 : tie.Need-returns-3
-returns-3 c = rw c.before.before.w3.given.1 c.is-setup.ensures
+returns-3 : tie.Need-returns-in-SetChannelSetup
+returns-3 c = rw c.in-SetChannelSetup.is c.is_setup.ensures
 
-returns-4 : tie.Need-returns-4
-returns-4 c = rw c.before.before.w4.given.1 c.in-bands.ensures
+returns-4 : tie.Need-returns-in-SetFrequency
+returns-4 c = rw c.in-SetFrequency.is c.in_bands.ensures
 
-returns-5 : tie.Need-returns-5
+returns-5 : tie.Need-returns-in-SetGain
 returns-5 c =
-    let w = c.before.before.before.w5.given in
-    let channel = w.0.0 in
-    let g = w.0.1.0 in
+    let channel = c.in-SetGain.field-0 in
+    let g = c.in-SetGain.g in
     let same : to_z w8 (of_z w8 g) ≡ g = search rules in
     let small : mag g < 128 = search rules in
-    rw w.1 (c.is-gain.ensures ∙ ap is_gain (c.before.gain-byte.ensures ∙ ap (coded 8) same) ∙ gain_bits channel g small)
+    rw c.in-SetGain.is (c.is_gain.ensures ∙ ap is_gain (c.gain_byte.ensures ∙ ap (coded 8) same) ∙ gain_bits channel g small)
 
-returns-6 : tie.Need-returns-6
-returns-6 c = rw c.before.before.w6.given.1 c.is-clock.ensures
+returns-6 : tie.Need-returns-in-SetClock
+returns-6 c = rw c.in-SetClock.is c.is_clock.ensures
 
-returns-7 : tie.Need-returns-7
-returns-7 c = rw c.before.before.w7.given.1 c.may-ask.ensures
+returns-7 : tie.Need-returns-in-SetRate
+returns-7 c = rw c.in-SetRate.is c.may_ask.ensures
 
-returns-8 : tie.Need-returns-8
-returns-8 c = rw c.before.before.w8.given.1 c.is-size.ensures
+returns-8 : tie.Need-returns-in-SetPacketSize
+returns-8 c = rw c.in-SetPacketSize.is c.is_size.ensures
 
-returns-9 : tie.Need-returns-9
+returns-9 : tie.Need-returns-in_default
 unfolding valueless
-returns-9 c = sym (valueless_allowed c.before.args.w (matched valueless valueless _ refl c.match.keys9))
+returns-9 c = sym (valueless_allowed c.args.w (matched valueless valueless _ refl c.in_default.in_default-own.keys9))
 
-pub is-allowed-spec : {M : Type 1} → statement M
-is-allowed-spec =
+pub is_allowed_spec : {M : Type 1} → statement M
+is_allowed_spec =
     tie.close
     (tie.spec
     enum-known-w

@@ -6,57 +6,57 @@ use Rattle.wishes.proofs.Open.{asked_open, set_open, channelless, channelless_op
 use Rattle.wishes.proofs.is_open.Statement.{statement}
 use Rattle.wishes.proofs.is_open.Tie as tie
 
-enum-known-w : tie.Need-enum-known-w
+enum-known-w : tie.Need-enum_known-w
 enum-known-w c = search rules
 
-may-set-on-requires : tie.Need-may-set-on-requires
+may-set-on-requires : tie.Need-may_set_on-requires
 may-set-on-requires c κs = search rules
 
-enum-known-w-2 : tie.Need-enum-known-w-2
+enum-known-w-2 : tie.Need-enum_known-w-in-AskFrequency-1
 enum-known-w-2 c = search rules
 
-may-ask-of-requires : tie.Need-may-ask-of-requires
+may-ask-of-requires : tie.Need-may_ask_of-requires
 may-ask-of-requires c κs = search rules
 
-enum-known-w-3 : tie.Need-enum-known-w-3
+enum-known-w-3 : tie.Need-enum_known-w-in-AskFrequencyRange-1
 enum-known-w-3 c = search rules
 
-may-ask-of-requires-2 : tie.Need-may-ask-of-requires-2
+may-ask-of-requires-2 : tie.Need-may_ask_of-requires-in-AskFrequencyRange
 may-ask-of-requires-2 c κs = search rules
 
-enum-known-w-4 : tie.Need-enum-known-w-4
+enum-known-w-4 : tie.Need-enum_known-w-in-SetGain-1
 enum-known-w-4 c = search rules
 
-may-set-on-requires-2 : tie.Need-may-set-on-requires-2
+may-set-on-requires-2 : tie.Need-may_set_on-requires-in-SetGain
 may-set-on-requires-2 c κs = search rules
 
-enum-known-w-5 : tie.Need-enum-known-w-5
+enum-known-w-5 : tie.Need-enum_known-w-in-AskGain-1
 enum-known-w-5 c = search rules
 
-may-ask-of-requires-3 : tie.Need-may-ask-of-requires-3
+may-ask-of-requires-3 : tie.Need-may_ask_of-requires-in-AskGain
 may-ask-of-requires-3 c κs = search rules
 
-returns : tie.Need-returns
-returns c = let w = c.before.before.w.given in rw w.1 (c.may-set-on.ensures ∙ sym (set_open w.0.0))
+returns : tie.Need-returns-in-SetFrequency
+returns c = rw c.in-SetFrequency.is (c.may_set_on.ensures ∙ sym (set_open c.in-SetFrequency.channel))
 
-returns-2 : tie.Need-returns-2
-returns-2 c = let w = c.before.before.w2.given in rw w.1 (c.may-ask-of.ensures ∙ sym (asked_open w.0.0))
+returns-2 : tie.Need-returns-in-AskFrequency
+returns-2 c = rw c.in-AskFrequency.is (c.may_ask_of.ensures ∙ sym (asked_open c.in-AskFrequency.channel))
 
-returns-3 : tie.Need-returns-3
-returns-3 c = let w = c.before.before.w3.given in rw w.1 (c.may-ask-of2.ensures ∙ sym (asked_open w.0.0))
+returns-3 : tie.Need-returns-in-AskFrequencyRange
+returns-3 c = rw c.in-AskFrequencyRange.is (c.may_ask_of-in-AskFrequencyRange.ensures ∙ sym (asked_open c.in-AskFrequencyRange.channel))
 
-returns-4 : tie.Need-returns-4
-returns-4 c = let w = c.before.before.w4.given in rw w.1 (c.may-set-on2.ensures ∙ sym (set_open w.0.0))
+returns-4 : tie.Need-returns-in-SetGain
+returns-4 c = rw c.in-SetGain.is (c.may_set_on-in-SetGain.ensures ∙ sym (set_open c.in-SetGain.channel))
 
-returns-5 : tie.Need-returns-5
-returns-5 c = let w = c.before.before.w5.given in rw w.1 (c.may-ask-of3.ensures ∙ sym (asked_open w.0.0))
+returns-5 : tie.Need-returns-in-AskGain
+returns-5 c = rw c.in-AskGain.is (c.may_ask_of-in-AskGain.ensures ∙ sym (asked_open c.in-AskGain.channel))
 
-returns-6 : tie.Need-returns-6
+returns-6 : tie.Need-returns-in_default
 unfolding channelless
-returns-6 c = sym (channelless_open c.before.args.w (matched channelless channelless _ refl c.match.keys6))
+returns-6 c = sym (channelless_open c.args.w (matched channelless channelless _ refl c.in_default.in_default-own.keys6))
 
-pub is-open-spec : {M : Type 1} → statement M
-is-open-spec =
+pub is_open_spec : {M : Type 1} → statement M
+is_open_spec =
     tie.close
     (tie.spec
     enum-known-w

@@ -5,17 +5,17 @@ use borrow.Author.Tests.{eq-eqb, ne_eqb}
 use Rattle.wishes.proofs.state_sent.Statement.{statement}
 use Rattle.wishes.proofs.state_sent.Tie as tie
 
-cast-result : tie.Need-overflow-cast-result
+cast-result : tie.Need-overflow_cast-result
 cast-result c = search rules
 
-returns : tie.Need-returns
-returns c = simp (eq-eqb _ _ c.if1.true) refl
+returns : tie.Need-returns-then-fields-eq-IDLE
+returns c = simp (eq-eqb _ _ c.if-fields-eq-IDLE.true) refl
 
-state-number-requires : tie.Need-state-number-requires
+state-number-requires : tie.Need-state_number-requires
 state-number-requires c κs = search rules
 
-returns-2 : tie.Need-returns-2
-returns-2 c = simp (ne_eqb _ _ c.before.if1.false) c.state-number.ensures
+returns-2 : tie.Need-returns
+returns-2 c = simp (ne_eqb _ _ c.if-fields-eq-IDLE.false) c.state_number.ensures
 
-pub state-sent-spec : {M : Type 1} → statement M
-state-sent-spec = tie.close (tie.spec cast-result returns state-number-requires returns-2)
+pub state_sent_spec : {M : Type 1} → statement M
+state_sent_spec = tie.close (tie.spec cast-result returns state-number-requires returns-2)

@@ -15,71 +15,71 @@ use Rattle.wishes.proofs.write.Statement.{statement}
 use Rattle.wishes.proofs.write.Tie as tie
 
 -- the call, from the first test and from the second
-abbrev start : tie.After-is-open → tie.Start
+abbrev start : tie.After-is_open → tie.Start
 start c = c.before.before
 
-abbrev opened : tie.After-is-allowed → tie.After-is-open
+abbrev opened : tie.After-is_allowed → tie.After-is_open
 opened c = c.before.before
 
-closed : (c : tie.Then1) → open_wish (start c.before).args.w ≡ false
-closed c = sym c.before.is_open.ensures ∙ not-true _ c.if1.true
+closed : (c : tie.Then-not-is_open) → open_wish (start c.before).args.w ≡ false
+closed c = sym c.is_open.ensures ∙ c.if-not-is_open.true
 
-some_open : (c : tie.Else1) → open_wish (start c.before).args.w ≡ true
-some_open c = sym c.before.is_open.ensures ∙ not-false _ c.if1.false
+some_open : (c : tie.Else-not-is_open) → open_wish (start c.before).args.w ≡ true
+some_open c = sym c.is_open.ensures ∙ c.if-not-is_open.false
 
-refused : (c : tie.Then2) → allowed_wish (start (opened c.before)).args.w ≡ false
-refused c = sym c.before.is-allowed.ensures ∙ not-true _ c.if2.true
+refused : (c : tie.Then-not-is_allowed) → allowed_wish (start (opened c.before)).args.w ≡ false
+refused c = sym c.is_allowed.ensures ∙ c.if-not-is_allowed.true
 
-taken : (c : tie.Else2) → allowed_wish (start (opened c.before)).args.w ≡ true
-taken c = sym c.before.is-allowed.ensures ∙ not-false _ c.if2.false
+taken : (c : tie.Else-not-is_allowed) → allowed_wish (start (opened c.before)).args.w ≡ true
+taken c = sym c.is_allowed.ensures ∙ c.if-not-is_allowed.false
 
-is-open-requires : tie.Need-is-open-requires
+is-open-requires : tie.Need-is_open-requires
 is-open-requires c κs = search rules
 
-returns : tie.Need-returns
+returns : tie.Need-returns-then-not-is_open
 unfolding bytes_written
 returns c =
     let a = (start c.before).args in
     let e = code_closed a.w (length a.buffer.now) (closed c) in
     (rw e, rw e)
 
-is-allowed-requires : tie.Need-is-allowed-requires
+is-allowed-requires : tie.Need-is_allowed-requires
 is-allowed-requires c κs = search rules
 
-returns-2 : tie.Need-returns-2
+returns-2 : tie.Need-returns-then-not-is_allowed
 unfolding bytes_written
 returns-2 c =
     let a = (start (opened c.before)).args in
     let e = code_not_allowed a.w (length a.buffer.now) (some_open c.before.before) (refused c) in
     (rw e, rw e)
 
-returns-3 : tie.Need-returns-3
+returns-3 : tie.Need-returns-then-buffer-lt16
 unfolding bytes_written
 returns-3 c =
     let a = (start (opened c.before.before)).args in
-    let e = code_no_room a.w (length a.buffer.now) (some_open c.before.before.before) (taken c.before) c.if3.true in
+    let e = code_no_room a.w (length a.buffer.now) (some_open c.before.before.before) (taken c.before) c.if-buffer-lt16.true in
     (rw e, rw e)
 
-layout-of-requires : tie.Need-layout-of-requires
+layout-of-requires : tie.Need-layout_of-requires
 layout-of-requires c κs = search rules
 
-put-message-requires : tie.Need-put-message-requires
+put-message-requires : tie.Need-put_message-requires
 put-message-requires c κs = search rules
 
-same_length : tie.Need-same-length
+same_length : tie.Need-shape_of-buffer
 same_length c = search rules
 
-returns-4 : tie.Need-returns-4
+returns-4 : tie.Need-returns
 unfolding bytes_written message_of
 returns-4 c =
-    let p = c.before.before in
-    let l = p.before in
-    let room = l.before.before in
-    let a = (start (opened room.before.before)).args in
-    let o = some_open room.before.before.before in
-    let e = code_written a.w (length a.buffer.now) o (taken room.before) room.if3.false in
-    let put = rw l.layout_of.ensures at p.put-message.ensures in
-    let fits = le_trans (short_message a.w) (le_trans (lit≤ tt) room.if3.false) in
+    let p = c in
+    let l = p in
+    let room = l in
+    let a = (start (opened room.before.before.before.before.before.before.before)).args in
+    let o = some_open room.before.before.before.before.before.before.before.before in
+    let e = code_written a.w (length a.buffer.now) o (taken room.before.before.before.before.before.before) room.if-buffer-lt16.false in
+    let put = rw l.layout_of.ensures at p.put_message.ensures in
+    let fits = le_trans (short_message a.w) (le_trans (lit≤ tt) room.if-buffer-lt16.false) in
     let whole = written_whole a.buffer.now (layout_of a.w) _ _ fits put in
     (rw e (ap (λ n. record { code = 1; wrote = n }) whole.0), rw e whole.1)
 

@@ -11,41 +11,41 @@ use Rattle.heads.proofs.allowed.is_allowed.Statement.{statement}
 use Rattle.heads.proofs.allowed.is_allowed.Tie as tie
 
 -- past the first test
-abbrev given : tie.Else1 → Head
-given c = c.before.before.args.h
+abbrev given : tie.Else-not-first_allowed → Head
+given c = c.args.h
 
-fine : (c : tie.Else1)
+fine : (c : tie.Else-not-first_allowed)
     → first_allowed (given c).version (given c).divisor (given c).frequency (given c).mode (given c).size ≡ true
-fine c = sym c.before.first-allowed.ensures ∙ not-false _ c.if1.false
+fine c = sym c.first_allowed.ensures ∙ c.if-not-first_allowed.false
 
-first-allowed-requires : tie.Need-first-allowed-requires
+first-allowed-requires : tie.Need-first_allowed-requires
 first-allowed-requires c κs = search rules
 
-returns : tie.Need-returns
+returns : tie.Need-returns-then-not-first_allowed
 returns c =
-    let f = c.before in
-    sym (allowed_in_two f.before.args.h (sym f.first-allowed.ensures ∙ not-true _ c.if1.true) refl)
+    let f = c in
+    sym (allowed_in_two f.args.h (sym f.first_allowed.ensures ∙ c.if-not-first_allowed.true) refl)
 
-names-well-requires : tie.Need-names-well-requires
+names-well-requires : tie.Need-names_well-requires
 names-well-requires c κs = search rules
 
-returns-2 : tie.Need-returns-2
+returns-2 : tie.Need-returns-then-h-eq2
 returns-2 c =
-    let tested = c.before in
-    let e = tested.before.before in
-    c.names-well.ensures ∙ sym (allowed_in_two (given e) (fine e) (naming_new (given e) tested.if2.true))
+    let tested = c in
+    let e = tested in
+    c.names_well.ensures ∙ sym (allowed_in_two (given e.before.before.before) (fine e.before.before.before) (naming_new (given e.before.before.before) tested.if-h-eq2.true))
 
-is-bare-requires : tie.Need-is-bare-requires
+is-bare-requires : tie.Need-is_bare-requires
 is-bare-requires c κs = search rules
 
-returns-3 : tie.Need-returns-3
+returns-3 : tie.Need-returns
 returns-3 c =
-    let tested = c.before in
-    let e = tested.before.before in
-    c.is-bare.ensures ∙ sym (allowed_in_two (given e) (fine e) (naming_old (given e) tested.if2.false))
+    let tested = c in
+    let e = tested in
+    c.is_bare.ensures ∙ sym (allowed_in_two (given e.before.before.before) (fine e.before.before.before) (naming_old (given e.before.before.before) tested.if-h-eq2.false))
 
-pub is-allowed-spec : {M : Type 1} → statement M
-is-allowed-spec =
+pub is_allowed_spec : {M : Type 1} → statement M
+is_allowed_spec =
     tie.close
     (tie.spec
     first-allowed-requires

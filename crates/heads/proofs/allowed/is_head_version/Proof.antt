@@ -6,5 +6,5 @@ use Rattle.heads.proofs.allowed.is_head_version.Tie as tie
 returns : tie.Need-returns
 returns c = rw (or_false (eqb c.args.version 2))
 
-pub is-head-version-spec : {M : Type 1} → statement M
-is-head-version-spec = tie.close (tie.spec returns)
+pub is_head_version_spec : {M : Type 1} → statement M
+is_head_version_spec = tie.close (tie.spec returns)

@@ -15,65 +15,65 @@ use Rattle.heads.proofs.moving.put_moved.Statement.{statement}
 use Rattle.heads.proofs.moving.put_moved.Tie as tie
 
 -- the call, from the first test
-abbrev start : tie.After-would-lose → tie.Start
+abbrev start : tie.After-would_lose → tie.Start
 start c = c.before.before
 
 -- nothing would be lost
-fine : (c : tie.Else1) → loses (start c.before).args.version (start c.before).args.h ≡ false
-fine c = sym c.before.would-lose.ensures ∙ c.if1.false
+fine : (c : tie.Else-would_lose) → loses (start c.before).args.version (start c.before).args.h ≡ false
+fine c = sym c.would_lose.ensures ∙ c.if-would_lose.false
 
-would-lose-requires : tie.Need-would-lose-requires
+would-lose-requires : tie.Need-would_lose-requires
 would-lose-requires c κs = search rules
 
-returns : tie.Need-returns
+returns : tie.Need-returns-then-would_lose
 returns c =
     let a = (start c.before).args in
     let code =
-    put_by a.version a.h (length a.out.now) (sym c.before.would-lose.ensures ∙ c.if1.true) refl in
+    put_by a.version a.h (length a.out.now) (sym c.would_lose.ensures ∙ c.if-would_lose.true) refl in
     (sym code, rw code)
 
-head-length-requires : tie.Need-head-length-requires
+head-length-requires : tie.Need-head_length-requires
 head-length-requires c κs = search rules
 
-returns-2 : tie.Need-returns-2
+returns-2 : tie.Need-returns-then-out-head_length
 returns-2 c =
-    let e = c.before.before in
-    let a = (start e.before).args in
-    let short = lt-ltb (length a.out.now) (head_length a.version) (omega (arith, c.if2.true, c.before.head-length.ensures)) in
-    let code = put_by a.version a.h (length a.out.now) (fine e) short in
+    let e = c in
+    let a = (start e.before.before.before).args in
+    let short = lt-ltb (length a.out.now) (head_length a.version) (omega (arith, c.if-out-head_length.true, c.head_length.ensures)) in
+    let code = put_by a.version a.h (length a.out.now) (fine e.before.before) short in
     (sym code, rw code)
 
-moved-to-requires : tie.Need-moved-to-requires
+moved-to-requires : tie.Need-moved_to-requires
 moved-to-requires c κs = search rules
 
-put-head-requires : tie.Need-put-head-requires
+put-head-requires : tie.Need-put_head-requires
 put-head-requires c κs =
-    let moved = c.before in
-    let tested = moved.before in
-    let e = tested.before.before in
-    let s = start e.before in
+    let moved = c in
+    let tested = moved in
+    let e = tested in
+    let s = start e.before.before.before.before.before in
     let version = ap (λ (h : Head). h.version) moved.moved_to.ensures in
     let room : head_length s.args.version ≤ length s.args.out.now
-    = omega (arith, tested.if2.false, tested.before.head-length.ensures) in
-    (ap is_head_version version ∙ s.pre, rw version room)
+    = omega (arith, tested.if-out-head_length.false, tested.head_length.ensures) in
+    (ap is_head_version version ∙ s.requires, rw version room)
 
-same_length : tie.Need-same-length
+same_length : tie.Need-shape_of-out
 same_length c = search rules
 
-returns-3 : tie.Need-returns-3
+returns-3 : tie.Need-returns
 returns-3 c =
-    let p = c.before.before in
-    let moved = p.before.before in
-    let tested = moved.before in
-    let e = tested.before.before in
-    let a = (start e.before).args in
+    let p = c in
+    let moved = p in
+    let tested = moved in
+    let e = tested in
+    let a = (start e.before.before.before.before.before.before.before.before).args in
     let long =
-    le-ltb (length a.out.now) (head_length a.version) (omega (arith, tested.if2.false, tested.before.head-length.ensures)) in
-    let code = put_by a.version a.h (length a.out.now) (fine e) long in
-    (sym code, rw code (p.put-head.ensures ∙ ap (λ (h : Head). sets a.out.now 0 (head_bytes h)) moved.moved_to.ensures))
+    le-ltb (length a.out.now) (head_length a.version) (omega (arith, tested.if-out-head_length.false, tested.head_length.ensures)) in
+    let code = put_by a.version a.h (length a.out.now) (fine e.before.before.before.before.before.before.before) long in
+    (sym code, rw code (p.put_head.ensures ∙ ap (λ (h : Head). sets a.out.now 0 (head_bytes h)) moved.moved_to.ensures))
 
-pub put-moved-spec : {M : Type 1} → statement M
-put-moved-spec =
+pub put_moved_spec : {M : Type 1} → statement M
+put_moved_spec =
     tie.close
     (tie.spec
     would-lose-requires

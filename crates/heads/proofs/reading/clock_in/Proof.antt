@@ -6,19 +6,19 @@ use borrow.Author.Rules.{rules}
 use Rattle.heads.proofs.reading.clock_in.Statement.{statement}
 use Rattle.heads.proofs.reading.clock_in.Tie as tie
 
-number-at-requires : tie.Need-number-at-requires
+number-at-requires : tie.Need-number_at-requires
 number-at-requires c κs = search rules
 
-cast-result : tie.Need-overflow-cast-result
+cast-result : tie.Need-overflow_cast-result
 cast-result c =
-    let s = c.before.before.before.args.s.now in
-    omega (arith, c.number_at.ensures, field_below 22 4 s (λ k. omega (arith, c.before.before.shared-slice-known.given k)))
+    let s = c.args.s.now in
+    omega (arith, c.number_at.ensures, field_below 22 4 s (λ k. omega (arith, c.shared_slice_known-1.given k)))
 
-returns : tie.Need-returns
-returns c = rw (eq-eqb _ _ c.before.if1.true) c.number_at.ensures
+returns : tie.Need-returns-then-version-eq2
+returns c = rw (eq-eqb _ _ c.if-version-eq2.true) c.number_at.ensures
 
-returns-2 : tie.Need-returns-2
-returns-2 c = rw (ne_eqb _ _ c.if1.false)
+returns-2 : tie.Need-returns
+returns-2 c = rw (ne_eqb _ _ c.if-version-eq2.false)
 
-pub clock-in-spec : {M : Type 1} → statement M
-clock-in-spec = tie.close (tie.spec number-at-requires cast-result returns returns-2)
+pub clock_in_spec : {M : Type 1} → statement M
+clock_in_spec = tie.close (tie.spec number-at-requires cast-result returns returns-2)

@@ -3,14 +3,14 @@ use borrow.Author.Rules.{rules}
 use Rattle.heads.proofs.reading.serial_in.Statement.{statement}
 use Rattle.heads.proofs.reading.serial_in.Tie as tie
 
-number-at-requires : tie.Need-number-at-requires
+number-at-requires : tie.Need-number_at-requires
 number-at-requires c κs = search rules
 
-returns : tie.Need-returns
-returns c = rw (eq-eqb _ _ c.before.if1.true) c.number_at.ensures
+returns : tie.Need-returns-then-version-eq2
+returns c = rw (eq-eqb _ _ c.if-version-eq2.true) c.number_at.ensures
 
-returns-2 : tie.Need-returns-2
-returns-2 c = rw (ne_eqb _ _ c.if1.false)
+returns-2 : tie.Need-returns
+returns-2 c = rw (ne_eqb _ _ c.if-version-eq2.false)
 
-pub serial-in-spec : {M : Type 1} → statement M
-serial-in-spec = tie.close (tie.spec number-at-requires returns returns-2)
+pub serial_in_spec : {M : Type 1} → statement M
+serial_in_spec = tie.close (tie.spec number-at-requires returns returns-2)

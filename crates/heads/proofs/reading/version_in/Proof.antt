@@ -5,16 +5,16 @@ use borrow.Author.Rules.{rules}
 use Rattle.heads.proofs.reading.version_in.Statement.{statement}
 use Rattle.heads.proofs.reading.version_in.Tie as tie
 
-number-at-requires : tie.Need-number-at-requires
+number-at-requires : tie.Need-number_at-requires
 number-at-requires c κs = search rules
 
-cast-result : tie.Need-overflow-cast-result
+cast-result : tie.Need-overflow_cast-result
 cast-result c =
-    let s = c.before.before.args.s.now in
-    omega (arith, c.number_at.ensures, field_below 3 2 s (λ k. omega (arith, c.before.shared-slice-known.given k)))
+    let s = c.args.s.now in
+    omega (arith, c.number_at.ensures, field_below 3 2 s (λ k. omega (arith, c.shared_slice_known-1.given k)))
 
 returns : tie.Need-returns
 returns c = search rules
 
-pub version-in-spec : {M : Type 1} → statement M
-version-in-spec = tie.close (tie.spec number-at-requires cast-result returns)
+pub version_in_spec : {M : Type 1} → statement M
+version_in_spec = tie.close (tie.spec number-at-requires cast-result returns)

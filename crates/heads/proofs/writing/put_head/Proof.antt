@@ -13,57 +13,57 @@ use Rattle.heads.proofs.writing.put_head.Tie as tie
 roomy : (c : tie.Start) → 14 ≤ length c.args.out.now
 roomy c = omega (arith, c.requires.1, least_long c.args.h.version)
 
-slice-relend-prefix-put-first : tie.Need-slice-relend-prefix-put-first
+slice-relend-prefix-put-first : tie.Need-slice_bounds-put_first-end
 slice-relend-prefix-put-first c = roomy c.before
 
-slice-aggregate-put-first : tie.Need-slice-aggregate-put-first
-slice-aggregate-put-first c = sym (length-take-le 14 c.before.before.args.out.now (roomy c.before.before))
+slice-aggregate-put-first : tie.Need-slice_bounds-put_first-end-2
+slice-aggregate-put-first c = sym (length-take-le 14 c.args.out.now (roomy c.before.before))
 
-put-first-requires : tie.Need-put-first-requires
+put-first-requires : tie.Need-put_first-requires
 put-first-requires c κs = search rules
 
-sub-put-rest : tie.Need-overflow-sub-put-rest
+sub-put-rest : tie.Need-slice_bounds-put_rest-count
 sub-put-rest c = search rules
 
-part-put-rest-start : tie.Need-slice-bounds-put-rest-start
+part-put-rest-start : tie.Need-slice_bounds-put_rest-start
 part-put-rest-start c = search rules
 
-part-put-rest-end : tie.Need-slice-bounds-put-rest-end
+part-put-rest-end : tie.Need-slice_bounds-put_rest-end
 part-put-rest-end c =
-    let part = c.before.before.before.before in
-    let start = part.before.before.before in
-    let long = first_long start.args.h start.args.out.now part.put_first.ensures (roomy start) in
-    let more : 26 ≤ length start.args.out.now = omega (arith, start.requires.1, ap head_length c.if1.true) in
+    let part = c in
+    let start = part in
+    let long = first_long start.args.h start.args.out.now part.put_first.ensures (roomy start.before.before.before.before.before.before.before) in
+    let more : 26 ≤ length start.args.out.now = omega (arith, start.requires.1, ap head_length c.if-h-eq2.true) in
     omega (arith, long, more)
 
-put-rest-requires : tie.Need-put-rest-requires
+put-rest-requires : tie.Need-put_rest-requires
 put-rest-requires c κs = search rules
 
-same_length : tie.Need-same-length
+same_length : tie.Need-shape_of-out-then-h-eq2
 same_length c = search rules
 
-returns : tie.Need-returns
+returns : tie.Need-returns-then-h-eq2
 returns c =
-    let rest = c.before.before in
-    let new = rest.before.before in
-    let part = new.before.before.before.before in
-    let start = part.before.before.before in
-    let more : 26 ≤ length start.args.out.now = omega (arith, start.requires.1, ap head_length new.if1.true) in
-    stored_new start.args.h start.args.out.now part.put_first.ensures (roomy start) new.if1.true more
+    let rest = c in
+    let new = rest in
+    let part = new in
+    let start = part in
+    let more : 26 ≤ length start.args.out.now = omega (arith, start.requires.1, ap head_length new.if-h-eq2.true) in
+    stored_new start.args.h start.args.out.now part.put_first.ensures (roomy start.before.before.before.before.before.before.before.before.before.before.before) new.if-h-eq2.true more
     rest.put_rest.ensures
 
-same-length-2 : tie.Need-same-length-2
+same-length-2 : tie.Need-shape_of-out-else-h-eq2
 same-length-2 c = search rules
 
-returns-2 : tie.Need-returns-2
+returns-2 : tie.Need-returns-else-h-eq2
 returns-2 c =
-    let part = c.before.before.before.before in
-    let start = part.before.before.before in
-    let one = by_version start.args.h.version start.requires.0 (λ e. e) (λ e. absurd (c.if1.false e)) in
-    stored_old start.args.h start.args.out.now part.put_first.ensures (roomy start) one
+    let part = c in
+    let start = part in
+    let one = by_version start.args.h.version start.requires.0 (λ e. e) (λ e. absurd (c.if-h-eq2.false e)) in
+    stored_old start.args.h start.args.out.now part.put_first.ensures (roomy start.before.before.before.before.before.before.before) one
 
-pub put-head-spec : {M : Type 1} → statement M
-put-head-spec =
+pub put_head_spec : {M : Type 1} → statement M
+put_head_spec =
     tie.close
     (tie.spec
     slice-relend-prefix-put-first

@@ -11,15 +11,15 @@ put-requires c κs = search rules
 put-requires-2 : tie.Need-put-requires-2
 put-requires-2 c κs = search rules
 
-same_length : tie.Need-same-length
+same_length : tie.Need-shape_of-out
 same_length c = search rules
 
 returns : tie.Need-returns
 returns c =
-    let second = c.before.before in
-    let first = second.before.before.before.before in
-    let a = first.before.before.before.args in
-    sets_then a.out.now 0 (bytes 8 a.serial) (bytes 4 a.clock) first.put.ensures second.put2.ensures
+    let second = c in
+    let first = second in
+    let a = first.args in
+    sets_then a.out.now 0 (bytes 8 a.serial) (bytes 4 a.clock) first.put.ensures second.put-2.ensures
 
-pub put-rest-spec : {M : Type 1} → statement M
-put-rest-spec = tie.close (tie.spec put-requires put-requires-2 same_length returns)
+pub put_rest_spec : {M : Type 1} → statement M
+put_rest_spec = tie.close (tie.spec put-requires put-requires-2 same_length returns)

@@ -12,56 +12,56 @@ use Rattle.heads.proofs.writing.write_head.Statement.{statement}
 use Rattle.heads.proofs.writing.write_head.Tie as tie
 
 -- the call, from the first test
-abbrev start : tie.After-is-allowed → tie.Start
+abbrev start : tie.After-is_allowed → tie.Start
 start c = c.before.before
 
 -- the head is not refused
-fine : (c : tie.Else1) → allowed_head (start c.before).args.h ≡ true
-fine c = sym c.before.is-allowed.ensures ∙ not-false _ c.if1.false
+fine : (c : tie.Else-not-is_allowed) → allowed_head (start c.before).args.h ≡ true
+fine c = sym c.is_allowed.ensures ∙ c.if-not-is_allowed.false
 
-is-allowed-requires : tie.Need-is-allowed-requires
+is-allowed-requires : tie.Need-is_allowed-requires
 is-allowed-requires c κs = search rules
 
-returns : tie.Need-returns
+returns : tie.Need-returns-then-not-is_allowed
 returns c =
     let a = (start c.before).args in
-    let code = write_by a.h (length a.out.now) (sym c.before.is-allowed.ensures ∙ not-true _ c.if1.true) refl in
+    let code = write_by a.h (length a.out.now) (sym c.is_allowed.ensures ∙ c.if-not-is_allowed.true) refl in
     (sym code, rw code)
 
-head-length-requires : tie.Need-head-length-requires
+head-length-requires : tie.Need-head_length-requires
 head-length-requires c κs = search rules
 
-returns-2 : tie.Need-returns-2
+returns-2 : tie.Need-returns-then-out-head_length
 returns-2 c =
-    let e = c.before.before in
-    let a = (start e.before).args in
+    let e = c in
+    let a = (start e.before.before.before).args in
     let short =
-    lt-ltb (length a.out.now) (head_length a.h.version) (omega (arith, c.if2.true, c.before.head-length.ensures)) in
-    let code = write_by a.h (length a.out.now) (fine e) short in
+    lt-ltb (length a.out.now) (head_length a.h.version) (omega (arith, c.if-out-head_length.true, c.head_length.ensures)) in
+    let code = write_by a.h (length a.out.now) (fine e.before.before) short in
     (sym code, rw code)
 
-put-head-requires : tie.Need-put-head-requires
+put-head-requires : tie.Need-put_head-requires
 put-head-requires c κs =
-    let tested = c.before in
-    let e = tested.before.before in
-    (is_version_lem _ (fine e), omega (arith, tested.if2.false, tested.before.head-length.ensures))
+    let tested = c in
+    let e = tested in
+    (is_version_lem _ (fine e.before.before.before), omega (arith, tested.if-out-head_length.false, tested.head_length.ensures))
 
-same_length : tie.Need-same-length
+same_length : tie.Need-shape_of-out
 same_length c = search rules
 
-returns-3 : tie.Need-returns-3
+returns-3 : tie.Need-returns
 returns-3 c =
-    let p = c.before.before in
-    let tested = p.before.before in
-    let e = tested.before.before in
-    let a = (start e.before).args in
+    let p = c in
+    let tested = p in
+    let e = tested in
+    let a = (start e.before.before.before.before.before.before.before).args in
     let long =
-    le-ltb (length a.out.now) (head_length a.h.version) (omega (arith, tested.if2.false, tested.before.head-length.ensures)) in
-    let code = write_by a.h (length a.out.now) (fine e) long in
-    (sym code, rw code p.put-head.ensures)
+    le-ltb (length a.out.now) (head_length a.h.version) (omega (arith, tested.if-out-head_length.false, tested.head_length.ensures)) in
+    let code = write_by a.h (length a.out.now) (fine e.before.before.before.before.before.before) long in
+    (sym code, rw code p.put_head.ensures)
 
-pub write-head-spec : {M : Type 1} → statement M
-write-head-spec =
+pub write_head_spec : {M : Type 1} → statement M
+write_head_spec =
     tie.close
     (tie.spec
     is-allowed-requires

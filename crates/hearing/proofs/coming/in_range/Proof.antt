@@ -15,58 +15,58 @@ use Rattle.hearing.proofs.coming.in_range.Tie as tie
 -- ---- what is known past each test, and the places before it
 
 -- the input byte is near enough
-abbrev tally : tie.Else2 → Tally
-tally c = c.before.before.before.before.before.args.t
+abbrev tally : tie.Else-t → Tally
+tally c = c.args.t
 
-near : (c : tie.Else2) → leb ((tally c).begins + (tally c).came) farthest ≡ true
+near : (c : tie.Else-t) → leb ((tally c).begins + (tally c).came) farthest ≡ true
 near c =
     let t = tally c in
     le-leb (t.begins + t.came) farthest (omega arith)
 
 -- no more packets are heard than bytes
-abbrev reached : tie.Else3 → tie.Else2
+abbrev reached : tie.Else-t-2 → tie.Else-t
 reached c = c.before.before
 
-few : (c : tie.Else3) → (let t = tally (reached c) in leb t.heard t.begins ≡ true)
-few c = le-leb _ _ c.if3.false
+few : (c : tie.Else-t-2) → (let t = tally (reached c) in leb t.heard t.begins ≡ true)
+few c = le-leb _ _ c.if-t-2.false
 
 -- nor captures begun
-abbrev counted : tie.Else4 → tie.Else3
+abbrev counted : tie.Else-t-3 → tie.Else-t-2
 counted c = c.before.before
 
-fewer : (c : tie.Else4) → (let t = tally (reached (counted c)) in leb t.captures t.begins ≡ true)
-fewer c = le-leb _ _ c.if4.false
+fewer : (c : tie.Else-t-3) → (let t = tally (reached (counted c)) in leb t.captures t.begins ≡ true)
+fewer c = le-leb _ _ c.if-t-3.false
 
-returns : tie.Need-returns
+returns : tie.Need-returns-then-t-gt-FARTHEST
 returns c =
-    let t = c.before.before.args.t in
+    let t = c.args.t in
     sym (range_by t (lt-leb (t.begins + t.came) farthest (omega arith)) refl refl refl)
 
-returns-2 : tie.Need-returns-2
+returns-2 : tie.Need-returns-then-t
 returns-2 c =
-    let t = c.before.before.before.before.before.args.t in
+    let t = c.args.t in
     sym (range_by t (lt-leb (t.begins + t.came) farthest (omega arith)) refl refl refl)
 
-returns-3 : tie.Need-returns-3
+returns-3 : tie.Need-returns-then-t-2
 returns-3 c =
-    let n = c.before.before in
-    sym (range_by (tally n) (near n) (lt-leb _ _ c.if3.true) refl refl)
+    let n = c in
+    sym (range_by (tally n.before.before) (near n.before.before) (lt-leb _ _ c.if-t-2.true) refl refl)
 
-returns-4 : tie.Need-returns-4
+returns-4 : tie.Need-returns-then-t-3
 returns-4 c =
-    let h = c.before.before in
-    let n = reached h in
-    sym (range_by (tally n) (near n) (few h) (lt-leb _ _ c.if4.true) refl)
+    let h = c in
+    let n = reached h.before.before in
+    sym (range_by (tally n) (near n) (few h.before.before) (lt-leb _ _ c.if-t-3.true) refl)
 
-is-heard-requires : tie.Need-is-heard-requires
+is-heard-requires : tie.Need-is_heard-requires
 is-heard-requires c κs = search rules
 
-returns-5 : tie.Need-returns-5
+returns-5 : tie.Need-returns
 returns-5 c =
-    let k = c.before in
-    let h = counted k in
+    let k = c in
+    let h = counted k.before in
     let n = reached h in
-    c.is-heard.ensures ∙ sym (range_by (tally n) (near n) (few h) (fewer k) refl)
+    c.is_heard.ensures ∙ sym (range_by (tally n) (near n) (few h) (fewer k.before) refl)
 
-pub in-range-spec : {M : Type 1} → statement M
-in-range-spec = tie.close (tie.spec returns returns-2 returns-3 returns-4 is-heard-requires returns-5)
+pub in_range_spec : {M : Type 1} → statement M
+in_range_spec = tie.close (tie.spec returns returns-2 returns-3 returns-4 is-heard-requires returns-5)

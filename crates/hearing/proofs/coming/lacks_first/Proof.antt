@@ -3,11 +3,11 @@ use borrow.Author.Tests.{eq-eqb, ne_eqb}
 use Rattle.hearing.proofs.coming.lacks_first.Statement.{statement}
 use Rattle.hearing.proofs.coming.lacks_first.Tie as tie
 
-returns : tie.Need-returns
-returns c = rw (eq-eqb _ 0 c.if1.true)
+returns : tie.Need-returns-then-t-eq0
+returns c = rw (eq-eqb _ 0 c.if-t-eq0.true)
 
-returns-2 : tie.Need-returns-2
-returns-2 c = rw (ne_eqb _ 0 c.before.if1.false)
+returns-2 : tie.Need-returns
+returns-2 c = rw (ne_eqb _ 0 c.if-t-eq0.false)
 
-pub lacks-first-spec : {M : Type 1} → statement M
-lacks-first-spec = tie.close (tie.spec returns returns-2)
+pub lacks_first_spec : {M : Type 1} → statement M
+lacks_first_spec = tie.close (tie.spec returns returns-2)

@@ -13,65 +13,65 @@ use Rattle.hearing.proofs.pieces.follow.Statement.{statement}
 use Rattle.hearing.proofs.pieces.follow.Tie as tie
 
 -- where the packet's first four bytes are read: its number is in them
-abbrev start : tie.After-word-at → tie.Start
+abbrev start : tie.After-word_at-front → tie.Start
 start c = c.before.before.before
 
-abbrev piece : tie.After-word-at → List ℕ
+abbrev piece : tie.After-word_at-front → List ℕ
 piece c = (start c).args.piece.now
 
-small : (c : tie.After-word-at) (k : ℕ) → get_or (piece c) k 0 < 256
-small c k = omega (arith, c.before.before.shared-slice-known.given k)
+small : (c : tie.After-word_at-front) (k : ℕ) → get_or (piece c) k 0 < 256
+small c k = omega (arith, c.shared_slice_known-1.given k)
 
-number : (c : tie.After-word-at) → c.word_at.result / 65536 ≡ two_at (piece c) ((start c).args.at + 2)
-number c = ap (λ (n : ℕ). n / 65536) c.word_at.ensures ∙ word_number (piece c) (start c).args.at (small c)
+number : (c : tie.After-word_at-front) → c.word_at-front.result / 65536 ≡ two_at (piece c) ((start c).args.at + 2)
+number c = ap (λ (n : ℕ). n / 65536) c.word_at-front.ensures ∙ word_number (piece c) (start c).args.at (small c)
 
-sub-if1 : tie.Need-overflow-sub-if1
+sub-if1 : tie.Need-overflow_sub-piece
 sub-if1 c = search rules
 
-returns : tie.Need-returns
+returns : tie.Need-returns-then-piece-at
 returns c = search rules
 
-word-at-requires : tie.Need-word-at-requires
+word-at-requires : tie.Need-word_at-front-requires
 word-at-requires c κs = search rules
 
-returns-2 : tie.Need-returns-2
+returns-2 : tie.Need-returns-then-front-header
 returns-2 c = search rules
 
-cast-number : tie.Need-overflow-cast-number
+cast-number : tie.Need-overflow_cast-number
 cast-number c = search rules
 
-returns-3 : tie.Need-returns-3
+returns-3 : tie.Need-returns-then-number-eq0
 returns-3 c = search rules
 
 step-requires : tie.Need-step-requires
 step-requires c κs = search rules
 
-add-next : tie.Need-overflow-add-next
+add-next : tie.Need-overflow_add-next
 add-next c =
-    let w = c.before.before.before in
-    let some : 0 < w.word_at.result / 65536 = omega (arith, c.before.if3.false) in
-    omega (arith, c.step.ensures, (is_step_lem (start w).args.«before» (w.word_at.result / 65536) (omega arith) some (omega arith)).1)
+    let w = c in
+    let some : 0 < w.word_at-front.result / 65536 = omega (arith, c.if-number-eq0.false) in
+    omega (arith, c.step.ensures, (is_step_lem (start w.before.before.before).args.«before» (w.word_at-front.result / 65536) (omega arith) some (omega arith)).1)
 
-returns-4 : tie.Need-returns-4
+returns-4 : tie.Need-returns-then-next-gt-LAST
 returns-4 c = search rules
 
-returns-5 : tie.Need-returns-5
+returns-5 : tie.Need-returns
 returns-5 c =
-    let s = c.before in
-    let third = s.before in
-    let second = third.before in
-    let w = second.before in
-    let a = (start w).args in
+    let s = c in
+    let third = s in
+    let second = third in
+    let w = second in
+    let a = (start w.before.before.before.before).args in
     λ some. record {
-      room = omega (arith, w.before.if1.false, (start w).requires);
-      header = sym (word_header (piece w) a.at (small w)) ∙ ap (λ (n : ℕ). n % 65536) (sym w.word_at.ensures) ∙ second.if2.false;
-      above = omega (arith, number w, third.if3.false);
-      here = ap (λ (n : ℕ). a.position + n) (s.step.ensures ∙ ap (step_of a.«before») (number w));
-      fits = c.if4.false;
+      room = omega (arith, w.if-piece-at.false, (start w.before.before.before.before).requires);
+      header = sym (word_header (piece w.before.before.before.before) a.at (small w.before.before.before.before)) ∙ ap (λ (n : ℕ). n % 65536) (sym w.word_at-front.ensures) ∙ second.if-front-header.false;
+      above = omega (arith, number w.before.before.before.before, third.if-number-eq0.false);
+      here = ap (λ (n : ℕ). a.position + n) (s.step.ensures ∙ ap (step_of a.«before») (number w.before.before.before.before));
+      fits = c.if-next-gt-LAST.false;
     }
 
-pub follow-spec : {M : Type 1} → statement M
-follow-spec =
+pub follow_spec : {M : Type 1} → statement M
+follow_spec =
     tie.close
     (tie.spec
     sub-if1

@@ -5,21 +5,21 @@ use Rattle.hearing.proofs.Heard.{not_none}
 use Rattle.hearing.proofs.pieces.is_between.Statement.{statement}
 use Rattle.hearing.proofs.pieces.is_between.Tie as tie
 
-returns : tie.Need-returns
+returns : tie.Need-returns-then-t-ne0
 returns c = λ e. absurd (true_not_false (sym e))
 
-returns-2 : tie.Need-returns-2
+returns-2 : tie.Need-returns-then-t-ne0-2
 returns-2 c = λ e. absurd (true_not_false (sym e))
 
-returns-3 : tie.Need-returns-3
+returns-3 : tie.Need-returns-then-t-ne0-3
 returns-3 c = λ e. absurd (true_not_false (sym e))
 
-returns-4 : tie.Need-returns-4
+returns-4 : tie.Need-returns
 returns-4 c =
-    let third = c.before in
-    let second = third.before.before in
-    let first = second.before.before in
-    λ e. record { came = first.if1.false; header = second.if2.false; number = third.if3.false; heard = not_none _ e }
+    let third = c in
+    let second = third in
+    let first = second in
+    λ e. record { came = first.if-t-ne0.false; header = second.if-t-ne0-2.false; number = third.if-t-ne0-3.false; heard = not_none _ e }
 
-pub is-between-spec : {M : Type 1} → statement M
-is-between-spec = tie.close (tie.spec returns returns-2 returns-3 returns-4)
+pub is_between_spec : {M : Type 1} → statement M
+is_between_spec = tie.close (tie.spec returns returns-2 returns-3 returns-4)

@@ -4,13 +4,13 @@ use Rattle.hearing.proofs.pieces.next_tally.Statement.{statement}
 use Rattle.hearing.proofs.pieces.next_tally.Tie as tie
 
 accept-requires : tie.Need-accept-requires
-accept-requires c κs = c.before.before.requires c.if1.true
+accept-requires c κs = c.requires c.if-r-eq-DONE.true
 
-returns : tie.Need-returns
-returns c = rw (eq-eqb _ 1 c.before.if1.true) c.accept.ensures
+returns : tie.Need-returns-then-r-eq-DONE
+returns c = rw (eq-eqb _ 1 c.if-r-eq-DONE.true) c.accept.ensures
 
-returns-2 : tie.Need-returns-2
-returns-2 c = rw (ne_eqb _ 1 c.before.if1.false)
+returns-2 : tie.Need-returns
+returns-2 c = rw (ne_eqb _ 1 c.if-r-eq-DONE.false)
 
-pub next-tally-spec : {M : Type 1} → statement M
-next-tally-spec = tie.close (tie.spec accept-requires returns returns-2)
+pub next_tally_spec : {M : Type 1} → statement M
+next_tally_spec = tie.close (tie.spec accept-requires returns returns-2)

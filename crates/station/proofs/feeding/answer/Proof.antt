@@ -16,7 +16,7 @@ use Rattle.station.proofs.feeding.answer.Tie as tie
 
 -- the ten bytes, and what their type says of them
 abbrev ten : tie.Start → List ℕ
-ten c = c.args.t2
+ten c = c.args.opening
 
 ten_bytes : (c : tie.Start) (k : ℕ) → get_or (ten c) k 0 < 256
 ten_bytes c k = fit.fits
@@ -25,53 +25,53 @@ ten_bytes c k = fit.fits
     fit = search rules
 
 -- the calls that read the header, and the start
-abbrev sized : tie.After-answer → tie.After-length-in
+abbrev sized : tie.After-answer → tie.After-length_in
 sized c = c.before.before.before
 
-abbrev typed : tie.After-answer → tie.After-type-in
+abbrev typed : tie.After-answer → tie.After-type_in
 typed c = (sized c).before
 
-abbrev numbered : tie.After-answer → tie.After-number-at
+abbrev numbered : tie.After-answer → tie.After-number_at-header
 numbered c = (typed c).before
 
-abbrev start : tie.After-number-at → tie.Start
+abbrev start : tie.After-number_at-header → tie.Start
 start c = c.before.before.before
 
 -- the message that is handed on
 handed_is : (c : tie.After-answer)
-    → ◌≡◌ {A = Message} (record { type = (typed c).type-in.result; size = (sized c).length-in.result; bytes = ten (start (numbered c)) })
+    → ◌≡◌ {A = Message} (record { type = (typed c).type_in.result; size = (sized c).length_in.result; bytes = ten (start (numbered c)) })
     (opened_message (ten (start (numbered c))))
 handed_is c =
-    message_is (ten (start (numbered c))) (numbered c).number_at.result (typed c).type-in.result (sized c).length-in.result
-    (numbered c).number_at.ensures (typed c).type-in.ensures (sized c).length-in.ensures
+    message_is (ten (start (numbered c))) (numbered c).number_at-header.result (typed c).type_in.result (sized c).length_in.result
+    (numbered c).number_at-header.ensures (typed c).type_in.ensures (sized c).length_in.ensures
 
-slice-aggregate-number-at : tie.Need-slice-aggregate-number-at
+slice-aggregate-number-at : tie.Need-slice_bounds-number_at-end
 slice-aggregate-number-at c = search rules
 
-number-at-requires : tie.Need-number-at-requires
+number-at-requires : tie.Need-number_at-header-requires
 number-at-requires c κs = search rules
 
-cast-header : tie.Need-overflow-cast-header
+cast-header : tie.Need-overflow_cast-header
 cast-header c =
-    record { fits = rw c.number_at.ensures (field_below 0 2 (ten (start c)) (ten_bytes (start c))) }
+    record { fits = rw c.number_at-header.ensures (field_below 0 2 (ten (start c)) (ten_bytes (start c))) }
 
-type-in-requires : tie.Need-type-in-requires
+type-in-requires : tie.Need-type_in-requires
 type-in-requires c κs = search rules
 
-length-in-requires : tie.Need-length-in-requires
+length-in-requires : tie.Need-length_in-requires
 length-in-requires c κs = search rules
 
 answer-requires : tie.Need-answer-requires
 answer-requires c κs = search rules
 
-same_length : tie.Need-same-length
+same_length : tie.Need-shape_of-reply
 same_length c = search rules
 
 returns : tie.Need-returns
-returns c = let r = c.before.before in rw (← handed_is r) r.answer.ensures
+returns c = let r = c in rw (← handed_is r.before.before) r.answer.ensures
 
-pub answer-spec : {M : Type 1} → statement M
-answer-spec =
+pub answer_spec : {M : Type 1} → statement M
+answer_spec =
     tie.close
     (tie.spec
     slice-aggregate-number-at

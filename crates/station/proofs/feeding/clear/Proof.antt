@@ -11,28 +11,28 @@ use borrow.Author.Rules.{rules}
 use Rattle.station.proofs.feeding.clear.Statement.{statement}
 use Rattle.station.proofs.feeding.clear.Tie as tie
 
-between-requires : tie.Need-between-requires
+between-requires : tie.Need-between-none-requires
 between-requires c κs = search rules
 
 copy-requires : tie.Need-copy-requires
 copy-requires c κs = search rules
 
-same_length : tie.Need-same-length
+same_length : tie.Need-shape_of-held
 same_length c = search rules
 
-returns : tie.Need-returns
+returns : tie.Need-returns-then-taken-gt0
 returns c =
-    let k = c.before.before in
-    let b = k.before.before.before.before.before in
-    let s = b.before.before.before in
+    let k = c in
+    let b = k in
+    let s = b in
     let held = s.args.held.now in
     k.copy.ensures
-    ∙ ap (λ (t : Store). sets held 0 t.held) b.between.ensures
+    ∙ ap (λ (t : Store). sets held 0 t.held) b.between-none.ensures
     ∙ sets_whole held between.held (omega (arith, left_long (record { held = held; taken = s.args.taken }) s.requires))
 
-returns-2 : tie.Need-returns-2
+returns-2 : tie.Need-returns-else-taken-gt0
 returns-2 c =
-    let s = c.before.before in
+    let s = c in
     left_empty (record { held = s.args.held.now; taken = s.args.taken }) s.requires (omega arith)
 
 pub clear_spec : {M : Type 1} → statement M

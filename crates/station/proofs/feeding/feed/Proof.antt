@@ -20,27 +20,27 @@ whole f held =
 together : (fed : Fed) (f : FedHeld) (held : List ℕ) → f ≡ parts_of fed → held ≡ fed.station.store.held → whole f held ≡ fed
 together fed f held parts kept = rw (parts, kept) refl
 
-abbrev start : tie.After-feed-held → tie.Start
+abbrev start : tie.After-feed_held-fed → tie.Start
 start c = c.before.before.before.before.before.before.before.before
 
-slice-aggregate-feed-held : tie.Need-slice-aggregate-feed-held
+slice-aggregate-feed-held : tie.Need-slice_bounds-feed_held-end
 slice-aggregate-feed-held c = search rules
 
-feed-held-requires : tie.Need-feed-held-requires
+feed-held-requires : tie.Need-feed_held-fed-requires
 feed-held-requires c κs = search rules
 
-same_length : tie.Need-same-length
+same_length : tie.Need-shape_of-reply
 same_length c = search rules
 
 returns : tie.Need-returns
 returns c =
-    let fed = c.before.before.before.before in
-    let f = fed.feed-held in
-    let a = (start fed).args in (
-      together (feeding_of a.s a.host.now (length a.reply.now)).fed f.result f.new.1.0 f.ensures.0
+    let fed = c in
+    let f = fed.feed_held-fed in
+    let a = (start fed.before.before.before.before).args in (
+      together (feeding_of a.s a.host.now (length a.reply.now)).fed f.result f.new.held f.ensures.0
           f.ensures.1,
       f.ensures.2,
     )
 
-pub feed-spec : {M : Type 1} → statement M
-feed-spec = tie.close (tie.spec slice-aggregate-feed-held feed-held-requires same_length returns)
+pub feed_spec : {M : Type 1} → statement M
+feed_spec = tie.close (tie.spec slice-aggregate-feed-held feed-held-requires same_length returns)
