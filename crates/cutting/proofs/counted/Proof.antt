@@ -3,7 +3,7 @@ use borrow.Author.Rules.{rules}
 use Rattle.cutting.proofs.counted.Statement.{statement}
 use Rattle.cutting.proofs.counted.Tie as tie
 
-add-after : tie.Need-overflow-add-after
+add-after : tie.Need-overflow_add-after
 add-after c = search rules
 
 returns : tie.Need-returns

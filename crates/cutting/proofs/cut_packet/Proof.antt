@@ -16,25 +16,25 @@ together : (made : Cut) (r : CutHeld) (store : Store) → r ≡ parts_of made �
     → record { code = r.code; wrote = r.wrote; station = record { settings = r.settings; store = store } } ≡ made
 together made r store told kept = rw (told, ← kept) refl
 
-slice-aggregate-cut-held : tie.Need-slice-aggregate-cut-held
+slice-aggregate-cut-held : tie.Need-slice_bounds-cut_held-end
 slice-aggregate-cut-held c = search rules
 
-cut-held-requires : tie.Need-cut-held-requires
+cut-held-requires : tie.Need-cut_held-cut-requires
 cut-held-requires c κs = search rules
 
-same_length : tie.Need-same-length
+same_length : tie.Need-shape_of-packet
 same_length c = search rules
 
 returns : tie.Need-returns
 returns c =
-    let r = c.before.before.before in
-    let a = r.before.before.before.before.before.before.before.args in
+    let r = c in
+    let a = r.args in
     let n = length a.packet.now in (
-      together (cutting_of a.s a.samples.now n).cut r.cut-held.result a.s.store r.cut-held.ensures.0
+      together (cutting_of a.s a.samples.now n).cut r.cut_held-cut.result a.s.store r.cut_held-cut.ensures.0
           (cutting_holds a.s a.samples.now n),
-      r.cut-held.ensures.1,
+      r.cut_held-cut.ensures.1,
     )
 
-pub cut-packet-spec : {M : Type 1} → statement M
-cut-packet-spec =
+pub cut_packet_spec : {M : Type 1} → statement M
+cut_packet_spec =
     tie.close (tie.spec slice-aggregate-cut-held cut-held-requires same_length returns)

@@ -7,52 +7,52 @@ use lib.ListN.{length-set}
 use Rattle.cutting.proofs.put_leading.Statement.{statement}
 use Rattle.cutting.proofs.put_leading.Tie as tie
 
-cast-header-of : tie.Need-overflow-cast-header-of
+cast-header-of : tie.Need-overflow_cast-total
 cast-header-of c = search rules
 
-header-of-requires : tie.Need-header-of-requires
+header-of-requires : tie.Need-header_of-header-requires
 header-of-requires c κs = search rules
 
-number-at-position-requires : tie.Need-number-at-position-requires
+number-at-position-requires : tie.Need-number_at_position-number-requires
 number-at-position-requires c κs = search rules
 
-cast-packet : tie.Need-overflow-cast-packet
+cast-packet : tie.Need-overflow_cast-packet
 cast-packet c = search rules
 
-slice-write-packet : tie.Need-slice-write-packet
+slice-write-packet : tie.Need-bounds-packet-0
 slice-write-packet c = search rules
 
-cast-packet-2 : tie.Need-overflow-cast-packet-2
+cast-packet-2 : tie.Need-overflow_cast-packet-2
 cast-packet-2 c = search rules
 
-slice-write-packet-2 : tie.Need-slice-write-packet-2
+slice-write-packet-2 : tie.Need-bounds-packet-1
 slice-write-packet-2 c = simp length-set (omega arith)
 
-cast-packet-3 : tie.Need-overflow-cast-packet-3
+cast-packet-3 : tie.Need-overflow_cast-packet-3
 cast-packet-3 c = search rules
 
-slice-write-packet-3 : tie.Need-slice-write-packet-3
+slice-write-packet-3 : tie.Need-bounds-packet-2
 slice-write-packet-3 c = simp length-set (omega arith)
 
-cast-packet-4 : tie.Need-overflow-cast-packet-4
+cast-packet-4 : tie.Need-overflow_cast-packet-4
 cast-packet-4 c = search rules
 
-slice-write-packet-4 : tie.Need-slice-write-packet-4
+slice-write-packet-4 : tie.Need-bounds-packet-3
 slice-write-packet-4 c = search rules
 
-same_length : tie.Need-same-length
+same_length : tie.Need-shape_of-packet
 same_length c = search rules
 
 returns : tie.Need-returns
 returns c =
-    let header = c.before.header_of.result in
-    let number = c.number-at-position.result in
+    let header = c.header_of-header.result in
+    let number = c.number_at_position-number.result in
     let first : header / 256 ≡ header / 256 % 256 = omega arith in
     let second : number / 256 ≡ number / 256 % 256 = omega arith in
-    rw (first, second, c.before.header_of.ensures, c.number-at-position.ensures)
+    rw (first, second, c.header_of-header.ensures, c.number_at_position-number.ensures)
 
-pub put-leading-spec : {M : Type 1} → statement M
-put-leading-spec =
+pub put_leading_spec : {M : Type 1} → statement M
+put_leading_spec =
     tie.close
     (tie.spec
     cast-header-of

@@ -15,82 +15,82 @@ use Rattle.replies.proofs.read.Statement.{statement}
 use Rattle.replies.proofs.read.Tie as tie
 
 -- the call, from the first test
-abbrev start : tie.After-is-open → tie.Start
+abbrev start : tie.After-is_open → tie.Start
 start c = c.before.before
 
-abbrev wish : tie.After-is-open → Wish
+abbrev wish : tie.After-is_open → Wish
 wish c = (start c).args.w
 
-abbrev came : tie.After-is-open → List ℕ
+abbrev came : tie.After-is_open → List ℕ
 came c = (start c).args.bytes.now
 
 -- the wish is open
-open_here : (c : tie.Else1) → open_wish (wish c.before) ≡ true
-open_here c = sym c.before.is_open.ensures ∙ not-false c.before.is_open.result c.if1.false
+open_here : (c : tie.Else-not-is_open) → open_wish (wish c.before) ≡ true
+open_here c = sym c.is_open.ensures ∙ c.if-not-is_open.false
 
 -- and allowed
-allowed_here : (c : tie.Else2) → allowed_wish (wish c.before.before.before) ≡ true
-allowed_here c = sym c.before.is-allowed.ensures ∙ not-false c.before.is-allowed.result c.if2.false
+allowed_here : (c : tie.Else-not-is_allowed) → allowed_wish (wish c.before.before.before) ≡ true
+allowed_here c = sym c.is_allowed.ensures ∙ c.if-not-is_allowed.false
 
 -- and what came is not NAK
-abbrev fine : tie.After-is-nak → tie.Else2
+abbrev fine : tie.After-is_nak → tie.Else-not-is_allowed
 fine c = c.before
 
-no_nak : (c : tie.Else3) → is_nak (came (fine c.before).before.before.before) ≡ false
-no_nak c = sym c.before.is-nak.ensures ∙ c.if3.false
+no_nak : (c : tie.Else-is_nak) → is_nak (came (fine c.before).before.before.before) ≡ false
+no_nak c = sym c.is_nak.ensures ∙ c.if-is_nak.false
 
-is-open-requires : tie.Need-is-open-requires
+is-open-requires : tie.Need-is_open-requires
 is-open-requires c κs = search rules
 
-returns : tie.Need-returns
+returns : tie.Need-returns-then-not-is_open
 returns c =
-    let a = c.before in
-    read_closed (wish a) (came a) (sym a.is_open.ensures ∙ not-true a.is_open.result c.if1.true)
+    let a = c in
+    read_closed (wish a.before) (came a.before) (sym a.is_open.ensures ∙ c.if-not-is_open.true)
 
-is-allowed-requires : tie.Need-is-allowed-requires
+is-allowed-requires : tie.Need-is_allowed-requires
 is-allowed-requires c κs = search rules
 
-returns-2 : tie.Need-returns-2
+returns-2 : tie.Need-returns-then-not-is_allowed
 returns-2 c =
-    let a = c.before in
-    let o = a.before in
-    let refused = sym a.is-allowed.ensures ∙ not-true a.is-allowed.result c.if2.true in
-    read_refused (wish o.before) (came o.before) (open_here o) refused
+    let a = c in
+    let o = a in
+    let refused = sym a.is_allowed.ensures ∙ c.if-not-is_allowed.true in
+    read_refused (wish o.before.before.before) (came o.before.before.before) (open_here o.before.before) refused
 
-is-nak-requires : tie.Need-is-nak-requires
+is-nak-requires : tie.Need-is_nak-requires
 is-nak-requires c κs = search rules
 
-returns-3 : tie.Need-returns-3
+returns-3 : tie.Need-returns-then-is_nak
 returns-3 c =
     let e = fine c.before in
-    let o = e.before.before in
-    read_nak (wish o.before) (came o.before) (open_here o) (allowed_here e) (sym c.before.is-nak.ensures ∙ c.if3.true)
+    let o = e in
+    read_nak (wish o.before.before.before) (came o.before.before.before) (open_here o.before.before) (allowed_here e) (sym c.is_nak.ensures ∙ c.if-is_nak.true)
 
-enum-known-w : tie.Need-enum-known-w
+enum-known-w : tie.Need-enum_known-w
 enum-known-w c = search rules
 
-read-range-requires : tie.Need-read-range-requires
+read-range-requires : tie.Need-read_range-requires
 read-range-requires c κs =
-    let e = fine c.before.before.before.before in
-    let o = e.before.before in
-    (ap open_wish (sym c.before.w.given.1) ∙ open_here o, no_nak c.before.before.before)
+    let e = fine c.before.before in
+    let o = e in
+    (ap open_wish (sym c.in-AskFrequencyRange.is) ∙ open_here o.before.before, no_nak c.before)
 
-returns-4 : tie.Need-returns-4
+returns-4 : tie.Need-returns-in-AskFrequencyRange
 returns-4 c =
-    let matched = c.before.before in
+    let matched = c in
     let o = (fine matched.before.before.before).before.before in
-    c.read-range.ensures ∙ ap (λ (w : Wish). reply_reader_says w (came o.before)) (sym c.before.before.w.given.1)
+    c.read_range.ensures ∙ ap (λ (w : Wish). reply_reader_says w (came o.before)) (sym c.in-AskFrequencyRange.is)
 
-read-value-requires : tie.Need-read-value-requires
+read-value-requires : tie.Need-read_value-requires
 unfolding unranged
 read-value-requires c κs =
     let e = fine c.before.before in
-    let o = e.before.before in
-    let other = not_range (wish o.before) (matched unranged unranged _ refl c.match.keys2) in
-    (open_here o, allowed_here e, other, no_nak c.before)
+    let o = e in
+    let other = not_range (wish o.before.before.before) (matched unranged unranged _ refl c.in_default.in_default-own.keys2) in
+    (open_here o.before.before, allowed_here e, other, no_nak c.before)
 
-returns-5 : tie.Need-returns-5
-returns-5 c = c.read-value.ensures
+returns-5 : tie.Need-returns
+returns-5 c = c.read_value.ensures
 
 pub read_spec : {M : Type 1} → statement M
 read_spec =

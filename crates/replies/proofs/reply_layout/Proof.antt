@@ -5,16 +5,16 @@ use Rattle.replies.proofs.Values.{plain}
 use Rattle.replies.proofs.reply_layout.Statement.{statement}
 use Rattle.replies.proofs.reply_layout.Tie as tie
 
-layout-of-requires : tie.Need-layout-of-requires
+layout-of-requires : tie.Need-layout_of-asked-requires
 layout-of-requires c κs = search rules
 
-width-of-requires : tie.Need-width-of-requires
+width-of-requires : tie.Need-width_of-requires
 width-of-requires c κs = search rules
 
 returns : tie.Need-returns
 returns c =
-    let a = c.before.before in
-    rw (c.before.layout_of.ensures, c.width_of_lem.ensures, (plain a.args.w a.requires).1) refl
+    let a = c in
+    rw (c.layout_of-asked.ensures, c.width_of.ensures, (plain a.args.w a.requires).1) refl
 
-pub reply-layout-spec : {M : Type 1} → statement M
-reply-layout-spec = tie.close (tie.spec layout-of-requires width-of-requires returns)
+pub reply_layout_spec : {M : Type 1} → statement M
+reply_layout_spec = tie.close (tie.spec layout-of-requires width-of-requires returns)

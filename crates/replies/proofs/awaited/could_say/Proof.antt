@@ -12,80 +12,80 @@ use Rattle.replies.proofs.Recognised.{rate_achieved}
 use Rattle.replies.proofs.awaited.could_say.Statement.{statement}
 use Rattle.replies.proofs.awaited.could_say.Tie as tie
 
-enum_told : tie.Need-enum-told
+enum_told : tie.Need-enum_told-1
 enum_told c = search rules
 
-enum-told-2 : tie.Need-enum-told-2
+enum-told-2 : tie.Need-enum_told-in-AskSerial
 enum-told-2 c = search rules
 
-is-serial-requires : tie.Need-is-serial-requires
+is-serial-requires : tie.Need-is_serial-requires
 is-serial-requires c κs = search rules
 
-enum-told-3 : tie.Need-enum-told-3
+enum-told-3 : tie.Need-enum_told-in-AskInterface
 enum-told-3 c = search rules
 
-enum-known-w : tie.Need-enum-known-w
+enum-known-w : tie.Need-enum_known-w
 enum-known-w c = search rules
 
-version-of-requires : tie.Need-version-of-requires
+version-of-requires : tie.Need-version_of-requires
 version-of-requires c κs = search rules
 
-enum-told-4 : tie.Need-enum-told-4
+enum-told-4 : tie.Need-enum_told-in-AskStatus
 enum-told-4 c = search rules
 
-is-status-requires : tie.Need-is-status-requires
+is-status-requires : tie.Need-is_status-requires
 is-status-requires c κs = search rules
 
-enum-known-w-2 : tie.Need-enum-known-w-2
+enum-known-w-2 : tie.Need-enum_known-w-in-SetState-1
 enum-known-w-2 c = search rules
 
-state-could-requires : tie.Need-state-could-requires
+state-could-requires : tie.Need-state_could-requires
 state-could-requires c κs = search rules
 
-enum-told-5 : tie.Need-enum-told-5
+enum-told-5 : tie.Need-enum_told-in-AskState
 enum-told-5 c = search rules
 
-is-state-requires : tie.Need-is-state-requires
+is-state-requires : tie.Need-is_state-requires
 is-state-requires c κs = search rules
 
-enum-told-6 : tie.Need-enum-told-6
+enum-told-6 : tie.Need-enum_told-in-AskChannelSetup
 enum-told-6 c = search rules
 
-cast-is-setup : tie.Need-overflow-cast-is-setup
+cast-is-setup : tie.Need-overflow_cast-n
 cast-is-setup c =
-    let byte : c.before.before.args.n < 256 = rw c.enum-told6.given.1 at c.before.before.requires.2 in
+    let byte : c.args.n < 256 = rw c.in-AskChannelSetup.is at c.requires.2 in
     record { fits = omega arith }
 
-is-setup-requires : tie.Need-is-setup-requires
+is-setup-requires : tie.Need-is_setup-requires
 is-setup-requires c κs = search rules
 
-enum-told-7 : tie.Need-enum-told-7
+enum-told-7 : tie.Need-enum_told-in-AskFrequency
 enum-told-7 c = search rules
 
-in-bands-requires : tie.Need-in-bands-requires
+in-bands-requires : tie.Need-in_bands-requires
 in-bands-requires c κs = search rules
 
-enum-told-8 : tie.Need-enum-told-8
+enum-told-8 : tie.Need-enum_told-in-AskGain
 enum-told-8 c = search rules
 
-cast-is-gain : tie.Need-overflow-cast-is-gain
+cast-is-gain : tie.Need-overflow_cast-n-in-AskGain
 cast-is-gain c =
-    let byte : c.before.before.args.n < 256 = rw c.enum-told8.given.1 at c.before.before.requires.2 in
+    let byte : c.args.n < 256 = rw c.in-AskGain.is at c.requires.2 in
     record { fits = omega arith }
 
-is-gain-requires : tie.Need-is-gain-requires
+is-gain-requires : tie.Need-is_gain-requires
 is-gain-requires c κs = search rules
 
-enum-told-9 : tie.Need-enum-told-9
+enum-told-9 : tie.Need-enum_told-in-AskClock
 enum-told-9 c = search rules
 
-cast-is-clock : tie.Need-overflow-cast-is-clock
-cast-is-clock c = record { fits = rw c.enum-told9.given.1 at c.before.before.requires.2 }
+cast-is-clock : tie.Need-overflow_cast-n-in-AskClock
+cast-is-clock c = record { fits = rw c.in-AskClock.is at c.requires.2 }
 
-is-clock-requires : tie.Need-is-clock-requires
+is-clock-requires : tie.Need-is_clock-requires
 is-clock-requires c κs = search rules
 
-enum-known-w-3 : tie.Need-enum-known-w-3
+enum-known-w-3 : tie.Need-enum_known-w-in-SetRate-1
 enum-known-w-3 c = search rules
 
 nearest-requires : tie.Need-nearest-requires
@@ -94,88 +94,88 @@ nearest-requires c κs = search rules
 achieved-requires : tie.Need-achieved-requires
 achieved-requires c κs = search rules
 
-cast-result : tie.Need-overflow-cast-result
+cast-result : tie.Need-overflow_cast-result
 cast-result c = search rules
 
-enum-told-10 : tie.Need-enum-told-10
+enum-told-10 : tie.Need-enum_told-in-AskRate
 enum-told-10 c = search rules
 
-cast-d-of : tie.Need-overflow-cast-d-of
-cast-d-of c = record { fits = rw c.enum-told10.given.1 at c.before.before.requires.2 }
+cast-d-of : tie.Need-overflow_cast-n-in-AskRate
+cast-d-of c = record { fits = rw c.in-AskRate.is at c.requires.2 }
 
-d-of-requires : tie.Need-d-of-requires
+d-of-requires : tie.Need-d_of-requires
 d-of-requires c κs = search rules
 
-enum-told-11 : tie.Need-enum-told-11
+enum-told-11 : tie.Need-enum_told-in-AskPacketSize
 enum-told-11 c = search rules
 
-cast-is-size : tie.Need-overflow-cast-is-size
+cast-is-size : tie.Need-overflow_cast-n-in-AskPacketSize
 cast-is-size c =
-    let byte : c.before.before.args.n < 256 = rw c.enum-told11.given.1 at c.before.before.requires.2 in
+    let byte : c.args.n < 256 = rw c.in-AskPacketSize.is at c.requires.2 in
     record { fits = omega arith }
 
-is-size-requires : tie.Need-is-size-requires
+is-size-requires : tie.Need-is_size-requires
 is-size-requires c κs = search rules
 
-layout-of-requires : tie.Need-layout-of-requires
+layout-of-requires : tie.Need-layout_of-requires
 layout-of-requires c κs = search rules
 
-returns : tie.Need-returns
-returns c = rw c.enum_told.given.1
+returns : tie.Need-returns-in-AskName
+returns c = rw c.in-AskName.is
 
-returns-2 : tie.Need-returns-2
-returns-2 c = rw c.before.enum-told2.given.1 c.is-serial.ensures
+returns-2 : tie.Need-returns-in-AskSerial
+returns-2 c = rw c.in-AskSerial.is c.is_serial.ensures
 
-returns-3 : tie.Need-returns-3
-returns-3 c = rw c.enum-told3.given.1
+returns-3 : tie.Need-returns-in-AskInterface
+returns-3 c = rw c.in-AskInterface.is
 
-returns-4 : tie.Need-returns-4
-returns-4 c = rw c.before.before.w.given.1 (ap (eqb c.before.before.before.before.args.n) c.version_of.ensures)
+returns-4 : tie.Need-returns-in-AskVersion
+returns-4 c = rw c.in-AskVersion.is (ap (eqb c.args.n) c.version_of.ensures)
 
-returns-5 : tie.Need-returns-5
-returns-5 c = rw c.before.enum-told4.given.1 c.is-status.ensures
+returns-5 : tie.Need-returns-in-AskStatus
+returns-5 c = rw c.in-AskStatus.is c.is_status.ensures
 
-returns-6 : tie.Need-returns-6
-returns-6 c = rw c.before.before.w2.given.1 c.state-could.ensures
+returns-6 : tie.Need-returns-in-SetState
+returns-6 c = rw c.in-SetState.is c.state_could.ensures
 
-returns-7 : tie.Need-returns-7
-returns-7 c = rw c.before.enum-told5.given.1 c.is_state.ensures
+returns-7 : tie.Need-returns-in-AskState
+returns-7 c = rw c.in-AskState.is c.is_state.ensures
 
-returns-8 : tie.Need-returns-8
-returns-8 c = rw c.before.enum-told6.given.1 c.is-setup.ensures
+returns-8 : tie.Need-returns-in-AskChannelSetup
+returns-8 c = rw c.in-AskChannelSetup.is c.is_setup.ensures
 
-returns-9 : tie.Need-returns-9
-returns-9 c = rw c.before.enum-told7.given.1 c.in-bands.ensures
+returns-9 : tie.Need-returns-in-AskFrequency
+returns-9 c = rw c.in-AskFrequency.is c.in_bands.ensures
 
-returns-10 : tie.Need-returns-10
-returns-10 c = rw c.before.enum-told8.given.1 c.is-gain.ensures
+returns-10 : tie.Need-returns-in-AskGain
+returns-10 c = rw c.in-AskGain.is c.is_gain.ensures
 
-returns-11 : tie.Need-returns-11
-returns-11 c = rw c.before.enum-told9.given.1 c.is-clock.ensures
+returns-11 : tie.Need-returns-in-AskClock
+returns-11 c = rw c.in-AskClock.is c.is_clock.ensures
 
-returns-12 : tie.Need-returns-12
+returns-12 : tie.Need-returns-in-SetRate
 returns-12 c =
-    let k = c.before.before in
-    let start = k.before.before.before in
-    let asked = rw k.before.w3.given.1 at start.requires.0 in
-    rw k.before.w3.given.1
-    (ap (eqb start.args.n) (rate_achieved _ _ _ asked c.before.nearest.ensures c.achieved.ensures))
+    let k = c in
+    let start = k in
+    let asked = rw k.in-SetRate.is at start.requires.0 in
+    rw k.in-SetRate.is
+    (ap (eqb start.args.n) (rate_achieved _ _ _ asked c.nearest.ensures c.achieved.ensures))
 
-returns-13 : tie.Need-returns-13
-returns-13 c = rw c.before.enum-told10.given.1 (ap (ltb 0) c.d-of.ensures ∙ rate_listed _)
+returns-13 : tie.Need-returns-in-AskRate
+returns-13 c = rw c.in-AskRate.is (ap (ltb 0) c.d_of.ensures ∙ rate_listed _)
 
-returns-14 : tie.Need-returns-14
-returns-14 c = rw c.before.enum-told11.given.1 c.is-size.ensures
+returns-14 : tie.Need-returns-in-AskPacketSize
+returns-14 c = rw c.in-AskPacketSize.is c.is_size.ensures
 
-returns-15 : tie.Need-returns-15
+returns-15 : tie.Need-returns-in_default
 unfolding echoed
 returns-15 c =
-    let start = c.before.before.before in
-    ap (λ (a : Layout). eqb start.args.n a.value) c.before.layout_of.ensures
-    ∙ echoes start.args.w start.args.n (matched echoed echoed _ refl c.before.before.match.keys15) start.requires.1
+    let start = c in
+    ap (λ (a : Layout). eqb start.args.n a.value) c.layout_of.ensures
+    ∙ echoes start.args.w start.args.n (matched echoed echoed _ refl c.in_default.in_default-own.keys15) start.requires.1
 
-pub could-say-spec : {M : Type 1} → statement M
-could-say-spec =
+pub could_say_spec : {M : Type 1} → statement M
+could_say_spec =
     tie.close
     (tie.spec
     enum_told

@@ -7,17 +7,17 @@ use Rattle.replies.specs.Awaited.{state_shown}
 use Rattle.replies.proofs.awaited.is_shown.Statement.{statement}
 use Rattle.replies.proofs.awaited.is_shown.Tie as tie
 
-state-number-requires : tie.Need-state-number-requires
+state-number-requires : tie.Need-state_number-requires
 state-number-requires c κs = search rules
 
-state-number-requires-2 : tie.Need-state-number-requires-2
+state-number-requires-2 : tie.Need-state_number-requires-2
 state-number-requires-2 c κs = search rules
 
 returns : tie.Need-returns
 returns c =
-    let a = c.before.before.args in
-    rw (c.before.state-number.ensures, c.state-number2.ensures)
+    let a = c.args in
+    rw (c.state_number.ensures, c.state_number-2.ensures)
     (ap (λ (b : Bool). eqb a.n (state_shown a.run 0x80) || b) (sym (or-false (eqb a.n (state_shown a.run 0x00)))))
 
-pub is-shown-spec : {M : Type 1} → statement M
-is-shown-spec = tie.close (tie.spec state-number-requires state-number-requires-2 returns)
+pub is_shown_spec : {M : Type 1} → statement M
+is_shown_spec = tie.close (tie.spec state-number-requires state-number-requires-2 returns)

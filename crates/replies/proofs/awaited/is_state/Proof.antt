@@ -18,14 +18,14 @@ in_either n = go (eqb n (state_shown 1 0x80)) (eqb n (state_shown 1 0x00)) (one_
     go false true r = refl
     go false false r = refl
 
-is-shown-requires : tie.Need-is-shown-requires
+is-shown-requires : tie.Need-is_shown-requires
 is-shown-requires c κs = search rules
 
-is-shown-requires-2 : tie.Need-is-shown-requires-2
+is-shown-requires-2 : tie.Need-is_shown-requires-2
 is-shown-requires-2 c κs = search rules
 
 returns : tie.Need-returns
-returns c = rw (c.before.is-shown.ensures, c.is-shown2.ensures) (in_either c.before.before.args.n)
+returns c = rw (c.is_shown.ensures, c.is_shown-2.ensures) (in_either c.args.n)
 
-pub is-state-spec : {M : Type 1} → statement M
-is-state-spec = tie.close (tie.spec is-shown-requires is-shown-requires-2 returns)
+pub is_state_spec : {M : Type 1} → statement M
+is_state_spec = tie.close (tie.spec is-shown-requires is-shown-requires-2 returns)

@@ -7,37 +7,37 @@ use Rattle.replies.proofs.Bytes.{byte_signed, lowered, lowered_fits, lowered_wid
 use Rattle.replies.proofs.awaited.signed_byte.Statement.{statement}
 use Rattle.replies.proofs.awaited.signed_byte.Tie as tie
 
-byte : (c : tie.Else1) → c.before.args.byte < 256
+byte : (c : tie.Else-byte-lt128) → c.args.byte < 256
 byte c = omega arith
 
-cast-result : tie.Need-overflow-cast-result
+cast-result : tie.Need-overflow_cast-result
 cast-result c = search rules
 
-returns : tie.Need-returns
-returns c = byte_signed c.before.args.byte
+returns : tie.Need-returns-then-byte-lt128
+returns c = byte_signed c.args.byte
 
-cast-result-2 : tie.Need-overflow-cast-result-2
+cast-result-2 : tie.Need-overflow_cast-result-2
 cast-result-2 c = search rules
 
-sub-result : tie.Need-overflow-sub-result
+sub-result : tie.Need-overflow_sub-result
 sub-result c =
-    let n = c.before.args.byte in
-    rw (lowered n c.if1.false (byte c)) (lowered_wide n c.if1.false (byte c))
+    let n = c.args.byte in
+    rw (lowered n c.if-byte-lt128.false (byte c)) (lowered_wide n c.if-byte-lt128.false (byte c))
 
-cast-result-3 : tie.Need-overflow-cast-result-3
+cast-result-3 : tie.Need-overflow_cast-result-3
 cast-result-3 c =
-    let n = c.before.args.byte in
-    let wide = lowered_wide n c.if1.false (byte c) in
-    rw (lowered n c.if1.false (byte c), to_z-of_z wide) (lowered_fits n c.if1.false (byte c))
+    let n = c.args.byte in
+    let wide = lowered_wide n c.if-byte-lt128.false (byte c) in
+    rw (lowered n c.if-byte-lt128.false (byte c), to_z-of_z wide) (lowered_fits n c.if-byte-lt128.false (byte c))
 
-returns-2 : tie.Need-returns-2
+returns-2 : tie.Need-returns
 returns-2 c =
-    let n = c.before.args.byte in
-    let wide = lowered_wide n c.if1.false (byte c) in
-    let fits = lowered_fits n c.if1.false (byte c) in
-    rw (lowered n c.if1.false (byte c), to_z-of_z wide, to_z-of_z fits)
-    (lowered_signed n c.if1.false (byte c))
+    let n = c.args.byte in
+    let wide = lowered_wide n c.if-byte-lt128.false (byte c) in
+    let fits = lowered_fits n c.if-byte-lt128.false (byte c) in
+    rw (lowered n c.if-byte-lt128.false (byte c), to_z-of_z wide, to_z-of_z fits)
+    (lowered_signed n c.if-byte-lt128.false (byte c))
 
-pub signed-byte-spec : {M : Type 1} → statement M
-signed-byte-spec =
+pub signed_byte_spec : {M : Type 1} → statement M
+signed_byte_spec =
     tie.close (tie.spec cast-result returns cast-result-2 sub-result cast-result-3 returns-2)

@@ -8,47 +8,47 @@ use Rattle.replies.proofs.Rests.{byte_differs, byte_turn, ended}
 use Rattle.replies.proofs.compared.same_from.Statement.{statement}
 use Rattle.replies.proofs.compared.same_from.Tie as tie
 
-abbrev invariant-loop : tie.invariant-loop
+abbrev invariant-loop : tie.invariant-loop-i
 invariant-loop a b from i₀ i = same (drop i a) (drop i b) ≡ same (drop from a) (drop from b)
 
-abbrev decreases-loop : tie.decreases-loop
+abbrev decreases-loop : tie.decreases-loop-i
 decreases-loop a b from i₀ i = length a - i
 
-loop-holds : tie.Need-loop-init invariant-loop decreases-loop
+loop-holds : tie.Need-loop-i-init invariant-loop decreases-loop
 loop-holds c = refl
 
-shared-slice-read-if1 : tie.Need-shared-slice-read-if1 invariant-loop decreases-loop
+shared-slice-read-if1 : tie.Need-bounds-a-i invariant-loop decreases-loop
 shared-slice-read-if1 c = omega arith
 
-shared-slice-read-if1-2 : tie.Need-shared-slice-read-if1-2 invariant-loop decreases-loop
-shared-slice-read-if1-2 c = omega (arith, c.before.before.before.before.requires)
+shared-slice-read-if1-2 : tie.Need-bounds-b-i invariant-loop decreases-loop
+shared-slice-read-if1-2 c = omega (arith, c.requires)
 
-returns : tie.Need-returns invariant-loop decreases-loop
+returns : tie.Need-returns-then-a-i invariant-loop decreases-loop
 returns c =
-    let l = c.before.before.before.before in
-    let s = l.before in
-    sym (byte_differs s.args.a.now s.args.b.now s.requires l.loop.i (omega arith) c.if1.true) ∙ l.loop.invariant
+    let l = c in
+    let s = l in
+    sym (byte_differs s.args.a.now s.args.b.now s.requires l.loop-i.i (omega arith) c.if-a-i.true) ∙ l.loop-i.invariant
 
-add-i : tie.Need-overflow-add-i invariant-loop decreases-loop
+add-i : tie.Need-overflow_add-i invariant-loop decreases-loop
 add-i c = omega arith
 
-loop-less : tie.Need-loop-smaller invariant-loop decreases-loop
+loop-less : tie.Need-loop-i-smaller invariant-loop decreases-loop
 loop-less c = omega arith
 
-loop-again : tie.Need-loop-preserved invariant-loop decreases-loop
+loop-again : tie.Need-loop-i-preserved invariant-loop decreases-loop
 loop-again c =
-    let l = c.before.before.before.before in
-    let s = l.before in
-    sym (byte_turn s.args.a.now s.args.b.now s.requires l.loop.i (omega arith) c.if1.false) ∙ l.loop.invariant
+    let l = c in
+    let s = l in
+    sym (byte_turn s.args.a.now s.args.b.now s.requires l.loop-i.i (omega arith) c.if-a-i.false) ∙ l.loop-i.invariant
 
-returns-2 : tie.Need-returns-2 invariant-loop decreases-loop
+returns-2 : tie.Need-returns invariant-loop decreases-loop
 returns-2 c =
-    let l = c.before in
-    let s = l.before in
-    sym (ended s.args.a.now s.args.b.now s.requires l.loop.i (omega arith)) ∙ l.loop.invariant
+    let l = c in
+    let s = l in
+    sym (ended s.args.a.now s.args.b.now s.requires l.loop-i.i (omega arith)) ∙ l.loop-i.invariant
 
-pub same-from-spec : {M : Type 1} → statement M
-same-from-spec =
+pub same_from_spec : {M : Type 1} → statement M
+same_from_spec =
     tie.close
     (tie.spec
     invariant-loop

@@ -11,75 +11,75 @@ use borrow.Author.Rules.{rules}
 use Rattle.replies.proofs.compared.same_words.Statement.{statement}
 use Rattle.replies.proofs.compared.same_words.Tie as tie
 
-abbrev invariant-loop : tie.invariant-loop
+abbrev invariant-loop : tie.invariant-loop-i
 invariant-loop a b n i₀ i = (i ≤ n) × (same (drop i a) (drop i b) ≡ same a b)
 
-abbrev decreases-loop : tie.decreases-loop
+abbrev decreases-loop : tie.decreases-loop-i
 decreases-loop a b n i₀ i = n - i
 
 -- the call, from the loop, where the lengths are the same
-abbrev start : tie.At-loop invariant-loop decreases-loop → tie.Start invariant-loop decreases-loop
+abbrev start : tie.At-loop-i invariant-loop decreases-loop → tie.Start invariant-loop decreases-loop
 start c = c.before.before.before.before
 
-abbrev left : tie.At-loop invariant-loop decreases-loop → List ℕ
+abbrev left : tie.At-loop-i invariant-loop decreases-loop → List ℕ
 left c = (start c).args.a.now
 
-abbrev right : tie.At-loop invariant-loop decreases-loop → List ℕ
+abbrev right : tie.At-loop-i invariant-loop decreases-loop → List ℕ
 right c = (start c).args.b.now
 
-even : (c : tie.At-loop invariant-loop decreases-loop) → length (left c) ≡ length (right c)
-even c = c.before.if1.false
+even : (c : tie.At-loop-i invariant-loop decreases-loop) → length (left c) ≡ length (right c)
+even c = c.if-n-b.false
 
-returns : tie.Need-returns invariant-loop decreases-loop
+returns : tie.Need-returns-then-n-b invariant-loop decreases-loop
 returns c =
-    let a = c.before.before.before.args in
-    sym (ne_same a.a.now a.b.now (λ is. c.if1.true (ap length is)))
+    let a = c.args in
+    sym (ne_same a.a.now a.b.now (λ is. c.if-n-b.true (ap length is)))
 
-loop-holds : tie.Need-loop-init invariant-loop decreases-loop
+loop-holds : tie.Need-loop-i-init invariant-loop decreases-loop
 loop-holds c = (omega arith, refl)
 
-sub-loop : tie.Need-overflow-sub-loop invariant-loop decreases-loop
-sub-loop c = c.loop.invariant.0
+sub-loop : tie.Need-overflow_sub-n invariant-loop decreases-loop
+sub-loop c = c.loop-i.invariant.0
 
-number-at-requires : tie.Need-number-at-requires invariant-loop decreases-loop
+number-at-requires : tie.Need-number_at-requires invariant-loop decreases-loop
 number-at-requires c κs = search rules
 
-number-at-requires-2 : tie.Need-number-at-requires-2 invariant-loop decreases-loop
+number-at-requires-2 : tie.Need-number_at-requires-in-loop-i invariant-loop decreases-loop
 number-at-requires-2 c κs = search rules
 
-returns-2 : tie.Need-returns-2 invariant-loop decreases-loop
+returns-2 : tie.Need-returns-then-number_at invariant-loop decreases-loop
 returns-2 c =
-    let w = c.before in
-    let l = w.before.before.before in
-    sym (word_differs (left l) (right l) l.loop.i
-    (λ is. c.if2.true (w.before.number_at.ensures ∙ is ∙ sym w.number-at2.ensures)))
-    ∙ l.loop.invariant.1
+    let w = c in
+    let l = w in
+    sym (word_differs (left l.before.before.before.before) (right l.before.before.before.before) l.loop-i.i
+    (λ is. c.if-number_at.true (w.number_at.ensures ∙ is ∙ sym w.number_at-in-loop-i.ensures)))
+    ∙ l.loop-i.invariant.1
 
-add-i : tie.Need-overflow-add-i invariant-loop decreases-loop
+add-i : tie.Need-overflow_add-i invariant-loop decreases-loop
 add-i c = omega arith
 
-loop-less : tie.Need-loop-smaller invariant-loop decreases-loop
+loop-less : tie.Need-loop-i-smaller invariant-loop decreases-loop
 loop-less c = omega arith
 
-loop-again : tie.Need-loop-preserved invariant-loop decreases-loop
+loop-again : tie.Need-loop-i-preserved invariant-loop decreases-loop
 loop-again c =
-    let w = c.before in
-    let l = w.before.before.before in
-    let is = sym w.before.number_at.ensures ∙ c.if2.false ∙ w.number-at2.ensures in
-    let known = l.before.before in
+    let w = c in
+    let l = w in
+    let is = sym w.number_at.ensures ∙ c.if-number_at.false ∙ w.number_at-in-loop-i.ensures in
+    let known = l in
     let turn =
-    word_turn (left l) (right l) (even l) (λ k. (known.before.shared-slice-known.given k).fits)
-    (λ k. (known.shared-slice-known2.given k).fits) l.loop.i (omega arith) is in
-    (omega arith, sym turn ∙ l.loop.invariant.1)
+    word_turn (left l.before.before.before.before) (right l.before.before.before.before) (even l.before.before.before.before) (λ k. (known.shared_slice_known-1.given k).fits)
+    (λ k. (known.shared_slice_known-2-1.given k).fits) l.loop-i.i (omega arith) is in
+    (omega arith, sym turn ∙ l.loop-i.invariant.1)
 
-same-from-requires : tie.Need-same-from-requires invariant-loop decreases-loop
+same-from-requires : tie.Need-same_from-requires invariant-loop decreases-loop
 same-from-requires c κs = even c.before
 
-returns-3 : tie.Need-returns-3 invariant-loop decreases-loop
-returns-3 c = c.same_from.ensures ∙ c.before.before.loop.invariant.1
+returns-3 : tie.Need-returns invariant-loop decreases-loop
+returns-3 c = c.same_from.ensures ∙ c.loop-i.invariant.1
 
-pub same-words-spec : {M : Type 1} → statement M
-same-words-spec =
+pub same_words_spec : {M : Type 1} → statement M
+same_words_spec =
     tie.close
     (tie.spec
     invariant-loop
