@@ -3,17 +3,17 @@ use borrow.Author.Rules.{rules}
 use Rattle.headwords.proofs.is_bits_word.Statement.{statement}
 use Rattle.headwords.proofs.is_bits_word.Tie as tie
 
-slice-aggregate-is-either : tie.Need-slice-aggregate-is-either
+slice-aggregate-is-either : tie.Need-is_either-requires
 slice-aggregate-is-either c = search rules
 
-slice-aggregate-is-either-2 : tie.Need-slice-aggregate-is-either-2
+slice-aggregate-is-either-2 : tie.Need-returns-then-is_either
 slice-aggregate-is-either-2 c = search rules
 
-is-either-requires : tie.Need-is-either-requires
+is-either-requires : tie.Need-is_either-requires-2
 is-either-requires c κs = search rules
 
 returns : tie.Need-returns
-returns c = rw (sym c.before.is-either.ensures ∙ c.if1.true)
+returns c = rw (sym c.is_either.ensures ∙ c.if-is_either.true)
 
 slice-aggregate-is-either-3 : tie.Need-slice-aggregate-is-either-3
 slice-aggregate-is-either-3 c = search rules
@@ -29,8 +29,8 @@ returns-2 c =
     let e = c.before.before.before in
     rw (sym e.before.is-either.ensures ∙ e.if1.false) c.is-either2.ensures
 
-pub is-bits-word-spec : {M : Type 1} → statement M
-is-bits-word-spec =
+pub is_bits_word_spec : {M : Type 1} → statement M
+is_bits_word_spec =
     tie.close
     (tie.spec
     slice-aggregate-is-either

@@ -9,5 +9,5 @@ same-requires c κs = search rules
 returns : tie.Need-returns
 returns c = same_test _ _ _ c.same.ensures.0 c.same.ensures.1
 
-pub is-same-spec : {M : Type 1} → statement M
-is-same-spec = tie.close (tie.spec same-requires returns)
+pub is_same_spec : {M : Type 1} → statement M
+is_same_spec = tie.close (tie.spec same-requires returns)

@@ -9,22 +9,22 @@ use borrow.Author.Rules.{rules}
 use Rattle.headwords.proofs.is_serial_word.Statement.{statement}
 use Rattle.headwords.proofs.is_serial_word.Tie as tie
 
-slice-aggregate-is-same : tie.Need-slice-aggregate-is-same
+slice-aggregate-is-same : tie.Need-is_same-requires
 slice-aggregate-is-same c = search rules
 
-is-same-requires : tie.Need-is-same-requires
+is-same-requires : tie.Need-returns-then-is_same
 is-same-requires c κs = search rules
 
-returns : tie.Need-returns
-returns c = rw (sym c.before.is_same.ensures ∙ c.if1.true)
+returns : tie.Need-returns-then-word-ne8
+returns c = rw (sym c.is_same.ensures ∙ c.if-is_same.true)
 
-returns-2 : tie.Need-returns-2
-returns-2 c = rw (sym c.before.before.is_same.ensures ∙ c.before.if1.false, ne_eqb _ _ c.if2.true)
+returns-2 : tie.Need-number_at-requires
+returns-2 c = rw (sym c.is_same.ensures ∙ c.if-is_same.false, ne_eqb _ _ c.if-word-ne8.true)
 
-number-at-requires : tie.Need-number-at-requires
+number-at-requires : tie.Need-is_serial-requires
 number-at-requires c κs = search rules
 
-is-serial-requires : tie.Need-is-serial-requires
+is-serial-requires : tie.Need-returns
 is-serial-requires c κs = search rules
 
 returns-3 : tie.Need-returns-3
@@ -36,8 +36,8 @@ returns-3 c =
     rw (sym tested.before.is_same.ensures ∙ tested.if1.false)
     (c.is-serial.ensures ∙ ap holds_serial c.before.number_at.ensures ∙ holds_there word small c.before.before.if2.false)
 
-pub is-serial-word-spec : {M : Type 1} → statement M
-is-serial-word-spec =
+pub is_serial_word_spec : {M : Type 1} → statement M
+is_serial_word_spec =
     tie.close
     (tie.spec
     slice-aggregate-is-same

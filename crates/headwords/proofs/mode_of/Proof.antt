@@ -3,19 +3,19 @@ use borrow.Author.Rules.{rules}
 use Rattle.headwords.proofs.mode_of.Statement.{statement}
 use Rattle.headwords.proofs.mode_of.Tie as tie
 
-slice-aggregate-is-either : tie.Need-slice-aggregate-is-either
+slice-aggregate-is-either : tie.Need-is_either-requires
 slice-aggregate-is-either c = search rules
 
-slice-aggregate-is-either-2 : tie.Need-slice-aggregate-is-either-2
+slice-aggregate-is-either-2 : tie.Need-chosen-requires
 slice-aggregate-is-either-2 c = search rules
 
-is-either-requires : tie.Need-is-either-requires
+is-either-requires : tie.Need-returns-then-is_either
 is-either-requires c κs = search rules
 
-slice-aggregate-chosen : tie.Need-slice-aggregate-chosen
+slice-aggregate-chosen : tie.Need-chosen-requires-2
 slice-aggregate-chosen c = search rules
 
-chosen-requires : tie.Need-chosen-requires
+chosen-requires : tie.Need-returns
 chosen-requires c κs = search rules
 
 returns : tie.Need-returns
@@ -34,8 +34,8 @@ returns-2 c =
     let e = c.before.before in
     rw (sym e.before.is-either.ensures ∙ e.if1.false) c.chosen2.ensures
 
-pub mode-of-spec : {M : Type 1} → statement M
-mode-of-spec =
+pub mode_of_spec : {M : Type 1} → statement M
+mode_of_spec =
     tie.close
     (tie.spec
     slice-aggregate-is-either

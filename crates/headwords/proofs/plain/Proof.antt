@@ -13,94 +13,94 @@ use borrow.Author.Rules.{rules}
 use Rattle.headwords.proofs.plain.Statement.{statement}
 use Rattle.headwords.proofs.plain.Tie as tie
 
-number-of-requires : tie.Need-number-of-requires
+number-of-requires : tie.Need-number_of-divisor-requires
 number-of-requires c κs = search rules
 
-is-d-requires : tie.Need-is-d-requires
+is-d-requires : tie.Need-is_d-requires
 is-d-requires c κs = search rules
 
 -- the start, and the good words up to each test
-abbrev begun : tie.After-is-d → tie.Start
+abbrev begun : tie.After-is_d → tie.Start
 begun c = c.before.before.before.before.before.before
 
-tested_d : (c : tie.After-is-d) → is_d (number_of (begun c).args.d.now) ≡ c.is-d.result
-tested_d c = sym (c.is-d.ensures ∙ ap is_d c.before.number_of_lem.ensures)
+tested_d : (c : tie.After-is_d) → is_d (number_of (begun c).args.d.now) ≡ c.is_d.result
+tested_d c = sym (c.is_d.ensures ∙ ap is_d c.number_of-divisor.ensures)
 
-abbrev first : tie.After-in-bands → tie.After-is-d
+abbrev first : tie.After-in_bands → tie.After-is_d
 first c = c.before.before.before
 
-good_d : (c : tie.After-in-bands) → is_d (number_of (begun (first c)).args.d.now) ≡ true
-good_d c = tested_d (first c) ∙ not-false _ c.before.before.if1.false
+good_d : (c : tie.After-in_bands) → is_d (number_of (begun (first c)).args.d.now) ≡ true
+good_d c = tested_d (first c) ∙ c.if-not-is_d.false
 
-tested_hz : (c : tie.After-in-bands) → in_bands (number_of (begun (first c)).args.hz.now) ≡ c.in-bands.result
-tested_hz c = sym (c.in-bands.ensures ∙ ap in_bands c.before.number-of2.ensures)
+tested_hz : (c : tie.After-in_bands) → in_bands (number_of (begun (first c)).args.hz.now) ≡ c.in_bands.result
+tested_hz c = sym (c.in_bands.ensures ∙ ap in_bands c.number_of-frequency.ensures)
 
-abbrev second : tie.After-is-bits-word → tie.After-in-bands
+abbrev second : tie.After-is_bits_word → tie.After-in_bands
 second c = c.before.before
 
-good_hz : (c : tie.After-is-bits-word) → in_bands (number_of (begun (first (second c))).args.hz.now) ≡ true
-good_hz c = tested_hz (second c) ∙ not-false _ c.before.if2.false
+good_hz : (c : tie.After-is_bits_word) → in_bands (number_of (begun (first (second c))).args.hz.now) ≡ true
+good_hz c = tested_hz (second c) ∙ c.if-not-in_bands.false
 
-abbrev third : tie.After-is-either → tie.After-is-bits-word
-third c = c.before.before.before.before
+abbrev third : tie.After-is_either → tie.After-is_bits_word
+third c = c.before.before.before.before.before.before
 
-abbrev bits_at : tie.After-is-bits-word → List ℕ
+abbrev bits_at : tie.After-is_bits_word → List ℕ
 bits_at c = (begun (first (second c))).args.bits.now
 
-abbrev size_at : tie.After-is-either → List ℕ
+abbrev size_at : tie.After-is_either → List ℕ
 size_at c = (begun (first (second (third c)))).args.size.now
 
-tested_bits : (c : tie.After-is-bits-word) → bits_word (bits_at c) ≡ c.is-bits-word.result
-tested_bits c = sym c.is-bits-word.ensures
+tested_bits : (c : tie.After-is_bits_word) → bits_word (bits_at c) ≡ c.is_bits_word.result
+tested_bits c = sym c.is_bits_word.ensures
 
-good_bits : (c : tie.After-is-either) → bits_word (bits_at (third c)) ≡ true
-good_bits c = tested_bits (third c) ∙ not-false _ c.before.before.before.if3.false
+good_bits : (c : tie.After-is_either) → bits_word (bits_at (third c)) ≡ true
+good_bits c = tested_bits (third c) ∙ c.if-not-is_bits_word.false
 
-tested_size : (c : tie.After-is-either) → (same (size_at c) large || same (size_at c) small) ≡ c.is-either.result
-tested_size c = sym c.is-either.ensures
+tested_size : (c : tie.After-is_either) → (same (size_at c) large || same (size_at c) small) ≡ c.is_either.result
+tested_size c = sym c.is_either.ensures
 
-returns : tie.Need-returns
-returns c = (sym (plain_by_lem _ _ _ _ (tested_d c.before ∙ not-true _ c.if1.true) refl refl refl), tt)
+returns : tie.Need-returns-then-not-is_d
+returns c = (sym (plain_by_lem _ _ _ _ (tested_d c.before ∙ c.if-not-is_d.true) refl refl refl), tt)
 
-number-of-requires-2 : tie.Need-number-of-requires-2
+number-of-requires-2 : tie.Need-number_of-frequency-requires
 number-of-requires-2 c κs = search rules
 
-cast-frequency : tie.Need-overflow-cast-frequency
+cast-frequency : tie.Need-overflow_cast-frequency
 cast-frequency c = search rules
 
-in-bands-requires : tie.Need-in-bands-requires
+in-bands-requires : tie.Need-in_bands-requires
 in-bands-requires c κs = search rules
 
-returns-2 : tie.Need-returns-2
+returns-2 : tie.Need-returns-then-not-in_bands
 returns-2 c =
-    let at = c.before in
-    (sym (plain_by_lem _ _ _ _ (good_d at) (tested_hz at ∙ not-true _ c.if2.true) refl refl), tt)
+    let at = c in
+    (sym (plain_by_lem _ _ _ _ (good_d at.before) (tested_hz at.before ∙ c.if-not-in_bands.true) refl refl), tt)
 
-is-bits-word-requires : tie.Need-is-bits-word-requires
+is-bits-word-requires : tie.Need-is_bits_word-requires
 is-bits-word-requires c κs = search rules
 
-returns-3 : tie.Need-returns-3
+returns-3 : tie.Need-returns-then-not-is_bits_word
 returns-3 c =
-    let at = c.before in
-    let bad = tested_bits at ∙ not-true _ c.if3.true in
-    (sym (plain_by_lem _ _ _ _ (good_d (second at)) (good_hz at) bad refl), tt)
+    let at = c in
+    let bad = tested_bits at.before ∙ c.if-not-is_bits_word.true in
+    (sym (plain_by_lem _ _ _ _ (good_d (second at.before)) (good_hz at.before) bad refl), tt)
 
-slice-aggregate-is-either : tie.Need-slice-aggregate-is-either
+slice-aggregate-is-either : tie.Need-is_either-requires
 slice-aggregate-is-either c = search rules
 
-slice-aggregate-is-either-2 : tie.Need-slice-aggregate-is-either-2
+slice-aggregate-is-either-2 : tie.Need-returns-then-not-is_either
 slice-aggregate-is-either-2 c = search rules
 
-is-either-requires : tie.Need-is-either-requires
+is-either-requires : tie.Need-mode_of-requires
 is-either-requires c κs = search rules
 
-returns-4 : tie.Need-returns-4
+returns-4 : tie.Need-chosen-requires
 returns-4 c =
-    let at = c.before in
-    let bad = tested_size at ∙ not-true _ c.if4.true in
-    (sym (plain_by_lem _ _ _ _ (good_d (second (third at))) (good_hz (third at)) (good_bits at) bad), tt)
+    let at = c in
+    let bad = tested_size at.before.before.before.before ∙ c.if-not-is_either.true in
+    (sym (plain_by_lem _ _ _ _ (good_d (second (third at.before.before.before.before))) (good_hz (third at.before.before.before.before)) (good_bits at.before.before.before.before) bad), tt)
 
-mode-of-requires : tie.Need-mode-of-requires
+mode-of-requires : tie.Need-returns
 mode-of-requires c κs = search rules
 
 slice-aggregate-chosen : tie.Need-slice-aggregate-chosen
@@ -119,8 +119,8 @@ returns-5 c =
     let hz = (second (third at)).before.number-of2.ensures in
     plain_is _ _ _ _ d hz c.before.before.Mode-of.ensures c.chosen.ensures whole
 
-pub plain-spec : {M : Type 1} → statement M
-plain-spec =
+pub plain_spec : {M : Type 1} → statement M
+plain_spec =
     tie.close
     (tie.spec
     number-of-requires

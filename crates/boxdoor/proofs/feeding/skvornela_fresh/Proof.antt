@@ -4,26 +4,26 @@ use borrow.Author.Rules.{rules}
 use Rattle.boxdoor.proofs.feeding.skvornela_fresh.Statement.{statement}
 use Rattle.boxdoor.proofs.feeding.skvornela_fresh.Tie as tie
 
-fresh-requires : tie.Need-fresh-requires
+fresh-requires : tie.Need-fresh-began-requires
 fresh-requires c κs = search rules
 
-put-station-requires : tie.Need-put-station-requires
+put-station-requires : tie.Need-put_station-requires
 put-station-requires c κs = search rules
 
-same_length : tie.Need-same-length
+same_length : tie.Need-shape_of-state-then-state-eq-LENGTH
 same_length c = search rules
 
-returns : tie.Need-returns
+returns : tie.Need-returns-then-state-eq-LENGTH
 returns c =
-    let written = c.before.before in
-    let fresh = written.before.before.before in
-    let whole = fresh.before in
-    let a = whole.before.before.before.args in
-    fresh_whole a.serial.now a.state.now _ _ whole.if1.true fresh.fresh.ensures written.put-station.ensures
+    let written = c in
+    let fresh = written in
+    let whole = fresh in
+    let a = whole.args in
+    fresh_whole a.serial.now a.state.now _ _ whole.if-state-eq-LENGTH.true fresh.fresh-began.ensures written.put_station.ensures
 
-returns-2 : tie.Need-returns-2
-returns-2 c = fresh_broken _ _ c.if1.false
+returns-2 : tie.Need-returns
+returns-2 c = fresh_broken _ _ c.if-state-eq-LENGTH.false
 
-pub skvornela-fresh-spec : {M : Type 1} → statement M
-skvornela-fresh-spec =
+pub skvornela_fresh_spec : {M : Type 1} → statement M
+skvornela_fresh_spec =
     tie.close (tie.spec fresh-requires put-station-requires same_length returns returns-2)

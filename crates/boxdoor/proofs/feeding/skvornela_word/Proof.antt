@@ -6,63 +6,63 @@ use Rattle.boxdoor.proofs.feeding.skvornela_word.Statement.{statement}
 use Rattle.boxdoor.proofs.feeding.skvornela_word.Tie as tie
 
 -- the calls on the way, and the start
-abbrev count : tie.After-word-held → tie.After-taken-of
+abbrev count : tie.After-word_held → tie.After-taken_of-taken
 count k = k.before.before
 
-abbrev settings : tie.After-word-held → tie.After-settings-of
+abbrev settings : tie.After-word_held → tie.After-settings_of-settings
 settings k = (count k).before
 
-abbrev whole : tie.After-word-held → tie.Then1
+abbrev whole : tie.After-word_held → tie.Then-state-eq-LENGTH
 whole k = (settings k).before
 
-abbrev start : tie.After-word-held → tie.Start
+abbrev start : tie.After-word_held → tie.Start
 start k = (whole k).before.before
 
 -- what was read of the box
-read : (k : tie.After-word-held) → Read (start k).args.state.now
+read : (k : tie.After-word_held) → Read (start k).args.state.now
 read k =
     record {
-      settings = (settings k).settings-of.result;
-      taken = (count k).Taken-of.result;
-      long = (whole k).if1.true;
-      read = (settings k).settings-of.ensures;
-      had = (count k).Taken-of.ensures;
+      settings = (settings k).settings_of-settings.result;
+      taken = (count k).taken_of-taken.result;
+      long = (whole k).if-state-eq-LENGTH.true;
+      read = (settings k).settings_of-settings.ensures;
+      had = (count k).taken_of-taken.ensures;
     }
 
-settings-of-requires : tie.Need-settings-of-requires
+settings-of-requires : tie.Need-settings_of-settings-requires
 settings-of-requires c κs = search rules
 
-taken-of-requires : tie.Need-taken-of-requires
+taken-of-requires : tie.Need-taken_of-taken-requires
 taken-of-requires c κs = search rules
 
-sub-word-held : tie.Need-overflow-sub-word-held
+sub-word-held : tie.Need-slice_bounds-word_held-count
 sub-word-held c = search rules
 
-part-word-held-start : tie.Need-slice-bounds-word-held-start
+part-word-held-start : tie.Need-slice_bounds-word_held-start
 part-word-held-start c = search rules
 
-part-word-held-end : tie.Need-slice-bounds-word-held-end
+part-word-held-end : tie.Need-slice_bounds-word_held-end
 part-word-held-end c = search rules
 
-word-held-requires : tie.Need-word-held-requires
+word-held-requires : tie.Need-word_held-requires
 word-held-requires c κs = search rules
 
-tuned-by-requires : tie.Need-tuned-by-requires
+tuned-by-requires : tie.Need-tuned_by-t-requires
 tuned-by-requires c κs = search rules
 
-returns : tie.Need-returns
+returns : tie.Need-returns-then-state-eq-LENGTH
 unfolding read
 returns c =
-    let k = c.before in
-    let a = (start k).args in
-    word_whole a.state.now a.channel _ _ (whole k).if1.true (lent_is a.state.now (read k))
-    k.word_held.ensures c.tuned-by.ensures
+    let k = c in
+    let a = (start k.before).args in
+    word_whole a.state.now a.channel _ _ (whole k.before).if-state-eq-LENGTH.true (lent_is a.state.now (read k.before))
+    k.word_held.ensures c.tuned_by-t.ensures
 
-returns-2 : tie.Need-returns-2
-returns-2 c = word_broken _ _ c.if1.false
+returns-2 : tie.Need-returns
+returns-2 c = word_broken _ _ c.if-state-eq-LENGTH.false
 
-pub skvornela-word-spec : {M : Type 1} → statement M
-skvornela-word-spec =
+pub skvornela_word_spec : {M : Type 1} → statement M
+skvornela_word_spec =
     tie.close
     (tie.spec
     settings-of-requires

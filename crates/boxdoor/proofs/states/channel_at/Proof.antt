@@ -9,40 +9,40 @@ use Rattle.boxdoor.proofs.states.channel_at.Statement.{statement}
 use Rattle.boxdoor.proofs.states.channel_at.Tie as tie
 
 -- what is lent is bytes
-are_bytes_lem : (c : tie.After-shared-slice-known) (k : ℕ) → get_or c.before.args.b.now k 0 < 256
-are_bytes_lem c k = omega (arith, c.shared-slice-known.given k)
+are_bytes_lem : (c : tie.After-shared_slice_known-1) (k : ℕ) → get_or c.args.b.now k 0 < 256
+are_bytes_lem c k = omega (arith, c.shared_slice_known-1.given k)
 
-number-at-requires : tie.Need-number-at-requires
+number-at-requires : tie.Need-number_at-requires
 number-at-requires c κs = search rules
 
-add-number-at : tie.Need-overflow-add-number-at
+add-number-at : tie.Need-overflow_add-at
 add-number-at c = search rules
 
-number-at-requires-2 : tie.Need-number-at-requires-2
+number-at-requires-2 : tie.Need-number_at-requires-2
 number-at-requires-2 c κs = search rules
 
-cast-t6 : tie.Need-overflow-cast-t6
+cast-t6 : tie.Need-overflow_cast-result
 cast-t6 c =
-    let lent = c.before.before in
-    let a = lent.before.args in
-    omega (arith, c.number-at2.ensures, field_below (a.at + 8) 4 a.b.now (are_bytes_lem lent))
+    let lent = c in
+    let a = lent.args in
+    omega (arith, c.number_at-2.ensures, field_below (a.at + 8) 4 a.b.now (are_bytes_lem lent.before.before))
 
-add-t7 : tie.Need-overflow-add-t7
+add-t7 : tie.Need-overflow_add-result
 add-t7 c = search rules
 
-shared-slice-read-t9 : tie.Need-shared-slice-read-t9
+shared-slice-read-t9 : tie.Need-bounds-b-at
 shared-slice-read-t9 c = search rules
 
-cast-t10 : tie.Need-overflow-cast-t10
+cast-t10 : tie.Need-overflow_cast-result-2
 cast-t10 c =
-    let lent = c.before.before.before in
-    omega (arith, are_bytes_lem lent (lent.before.args.at + 12))
+    let lent = c in
+    omega (arith, are_bytes_lem lent.before.before.before (lent.args.at + 12))
 
 returns : tie.Need-returns
-returns c = rw (c.before.before.number_at.ensures, c.before.number-at2.ensures) refl
+returns c = rw (c.number_at.ensures, c.number_at-2.ensures) refl
 
-pub channel-at-spec : {M : Type 1} → statement M
-channel-at-spec =
+pub channel_at_spec : {M : Type 1} → statement M
+channel_at_spec =
     tie.close
     (tie.spec
     number-at-requires

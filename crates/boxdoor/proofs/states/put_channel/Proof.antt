@@ -7,36 +7,36 @@ use Rattle.boxdoor.proofs.states.put_channel.Tie as tie
 put-requires : tie.Need-put-requires
 put-requires c κs = search rules
 
-add-put : tie.Need-overflow-add-put
+add-put : tie.Need-overflow_add-at
 add-put c = search rules
 
-cast-put : tie.Need-overflow-cast-put
+cast-put : tie.Need-overflow_cast-c
 cast-put c = search rules
 
 put-requires-2 : tie.Need-put-requires-2
 put-requires-2 c κs = search rules
 
-add-put-2 : tie.Need-overflow-add-put-2
+add-put-2 : tie.Need-overflow_add-at-2
 add-put-2 c = search rules
 
-cast-put-2 : tie.Need-overflow-cast-put-2
+cast-put-2 : tie.Need-overflow_cast-c-2
 cast-put-2 c = search rules
 
 put-requires-3 : tie.Need-put-requires-3
 put-requires-3 c κs = search rules
 
-same_length : tie.Need-same-length
+same_length : tie.Need-shape_of-b
 same_length c = search rules
 
 returns : tie.Need-returns
 returns c =
-    let third = c.before.before in
-    let second = third.before.before.before.before.before in
-    let first = second.before.before.before.before.before in
-    channel_stored _ _ _ _ _ _ first.put.ensures second.put2.ensures third.put3.ensures
+    let third = c in
+    let second = third in
+    let first = second in
+    channel_stored _ _ _ _ _ _ first.put.ensures second.put-2.ensures third.put-3.ensures
 
-pub put-channel-spec : {M : Type 1} → statement M
-put-channel-spec =
+pub put_channel_spec : {M : Type 1} → statement M
+put_channel_spec =
     tie.close
     (tie.spec
     put-requires

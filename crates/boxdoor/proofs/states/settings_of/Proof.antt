@@ -15,14 +15,14 @@ use Rattle.boxdoor.proofs.states.settings_of.Statement.{statement}
 use Rattle.boxdoor.proofs.states.settings_of.Tie as tie
 
 -- what is lent is bytes
-are_bytes_lem : (c : tie.After-shared-slice-known) (k : ℕ) → get_or c.before.args.b.now k 0 < 256
-are_bytes_lem c k = omega (arith, c.shared-slice-known.given k)
+are_bytes_lem : (c : tie.After-shared_slice_known-1) (k : ℕ) → get_or c.args.b.now k 0 < 256
+are_bytes_lem c k = omega (arith, c.shared_slice_known-1.given k)
 
-below : (c : tie.After-shared-slice-known) (at n : ℕ) → field at n c.before.args.b.now < 256 ^ n
+below : (c : tie.After-shared_slice_known-1) (at n : ℕ) → field at n c.args.b.now < 256 ^ n
 below c at n = field_below at n _ (are_bytes_lem c)
 
 -- the bytes, from where the front of them is taken; of the front each field is one of theirs
-abbrev known : tie.After-front → tie.After-shared-slice-known
+abbrev known : tie.After-front → tie.After-shared_slice_known-1
 known c = c.before.before.before.before.before
 
 abbrev bytes : tie.After-front → List ℕ
@@ -42,86 +42,86 @@ channel_front at l inside =
       get_or-take held_from l (at + 12) 0 (omega arith),
     ) refl
 
-sub-copy : tie.Need-overflow-sub-copy
+sub-copy : tie.Need-slice_bounds-copy-count
 sub-copy c = search rules
 
-part-copy-start : tie.Need-slice-bounds-copy-start
+part-copy-start : tie.Need-slice_bounds-copy-start
 part-copy-start c = search rules
 
-part-copy-end : tie.Need-slice-bounds-copy-end
+part-copy-end : tie.Need-slice_bounds-copy-end
 part-copy-end c = search rules
 
-slice-aggregate-copy : tie.Need-slice-aggregate-copy
+slice-aggregate-copy : tie.Need-slice_bounds-copy-end-2
 slice-aggregate-copy c = search rules
 
 copy-requires : tie.Need-copy-requires
 copy-requires c κs = search rules
 
-slice-aggregate-front : tie.Need-slice-aggregate-front
+slice-aggregate-front : tie.Need-slice_bounds-front-end
 slice-aggregate-front c = sym (front_long c)
 
-channel-at-requires : tie.Need-channel-at-requires
+channel-at-requires : tie.Need-channel_at-requires
 channel-at-requires c κs = omega (arith, front_long c)
 
-channel-at-requires-2 : tie.Need-channel-at-requires-2
+channel-at-requires-2 : tie.Need-channel_at-requires-2
 channel-at-requires-2 c κs = omega (arith, front_long c.before)
 
-number-at-requires : tie.Need-number-at-requires
+number-at-requires : tie.Need-number_at-requires
 number-at-requires c κs = search rules
 
-number-at-requires-2 : tie.Need-number-at-requires-2
+number-at-requires-2 : tie.Need-number_at-requires-2
 number-at-requires-2 c κs = search rules
 
-cast-t16 : tie.Need-overflow-cast-t16
+cast-t16 : tie.Need-overflow_cast-result
 cast-t16 c =
-    let f = c.before.before.before.before in
-    omega (arith, c.number-at2.ensures, in_front f 34 4 (omega arith), below (known f) 34 4)
+    let f = c in
+    omega (arith, c.number_at-2.ensures, in_front f 34 4 (omega arith), below (known f) 34 4)
 
-number-at-requires-3 : tie.Need-number-at-requires-3
+number-at-requires-3 : tie.Need-number_at-requires-3
 number-at-requires-3 c κs = search rules
 
-cast-t18 : tie.Need-overflow-cast-t18
+cast-t18 : tie.Need-overflow_cast-result-2
 cast-t18 c =
-    let f = c.before.before.before.before.before in
-    omega (arith, c.number-at3.ensures, in_front f 38 4 (omega arith), below (known f) 38 4)
+    let f = c in
+    omega (arith, c.number_at-3.ensures, in_front f 38 4 (omega arith), below (known f) 38 4)
 
-shared-slice-read-t20 : tie.Need-shared-slice-read-t20
+shared-slice-read-t20 : tie.Need-bounds-b-44
 shared-slice-read-t20 c = search rules
 
-cast-t21 : tie.Need-overflow-cast-t21
+cast-t21 : tie.Need-overflow_cast-result-3
 cast-t21 c = omega (arith, are_bytes_lem (known c.before.before.before.before.before.before) 44)
 
-shared-slice-read-t23 : tie.Need-shared-slice-read-t23
+shared-slice-read-t23 : tie.Need-bounds-b-45
 shared-slice-read-t23 c = search rules
 
-cast-t24 : tie.Need-overflow-cast-t24
+cast-t24 : tie.Need-overflow_cast-result-4
 cast-t24 c = omega (arith, are_bytes_lem (known c.before.before.before.before.before.before.before) 45)
 
-shared-slice-read-t26 : tie.Need-shared-slice-read-t26
+shared-slice-read-t26 : tie.Need-bounds-b-42
 shared-slice-read-t26 c = search rules
 
-shared-slice-read-t29 : tie.Need-shared-slice-read-t29
+shared-slice-read-t29 : tie.Need-bounds-b-43
 shared-slice-read-t29 c = search rules
 
 returns : tie.Need-returns
 returns c =
-    let divisor = c.before.before.before.before in
-    let clock = divisor.before in
-    let count = clock.before in
-    let second = count.before in
-    let first = second.before in
-    let front = first.before in
-    let serial = front.before.before in
+    let divisor = c in
+    let clock = divisor in
+    let count = clock in
+    let second = count in
+    let first = second in
+    let front = first in
+    let serial = front in
     let b = bytes front in
-    settings_read b (first.channel-at.ensures ∙ channel_front 0 b (omega arith))
-    (second.channel-at2.ensures ∙ channel_front 13 b (omega arith))
+    settings_read b (first.channel_at.ensures ∙ channel_front 0 b (omega arith))
+    (second.channel_at-2.ensures ∙ channel_front 13 b (omega arith))
     (count.number_at.ensures ∙ in_front front common_from 8 (omega arith))
-    (clock.number-at2.ensures ∙ in_front front 34 4 (omega arith))
-    (divisor.number-at3.ensures ∙ in_front front 38 4 (omega arith))
+    (clock.number_at-2.ensures ∙ in_front front 34 4 (omega arith))
+    (divisor.number_at-3.ensures ∙ in_front front 38 4 (omega arith))
     (filled 46 8 b _ refl (omega (arith, (known front).before.requires)) serial.copy.ensures)
 
-pub settings-of-spec : {M : Type 1} → statement M
-settings-of-spec =
+pub settings_of_spec : {M : Type 1} → statement M
+settings_of_spec =
     tie.close
     (tie.spec
     sub-copy

@@ -34,34 +34,34 @@ due_by : (h : Head) (t : Tally) (ending : Ending) (bits pairs : ℕ) → bits �
     ≡ due_now h t ending
 due_by h t ending bits pairs p q = rw (p, q)
 
-form-in-requires : tie.Need-form-in-requires
+form-in-requires : tie.Need-form_in-f-requires
 form-in-requires c κs = search rules
 
-channels-in-requires : tie.Need-channels-in-requires
+channels-in-requires : tie.Need-channels_in-requires
 channels-in-requires c κs = search rules
 
-pairs-each-requires : tie.Need-pairs-each-requires
+pairs-each-requires : tie.Need-pairs_each-pairs-requires
 pairs-each-requires c κs = search rules
 
-cast-t7 : tie.Need-overflow-cast-t7
+cast-t7 : tie.Need-overflow_cast-result
 cast-t7 c = search rules
 
-cast-t8 : tie.Need-overflow-cast-t8
+cast-t8 : tie.Need-overflow_cast-result-2
 cast-t8 c = search rules
 
 -- where the pairs are known: the head, and what each channel has
-abbrev head : tie.After-pairs-each → Head
-head c = c.before.before.before.args.h
+abbrev head : tie.After-pairs_each-pairs → Head
+head c = c.args.h
 
-pairs : (c : tie.After-pairs-each) → c.pairs-each.result ≡ (each_in (head c)).pairs
-pairs c = c.pairs-each.ensures ∙ each (head c) _ _ c.before.channels-in.ensures c.before.before.form_in.ensures
+pairs : (c : tie.After-pairs_each-pairs) → c.pairs_each-pairs.result ≡ (each_in (head c)).pairs
+pairs c = c.pairs_each-pairs.ensures ∙ each (head c) _ _ c.channels_in.ensures c.form_in-f.ensures
 
 returns : tie.Need-returns
 returns c =
-    let p = c.before.before in
-    let form = p.before.before in
-    due_by (head p) form.before.args.t form.before.args.ending _ _ (ap (λ (f : Form). f.bits) form.form_in.ensures)
-    (pairs p)
+    let p = c in
+    let form = p in
+    due_by (head p.before.before) form.args.t form.args.ending _ _ (ap (λ (f : Form). f.bits) form.form_in-f.ensures)
+    (pairs p.before.before)
 
-pub ended-due-spec : {M : Type 1} → statement M
-ended-due-spec = tie.close (tie.spec form-in-requires channels-in-requires pairs-each-requires cast-t7 cast-t8 returns)
+pub ended_due_spec : {M : Type 1} → statement M
+ended_due_spec = tie.close (tie.spec form-in-requires channels-in-requires pairs-each-requires cast-t7 cast-t8 returns)

@@ -5,16 +5,16 @@ use Rattle.spans.specs.Eating.{head_wants}
 use Rattle.spans.proofs.head.wanted.Statement.{statement}
 use Rattle.spans.proofs.head.wanted.Tie as tie
 
-returns : tie.Need-returns
+returns : tie.Need-returns-then-came-lt-SHORTEST
 unfolding head_wants
-returns c = rw (lt-ltb _ _ c.if1.true)
+returns c = rw (lt-ltb _ _ c.if-came-lt-SHORTEST.true)
 
-head-length-in-requires : tie.Need-head-length-in-requires
+head-length-in-requires : tie.Need-head_length_in-requires
 head-length-in-requires c κs = search rules
 
-returns-2 : tie.Need-returns-2
+returns-2 : tie.Need-returns
 unfolding head_wants
-returns-2 c = rw (le-ltb _ _ c.before.if1.false) c.head-length-in.ensures
+returns-2 c = rw (le-ltb _ _ c.if-came-lt-SHORTEST.false) c.head_length_in.ensures
 
-pub wanted-spec : {M : Type 1} → statement M
-wanted-spec = tie.close (tie.spec returns head-length-in-requires returns-2)
+pub wanted_spec : {M : Type 1} → statement M
+wanted_spec = tie.close (tie.spec returns head-length-in-requires returns-2)
