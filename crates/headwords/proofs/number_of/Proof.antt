@@ -46,23 +46,23 @@ digit : (c : tie.Else-not-is_digit invariant-loop decreases-loop) → is_digit (
 digit c = sym c.is_digit.ensures ∙ c.if-not-is_digit.false
 
 high : (c : tie.Else-not-is_digit invariant-loop decreases-loop) → get_or (word_of c.before) (looped c.before).loop-i.i 0 ≤ 57
-high c = digit_high _ _ _ (looped c.before).loop-i.inv (in_loop c.before) (digit c)
+high c = digit_high _ _ _ (looped c.before).loop-i.invariant (in_loop c.before) (digit c)
 
 small : (c : tie.Else-not-is_digit invariant-loop decreases-loop) → (looped c.before).loop-i.n < 100_000_000
-small c = low _ _ _ (looped c.before).loop-i.inv (in_loop c.before)
+small c = low _ _ _ (looped c.before).loop-i.invariant (in_loop c.before)
 
 returns-2 : tie.Need-returns-then-not-is_digit invariant-loop decreases-loop
 returns-2 c =
     let tested = c in
     let held = (looped tested.before).loop-i in
     let other = sym tested.is_digit.ensures ∙ c.if-not-is_digit.true in
-    not_digits _ held.inv.short (no_digit _ _ _ held.inv (in_loop tested.before) other)
+    not_digits _ held.invariant.short (no_digit _ _ _ held.invariant (in_loop tested.before) other)
 
 mul-n : tie.Need-overflow_mul-n invariant-loop decreases-loop
 mul-n c = omega (arith, small c)
 
 sub-n : tie.Need-overflow_sub-n invariant-loop decreases-loop
-sub-n c = digit_low _ _ _ (looped c.before).loop-i.inv (in_loop c.before) (digit c)
+sub-n c = digit_low _ _ _ (looped c.before).loop-i.invariant (in_loop c.before) (digit c)
 
 cast-n : tie.Need-overflow_cast-n invariant-loop decreases-loop
 cast-n c = omega (arith, high c)
@@ -77,7 +77,7 @@ loop-less : tie.Need-loop-i-smaller invariant-loop decreases-loop
 loop-less c = omega (arith, in_loop c.before)
 
 loop-again : tie.Need-loop-i-preserved invariant-loop decreases-loop
-loop-again c = read_one _ _ _ (looped c.before).loop-i.inv (in_loop c.before) (digit c)
+loop-again c = read_one _ _ _ (looped c.before).loop-i.invariant (in_loop c.before) (digit c)
 
 returns-3 : tie.Need-returns invariant-loop decreases-loop
 returns-3 c = read_all _ _ _ c.loop-i.invariant c.loop-i-test.false

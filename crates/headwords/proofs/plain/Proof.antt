@@ -85,58 +85,33 @@ returns-3 c =
     let bad = tested_bits at.before ∙ c.if-not-is_bits_word.true in
     (sym (plain_by_lem _ _ _ _ (good_d (second at.before)) (good_hz at.before) bad refl), tt)
 
-slice-aggregate-is-either : tie.Need-is_either-requires
-slice-aggregate-is-either c = search rules
-
-slice-aggregate-is-either-2 : tie.Need-returns-then-not-is_either
-slice-aggregate-is-either-2 c = search rules
-
-is-either-requires : tie.Need-mode_of-requires
+is-either-requires : tie.Need-is_either-requires
 is-either-requires c κs = search rules
 
-returns-4 : tie.Need-chosen-requires
+returns-4 : tie.Need-returns-then-not-is_either
 returns-4 c =
     let at = c in
-    let bad = tested_size at.before.before.before.before ∙ c.if-not-is_either.true in
-    (sym (plain_by_lem _ _ _ _ (good_d (second (third at.before.before.before.before))) (good_hz (third at.before.before.before.before)) (good_bits at.before.before.before.before) bad), tt)
+    let bad = tested_size at.before ∙ c.if-not-is_either.true in
+    (sym (plain_by_lem _ _ _ _ (good_d (second (third at.before))) (good_hz (third at.before)) (good_bits at.before) bad), tt)
 
-mode-of-requires : tie.Need-returns
+mode-of-requires : tie.Need-mode_of-requires
 mode-of-requires c κs = search rules
-
-slice-aggregate-chosen : tie.Need-slice-aggregate-chosen
-slice-aggregate-chosen c = search rules
 
 chosen-requires : tie.Need-chosen-requires
 chosen-requires c κs = search rules
 
-returns-5 : tie.Need-returns-5
+returns-5 : tie.Need-returns
 returns-5 c =
-    let last = c.before.before.before in
-    let at = last.before in
-    let good = tested_size at ∙ not-false _ last.if4.false in
-    let whole = plain_by_lem _ _ _ _ (good_d (second (third at))) (good_hz (third at)) (good_bits at) good in
-    let d = (first (second (third at))).before.number_of_lem.ensures in
-    let hz = (second (third at)).before.number-of2.ensures in
-    plain_is _ _ _ _ d hz c.before.before.Mode-of.ensures c.chosen.ensures whole
+    let last = c in
+    let at = last in
+    let good = tested_size at.before.before.before.before.before ∙ last.if-not-is_either.false in
+    let whole = plain_by_lem _ _ _ _ (good_d (second (third at.before.before.before.before.before))) (good_hz (third at.before.before.before.before.before)) (good_bits at.before.before.before.before.before) good in
+    let d = (first (second (third at.before.before.before.before.before))).before.number_of-divisor.ensures in
+    let hz = (second (third at.before.before.before.before.before)).before.number-of2.ensures in
+    plain_is _ _ _ _ d hz c.mode_of.ensures c.chosen.ensures whole
 
 pub plain_spec : {M : Type 1} → statement M
 plain_spec =
     tie.close
     (tie.spec
-    number-of-requires
-    is-d-requires
-    returns
-    number-of-requires-2
-    cast-frequency
-    in-bands-requires
-    returns-2
-    is-bits-word-requires
-    returns-3
-    slice-aggregate-is-either
-    slice-aggregate-is-either-2
-    is-either-requires
-    returns-4
-    mode-of-requires
-    slice-aggregate-chosen
-    chosen-requires
-    returns-5)
+    number-of-requires is-d-requires returns number-of-requires-2 cast-frequency in-bands-requires returns-2 is-bits-word-requires returns-3 is-either-requires returns-4 mode-of-requires chosen-requires returns-5)

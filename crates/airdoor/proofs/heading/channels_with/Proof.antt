@@ -5,14 +5,14 @@ use Rattle.airdoor.proofs.Modes.{open_by}
 use Rattle.airdoor.proofs.heading.channels_with.Statement.{statement}
 use Rattle.airdoor.proofs.heading.channels_with.Tie as tie
 
-is-open-requires : tie.Need-is-open-requires
+is-open-requires : tie.Need-is_open-requires
 is-open-requires c κs = search rules
 
-returns : tie.Need-returns
-returns c = sym (open_by c.before.before.args.setup (sym c.before.is_open.ensures ∙ c.if1.true))
+returns : tie.Need-returns-then-is_open
+returns c = sym (open_by c.args.setup (sym c.is_open.ensures ∙ c.if-is_open.true))
 
-returns-2 : tie.Need-returns-2
-returns-2 c = sym (open_by c.before.before.args.setup (sym c.before.is_open.ensures ∙ c.if1.false))
+returns-2 : tie.Need-returns
+returns-2 c = sym (open_by c.args.setup (sym c.is_open.ensures ∙ c.if-is_open.false))
 
-pub channels-with-spec : {M : Type 1} → statement M
-channels-with-spec = tie.close (tie.spec is-open-requires returns returns-2)
+pub channels_with_spec : {M : Type 1} → statement M
+channels_with_spec = tie.close (tie.spec is-open-requires returns returns-2)

@@ -13,51 +13,51 @@ use Rattle.airdoor.proofs.shapes.shape_in.Statement.{statement}
 use Rattle.airdoor.proofs.shapes.shape_in.Tie as tie
 
 -- the head's form is tested
-tested : (c : tie.After-is-listed) → listed_form (form_in c.before.before.args.h) ≡ c.is-listed.result
-tested c = ap listed_form (sym c.before.form_in.ensures) ∙ sym c.is-listed.ensures
+tested : (c : tie.After-is_listed) → listed_form (form_in c.args.h) ≡ c.is_listed.result
+tested c = ap listed_form (sym c.form_in-form.ensures) ∙ sym c.is_listed.ensures
 
 -- and is listed, from where the test has passed
-listed : (c : tie.Else1) → listed_form c.before.before.form_in.result ≡ true
-listed c = sym c.before.is-listed.ensures ∙ not-false _ c.if1.false
+listed : (c : tie.Else-not-is_listed) → listed_form c.form_in-form.result ≡ true
+listed c = sym c.is_listed.ensures ∙ c.if-not-is_listed.false
 
-few : (c : tie.Else1) → c.before.before.form_in.result.pairs ≤ 256
-few c = (is_listed_form c.before.before.form_in.result (listed c)).few
+few : (c : tie.Else-not-is_listed) → c.form_in-form.result.pairs ≤ 256
+few c = (is_listed_form c.form_in-form.result (listed c)).few
 
-form-in-requires : tie.Need-form-in-requires
+form-in-requires : tie.Need-form_in-form-requires
 form-in-requires c κs = search rules
 
-is-listed-requires : tie.Need-is-listed-requires
+is-listed-requires : tie.Need-is_listed-requires
 is-listed-requires c κs = search rules
 
-returns : tie.Need-returns
+returns : tie.Need-returns-then-not-is_listed
 returns c =
-    let told = c.before in
-    let h = told.before.before.args.h in
-    sym (shape_by h (tested told ∙ not-true _ c.if1.true))
+    let told = c in
+    let h = told.args.h in
+    sym (shape_by h (tested told.before ∙ c.if-not-is_listed.true))
 
-channels-in-requires : tie.Need-channels-in-requires
+channels-in-requires : tie.Need-channels_in-channels-requires
 channels-in-requires c κs = search rules
 
-pairs-each-requires : tie.Need-pairs-each-requires
+pairs-each-requires : tie.Need-pairs_each-requires
 pairs-each-requires c κs = search rules
 
-mul-t7 : tie.Need-overflow-mul-t7
+mul-t7 : tie.Need-overflow_mul-result
 mul-t7 c = omega (arith, few c.before.before.before)
 
-total-of-requires : tie.Need-total-of-requires
+total-of-requires : tie.Need-total_of-requires
 total-of-requires c κs = search rules
 
-returns-2 : tie.Need-returns-2
+returns-2 : tie.Need-returns
 returns-2 c =
-    let counted = c.before.before.before in
-    let passed = counted.before in
-    let formed = passed.before.before in
-    shaped formed.before.args.h formed.form_in.result counted.channels-in.result c.before.before.pairs-each.result
-    c.total-of.result formed.form_in.ensures (listed passed) counted.channels-in.ensures
-    c.before.before.pairs-each.ensures c.total-of.ensures
+    let counted = c in
+    let passed = counted in
+    let formed = passed in
+    shaped formed.args.h formed.form_in-form.result counted.channels_in-channels.result c.pairs_each.result
+    c.total_of.result formed.form_in-form.ensures (listed passed.before.before.before.before) counted.channels_in-channels.ensures
+    c.pairs_each.ensures c.total_of.ensures
 
-pub shape-in-spec : {M : Type 1} → statement M
-shape-in-spec =
+pub shape_in_spec : {M : Type 1} → statement M
+shape_in_spec =
     tie.close
     (tie.spec
     form-in-requires

@@ -5,14 +5,14 @@ use Rattle.airdoor.specs.Shapes.{shape_in}
 use Rattle.airdoor.proofs.shapes.skvornela_shape.Statement.{statement}
 use Rattle.airdoor.proofs.shapes.skvornela_shape.Tie as tie
 
-some-head-requires : tie.Need-some-head-requires
+some-head-requires : tie.Need-some_head-requires
 some-head-requires c κs = search rules
 
-shape-in-requires : tie.Need-shape-in-requires
+shape-in-requires : tie.Need-shape_in-s-requires
 shape-in-requires c κs = search rules
 
 returns : tie.Need-returns
-returns c = c.shape-in.ensures ∙ ap shape_in c.before.some-head.ensures
+returns c = c.shape_in-s.ensures ∙ ap shape_in c.some_head.ensures
 
-pub skvornela-shape-spec : {M : Type 1} → statement M
-skvornela-shape-spec = tie.close (tie.spec some-head-requires shape-in-requires returns)
+pub skvornela_shape_spec : {M : Type 1} → statement M
+skvornela_shape_spec = tie.close (tie.spec some-head-requires shape-in-requires returns)

@@ -10,10 +10,10 @@ abbrev count : tie.After-cut_held-cut → tie.After-taken_of-taken
 count k = k.before.before.before
 
 abbrev settings : tie.After-cut_held-cut → tie.After-settings_of-settings
-settings k = (count k).before.before
+settings k = (count k).before
 
 abbrev whole : tie.After-cut_held-cut → tie.Then-state-eq-LENGTH
-whole k = (settings k).before.before
+whole k = (settings k).before
 
 abbrev start : tie.After-cut_held-cut → tie.Start
 start k = (whole k).before.before.before

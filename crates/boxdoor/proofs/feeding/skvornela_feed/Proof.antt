@@ -10,10 +10,10 @@ abbrev count : tie.After-feed_held-f → tie.After-taken_of-taken
 count f = f.before.before.before
 
 abbrev settings : tie.After-feed_held-f → tie.After-settings_of-settings
-settings f = (count f).before.before
+settings f = (count f).before
 
 abbrev whole : tie.After-feed_held-f → tie.Then-state-eq-LENGTH
-whole f = (settings f).before.before
+whole f = (settings f).before
 
 abbrev start : tie.After-feed_held-f → tie.Start
 start f = (whole f).before.before.before.before

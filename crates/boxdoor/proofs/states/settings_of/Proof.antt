@@ -22,16 +22,16 @@ below : (c : tie.After-shared_slice_known-1) (at n : ℕ) → field at n c.args.
 below c at n = field_below at n _ (are_bytes_lem c)
 
 -- the bytes, from where the front of them is taken; of the front each field is one of theirs
-abbrev known : tie.After-front → tie.After-shared_slice_known-1
-known c = c.before.before.before.before.before
+abbrev known : tie.After-serial-2-1 → tie.After-shared_slice_known-1
+known c = c.before.before.before.before
 
-abbrev bytes : tie.After-front → List ℕ
-bytes c = (known c).before.args.b.now
+abbrev bytes : tie.After-serial-2-1 → List ℕ
+bytes c = (known c).args.b.now
 
-front_long : (c : tie.After-front) → length (take held_from (bytes c)) ≡ held_from
-front_long c = length-take-le held_from (bytes c) (omega (arith, (known c).before.requires))
+front_long : (c : tie.After-serial-2-1) → length (take held_from (bytes c)) ≡ held_from
+front_long c = length-take-le held_from (bytes c) (omega (arith, (known c).requires))
 
-in_front : (c : tie.After-front) (at n : ℕ) → at + n ≤ held_from → field at n (take held_from (bytes c)) ≡ field at n (bytes c)
+in_front : (c : tie.After-serial-2-1) (at n : ℕ) → at + n ≤ held_from → field at n (take held_from (bytes c)) ≡ field at n (bytes c)
 in_front c at n inside = field_front at n held_from (bytes c) inside
 
 channel_front : (at : ℕ) (l : List ℕ) → at + 13 ≤ held_from → channel_in at (take held_from l) ≡ channel_in at l
@@ -75,7 +75,7 @@ number-at-requires-2 c κs = search rules
 cast-t16 : tie.Need-overflow_cast-result
 cast-t16 c =
     let f = c in
-    omega (arith, c.number_at-2.ensures, in_front f 34 4 (omega arith), below (known f) 34 4)
+    omega (arith, c.number_at-2.ensures, in_front f.before.before.before.before 34 4 (omega arith), below (known f.before.before.before.before) 34 4)
 
 number-at-requires-3 : tie.Need-number_at-requires-3
 number-at-requires-3 c κs = search rules
@@ -83,7 +83,7 @@ number-at-requires-3 c κs = search rules
 cast-t18 : tie.Need-overflow_cast-result-2
 cast-t18 c =
     let f = c in
-    omega (arith, c.number_at-3.ensures, in_front f 38 4 (omega arith), below (known f) 38 4)
+    omega (arith, c.number_at-3.ensures, in_front f.before.before.before.before.before 38 4 (omega arith), below (known f.before.before.before.before.before) 38 4)
 
 shared-slice-read-t20 : tie.Need-bounds-b-44
 shared-slice-read-t20 c = search rules
@@ -112,13 +112,13 @@ returns c =
     let first = second in
     let front = first in
     let serial = front in
-    let b = bytes front in
+    let b = bytes front.before.before.before.before.before.before.before.before.before in
     settings_read b (first.channel_at.ensures ∙ channel_front 0 b (omega arith))
     (second.channel_at-2.ensures ∙ channel_front 13 b (omega arith))
-    (count.number_at.ensures ∙ in_front front common_from 8 (omega arith))
-    (clock.number_at-2.ensures ∙ in_front front 34 4 (omega arith))
-    (divisor.number_at-3.ensures ∙ in_front front 38 4 (omega arith))
-    (filled 46 8 b _ refl (omega (arith, (known front).before.requires)) serial.copy.ensures)
+    (count.number_at.ensures ∙ in_front front.before.before.before.before.before.before.before.before.before common_from 8 (omega arith))
+    (clock.number_at-2.ensures ∙ in_front front.before.before.before.before.before.before.before.before.before 34 4 (omega arith))
+    (divisor.number_at-3.ensures ∙ in_front front.before.before.before.before.before.before.before.before.before 38 4 (omega arith))
+    (filled 46 8 b _ refl (omega (arith, (known front.before.before.before.before.before.before.before.before.before).requires)) serial.copy.ensures)
 
 pub settings_of_spec : {M : Type 1} → statement M
 settings_of_spec =

@@ -18,95 +18,95 @@ past : (k n : ℕ) → Others k n → k ≤ n
 past zero n others = omega arith
 past (suc k) n others = let least : k ≤ n = past k n others.0 in let other : n ≡ k → ⊥ = others.1 in omega arith
 
-returns : tie.Need-returns
+returns : tie.Need-returns-in-0
 unfolding wish_table
-returns c = rw c.match.keys1
+returns c = rw c.in-0.is
 
-returns-2 : tie.Need-returns-2
+returns-2 : tie.Need-returns-in-1
 unfolding wish_table
-returns-2 c = rw c.match.keys2
+returns-2 c = rw c.in-1.is
 
-returns-3 : tie.Need-returns-3
+returns-3 : tie.Need-returns-in-2
 unfolding wish_table
-returns-3 c = rw c.match.keys3
+returns-3 c = rw c.in-2.is
 
-returns-4 : tie.Need-returns-4
+returns-4 : tie.Need-returns-in-3
 unfolding wish_table
-returns-4 c = rw c.match.keys4
+returns-4 c = rw c.in-3.is
 
-returns-5 : tie.Need-returns-5
+returns-5 : tie.Need-returns-in-4
 unfolding wish_table
-returns-5 c = rw c.match.keys5
+returns-5 c = rw c.in-4.is
 
-returns-6 : tie.Need-returns-6
+returns-6 : tie.Need-returns-in-5
 unfolding wish_table
-returns-6 c = rw c.match.keys6
+returns-6 c = rw c.in-5.is
 
-returns-7 : tie.Need-returns-7
+returns-7 : tie.Need-returns-in-6
 unfolding wish_table
-returns-7 c = rw c.match.keys7
+returns-7 c = rw c.in-6.is
 
-returns-8 : tie.Need-returns-8
+returns-8 : tie.Need-returns-in-7
 unfolding wish_table
-returns-8 c = rw c.match.keys8
+returns-8 c = rw c.in-7.is
 
-returns-9 : tie.Need-returns-9
+returns-9 : tie.Need-returns-in-8
 unfolding wish_table
-returns-9 c = rw c.match.keys9
+returns-9 c = rw c.in-8.is
 
-returns-10 : tie.Need-returns-10
+returns-10 : tie.Need-returns-in-9
 unfolding wish_table
-returns-10 c = rw c.match.keys10
+returns-10 c = rw c.in-9.is
 
-returns-11 : tie.Need-returns-11
+returns-11 : tie.Need-returns-in-10
 unfolding wish_table
-returns-11 c = rw c.match.keys11
+returns-11 c = rw c.in-10.is
 
-returns-12 : tie.Need-returns-12
+returns-12 : tie.Need-returns-in-11
 unfolding wish_table
-returns-12 c = rw c.match.keys12
+returns-12 c = rw c.in-11.is
 
-returns-13 : tie.Need-returns-13
+returns-13 : tie.Need-returns-in-12
 unfolding wish_table
-returns-13 c = rw c.match.keys13 (ap (W.SetGain c.before.args.channel) (to_z-of_z c.before.ranges.gain))
+returns-13 c = rw c.in-12.is (ap (W.SetGain c.args.channel) (to_z-of_z c.ranges.gain))
 
-returns-14 : tie.Need-returns-14
+returns-14 : tie.Need-returns-in-13
 unfolding wish_table
-returns-14 c = rw c.match.keys14
+returns-14 c = rw c.in-13.is
 
-returns-15 : tie.Need-returns-15
+returns-15 : tie.Need-returns-in-14
 unfolding wish_table
-returns-15 c = rw c.match.keys15
+returns-15 c = rw c.in-14.is
 
-returns-16 : tie.Need-returns-16
+returns-16 : tie.Need-returns-in-15
 unfolding wish_table
-returns-16 c = rw c.match.keys16
+returns-16 c = rw c.in-15.is
 
-returns-17 : tie.Need-returns-17
+returns-17 : tie.Need-returns-in-16
 unfolding wish_table
-returns-17 c = rw c.match.keys17
+returns-17 c = rw c.in-16.is
 
-returns-18 : tie.Need-returns-18
+returns-18 : tie.Need-returns-in-17
 unfolding wish_table
-returns-18 c = rw c.match.keys18
+returns-18 c = rw c.in-17.is
 
-returns-19 : tie.Need-returns-19
+returns-19 : tie.Need-returns-in-18
 unfolding wish_table
-returns-19 c = rw c.match.keys19
+returns-19 c = rw c.in-18.is
 
-returns-20 : tie.Need-returns-20
+returns-20 : tie.Need-returns-in-19
 unfolding wish_table
-returns-20 c = rw c.match.keys20
+returns-20 c = rw c.in-19.is
 
-returns-21 : tie.Need-returns-21
+returns-21 : tie.Need-returns-in_default
 unfolding wish_table
 returns-21 c =
-    let a = c.before.args in
+    let a = c.args in
     let table = wish_table a.byte a.mode a.gain a.word a.hertz a.channel in
-    sym (get_or-eq_default table no_wish (past 20 a.which c.match.rest))
+    sym (get_or-eq_default table no_wish (past 20 a.which c.in_default.in_default-own.rest))
 
-pub wish-of-spec : {M : Type 1} → statement M
-wish-of-spec =
+pub wish_of_spec : {M : Type 1} → statement M
+wish_of_spec =
     tie.close
     (tie.spec
     returns

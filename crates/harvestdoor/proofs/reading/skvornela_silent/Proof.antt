@@ -9,38 +9,38 @@ use borrow.Author.Rules.{rules}
 use Rattle.harvestdoor.proofs.reading.skvornela_silent.Statement.{statement}
 use Rattle.harvestdoor.proofs.reading.skvornela_silent.Tie as tie
 
-returns : tie.Need-returns
-returns c = made_short _ _ c.if1.true
+returns : tie.Need-returns-then-state-ne-LENGTH
+returns c = made_short _ _ c.if-state-ne-LENGTH.true
 
-is-count-requires : tie.Need-is-count-requires
+is-count-requires : tie.Need-is_count-requires
 is-count-requires c κs = search rules
 
-returns-2 : tie.Need-returns-2
+returns-2 : tie.Need-returns-then-not-is_count
 returns-2 c =
-    let n = c.before in
-    sym (made_by _ _ n.before.if1.false (sym n.is-count.ensures ∙ not-true _ c.if2.true))
+    let n = c in
+    sym (made_by _ _ n.if-state-ne-LENGTH.false (sym n.is_count.ensures ∙ c.if-not-is_count.true))
 
 silent-requires : tie.Need-silent-requires
 silent-requires c κs = search rules
 
-put-reader-requires : tie.Need-put-reader-requires
+put-reader-requires : tie.Need-put_reader-requires
 put-reader-requires c κs = search rules
 
-same_length : tie.Need-same-length
+same_length : tie.Need-shape_of-state
 same_length c = search rules
 
-returns-3 : tie.Need-returns-3
+returns-3 : tie.Need-returns
 returns-3 c =
-    let put = c.before.before in
-    let made = put.before in
-    let told = made.before.before in
-    let n = told.before in
-    let bytes = put.put-reader.ensures ∙ ap reader_bytes made.silent.ensures in
+    let put = c in
+    let made = put in
+    let told = made in
+    let n = told in
+    let bytes = put.put_reader.ensures ∙ ap reader_bytes made.silent.ensures in
     ap (λ (l : List ℕ). record { code = 1; state = l }) bytes
-    ∙ sym (made_by _ _ n.before.if1.false (sym n.is-count.ensures ∙ not-false _ told.if2.false))
+    ∙ sym (made_by _ _ n.if-state-ne-LENGTH.false (sym n.is_count.ensures ∙ told.if-not-is_count.false))
 
-pub skvornela-silent-spec : {M : Type 1} → statement M
-skvornela-silent-spec =
+pub skvornela_silent_spec : {M : Type 1} → statement M
+skvornela_silent_spec =
     tie.close
     (tie.spec
     returns

@@ -18,19 +18,19 @@ put-requires-2 c κs = search rules
 put-requires-3 : tie.Need-put-requires-3
 put-requires-3 c κs = search rules
 
-same_length : tie.Need-same-length
+same_length : tie.Need-shape_of-b
 same_length c = search rules
 
 returns : tie.Need-returns
 unfolding next_bytes
 returns c =
-    let third = c.before.before in
-    let second = third.before.before.before.before in
-    let first = second.before.before.before.before in
-    let a = first.before.before.before.args in
-    third.put3.ensures
+    let third = c in
+    let second = third in
+    let first = second in
+    let a = first.args in
+    third.put-3.ensures
     ∙ ap (λ (m : List ℕ). sets m 32 (bytes 1 1))
-    (second.put2.ensures ∙ ap (λ (m : List ℕ). sets m 24 (bytes 8 a.total)) first.put.ensures)
+    (second.put-2.ensures ∙ ap (λ (m : List ℕ). sets m 24 (bytes 8 a.total)) first.put.ensures)
 
-pub put-next-spec : {M : Type 1} → statement M
-put-next-spec = tie.close (tie.spec put-requires put-requires-2 put-requires-3 same_length returns)
+pub put_next_spec : {M : Type 1} → statement M
+put_next_spec = tie.close (tie.spec put-requires put-requires-2 put-requires-3 same_length returns)

@@ -16,36 +16,36 @@ put-requires-3 c κs = search rules
 put-requires-4 : tie.Need-put-requires-4
 put-requires-4 c κs = search rules
 
-cast-put : tie.Need-overflow-cast-put
+cast-put : tie.Need-overflow_cast-r
 cast-put c = search rules
 
 put-requires-5 : tie.Need-put-requires-5
 put-requires-5 c κs = search rules
 
-cast-put-2 : tie.Need-overflow-cast-put-2
+cast-put-2 : tie.Need-overflow_cast-r-2
 cast-put-2 c = search rules
 
 put-requires-6 : tie.Need-put-requires-6
 put-requires-6 c κs = search rules
 
-same_length : tie.Need-same-length
+same_length : tie.Need-shape_of-b
 same_length c = search rules
 
 returns : tie.Need-returns
 returns c =
-    let sixth = c.before.before in
-    let fifth = sixth.before.before.before.before.before in
-    let fourth = fifth.before.before.before.before.before in
-    let third = fourth.before.before.before.before in
-    let second = third.before.before.before.before in
-    let first = second.before.before.before.before in
-    let start = first.before.before.before.before in
+    let sixth = c in
+    let fifth = sixth in
+    let fourth = fifth in
+    let third = fourth in
+    let second = third in
+    let first = second in
+    let start = first in
     reader_stored start.args.r start.args.b.now _ _ _ _ _ _ start.requires
-    first.put.ensures second.put2.ensures third.put3.ensures fourth.put4.ensures
-    fifth.put5.ensures sixth.put6.ensures
+    first.put.ensures second.put-2.ensures third.put-3.ensures fourth.put-4.ensures
+    fifth.put-5.ensures sixth.put-6.ensures
 
-pub put-reader-spec : {M : Type 1} → statement M
-put-reader-spec =
+pub put_reader_spec : {M : Type 1} → statement M
+put_reader_spec =
     tie.close
     (tie.spec
     put-requires
