@@ -107,7 +107,7 @@ returns-5 c =
     let good = tested_size at.before.before.before.before.before ∙ last.if-not-is_either.false in
     let whole = plain_by_lem _ _ _ _ (good_d (second (third at.before.before.before.before.before))) (good_hz (third at.before.before.before.before.before)) (good_bits at.before.before.before.before.before) good in
     let d = (first (second (third at.before.before.before.before.before))).before.number_of-divisor.ensures in
-    let hz = (second (third at.before.before.before.before.before)).before.number-of2.ensures in
+    let hz = (second (third at.before.before.before.before.before)).before.number_of-frequency.ensures in
     plain_is _ _ _ _ d hz c.mode_of.ensures c.chosen.ensures whole
 
 pub plain_spec : {M : Type 1} → statement M

@@ -75,7 +75,7 @@ returns-2 c =
     let l = (turn read.before.before).loop-left in
     let a = (start read.before.before).args in
     run_refused l.left a.each l.at l.r (run_read l.sample l.lost) a.packets.now read.read-h.result (omega arith)
-    (heard read.before.before) c.if-h-ne-DONE.true l.inv.1
+    (heard read.before.before) c.if-h-ne-DONE.true l.invariant.1
 
 sub-left : tie.Need-overflow_sub-left invariant-loop decreases-loop
 sub-left c = search rules
@@ -91,7 +91,7 @@ loop-again c =
     let some : 0 < l.left = omega arith in (
       omega (arith, one_more l.left a.each some),
       run_heard l.left a.each l.at l.r (run_read l.sample l.lost) a.packets.now read.read-h.result some
-          (heard read.before.before.before) c.if-h-ne-DONE.false l.inv.1,
+          (heard read.before.before.before) c.if-h-ne-DONE.false l.invariant.1,
     )
 
 returns-3 : tie.Need-returns invariant-loop decreases-loop
