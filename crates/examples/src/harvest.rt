@@ -316,11 +316,11 @@ fn naming(version: u32, serial: u64, clock: u32) -> Head {
 
 // Writes a head to so many bytes.
 fn head(out: Stdout, words: &[u8], h: Head, room: usize) {
-    let mut out = [0u8; 26];
+    let mut bytes = [0u8; 26];
     if 26 < room {
         return;
     }
-    let part = &mut out[..room];
+    let part = &mut bytes[..room];
     let written = heads::write_head(h, part);
     name(out, words);
     match written {
@@ -476,11 +476,11 @@ fn moved(back: bool, bytes: &[u8], out: &mut [u8]) -> Moved {
 
 // Moves a head back to version 1, or on to version 2, in so many bytes.
 fn shift(out: Stdout, words: &[u8], back: bool, h: Head, room: usize) {
-    let mut out = [0u8; 26];
+    let mut bytes = [0u8; 26];
     if 26 < room {
         return;
     }
-    let part = &mut out[..room];
+    let part = &mut bytes[..room];
     let m = moved(back, &head_bytes(h), part);
     name(out, words);
     tell_moved(out, m, part);
