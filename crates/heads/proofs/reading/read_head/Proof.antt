@@ -73,8 +73,8 @@ decided c is =
     let one = old e.before in
     let values = sym (ap values_of (found e.before)) ∙ sym c.first_allowed.ensures ∙ is in
     let allowed = allowed_in_two (head_in s) values (named_old s (λ two. omega (arith, one, two))) in
-    let fits = le-ltb (length s) (head_length (version_in s)) (omega (arith, ap head_length one, (enough (ours h)).if1.false)) in
-    code_by_lem s (le-ltb _ _ (enough (ours h)).if1.false) (eq-eqb _ _ (marked (ours h))) (ap is_head_version one) fits allowed
+    let fits = le-ltb (length s) (head_length (version_in s)) (omega (arith, ap head_length one, (enough (ours h)).if-s-lt-SHORTEST.false)) in
+    code_by_lem s (le-ltb _ _ (enough (ours h)).if-s-lt-SHORTEST.false) (eq-eqb _ _ (marked (ours h))) (ap is_head_version one) fits allowed
 
 returns : tie.Need-returns-then-s-lt-SHORTEST
 returns c =
