@@ -3,6 +3,7 @@ use crate::telling::{first, name, say, say_code, say_number, tell};
 use heads::{Head, Moved, Opened};
 use reader::Reader;
 use replies::Reply;
+use std::io::Stdout;
 use wire::codes;
 use wishes::{StateFields, Wish};
 
@@ -28,23 +29,23 @@ fn heard(position: u64) -> Reader {
 
 // Reads a packet of n bytes with a header and a number, and tells its position, its first sample's, and how many were missed
 // just before it and in all.
-fn read(words: &[u8], r: Reader, header: u64, number: u64, n: usize) {
+fn read(out: Stdout, words: &[u8], r: Reader, header: u64, number: u64, n: usize) {
     let mut packet = [0u8; 1444];
     wire::put(&mut packet, 0, 2, header);
     wire::put(&mut packet, 2, 2, number);
     let heard = reader::read(r, first(&packet, n));
-    name(words);
-    say_code(heard.code);
-    say_number(heard.position);
-    say_number(heard.sample);
-    say_number(heard.missed);
-    say_number(heard.total);
-    say(b"\n");
+    name(out, words);
+    say_code(out, heard.code);
+    say_number(out, heard.position);
+    say_number(out, heard.sample);
+    say_number(out, heard.missed);
+    say_number(out, heard.total);
+    say(out, b"\n");
 }
 
 // Unpacks a packet of 24 bits, small, cut off after n bytes, to so many numbers, and tells how many were written and how many
 // sample bytes there are.
-fn unpack(words: &[u8], n: usize, room: usize) {
+fn unpack(out: Stdout, words: &[u8], n: usize, room: usize) {
     let mut packet = [0u8; 388];
     let mut numbers = [0i32; 128];
     if 128 < room {
@@ -53,27 +54,35 @@ fn unpack(words: &[u8], n: usize, room: usize) {
     wire::put(&mut packet, 0, 2, SMALL_24);
     let whole = first(&packet, n);
     let unpacked = reader::unpack(whole, &mut numbers[..room]);
-    name(words);
-    say_code(unpacked.code);
-    say_number(unpacked.count as u64);
-    say_number(reader::sample_bytes(whole).len() as u64);
-    say(b"\n");
+    name(out, words);
+    say_code(out, unpacked.code);
+    say_number(out, unpacked.count as u64);
+    say_number(out, reader::sample_bytes(whole).len() as u64);
+    say(out, b"\n");
 }
 
 // How much was lost, and totals that no steps give.
-fn totals_read() {
+fn totals_read(out: Stdout) {
     let mut silent = reader::silent(1);
-    read(b"0 at the start", after(7, 6), SMALL_24, 0, 388);
-    read(b"none missed", after(1, 0), SMALL_24, 2, 388);
-    read(b"two missed", after(1, 0), SMALL_24, 4, 388);
-    read(b"a number again", after(7, 6), SMALL_24, 7, 388);
-    read(b"past the turn", after(65535, 65534), SMALL_24, 1, 388);
-    read(b"two steps", after(65536, 65534), SMALL_24, 2, 388);
-    read(b"no step of 65536", after(65536, 65535), SMALL_24, 2, 388);
-    read(b"one step of 10", after(10, 9), SMALL_24, 11, 388);
-    read(b"no step to 10", after(10, 10), SMALL_24, 11, 388);
-    read(b"none at the start", after(0, 1), SMALL_24, 1, 388);
+    read(out, b"0 at the start", after(7, 6), SMALL_24, 0, 388);
+    read(out, b"none missed", after(1, 0), SMALL_24, 2, 388);
+    read(out, b"two missed", after(1, 0), SMALL_24, 4, 388);
+    read(out, b"a number again", after(7, 6), SMALL_24, 7, 388);
+    read(out, b"past the turn", after(65535, 65534), SMALL_24, 1, 388);
+    read(out, b"two steps", after(65536, 65534), SMALL_24, 2, 388);
     read(
+        out,
+        b"no step of 65536",
+        after(65536, 65535),
+        SMALL_24,
+        2,
+        388,
+    );
+    read(out, b"one step of 10", after(10, 9), SMALL_24, 11, 388);
+    read(out, b"no step to 10", after(10, 10), SMALL_24, 11, 388);
+    read(out, b"none at the start", after(0, 1), SMALL_24, 1, 388);
+    read(
+        out,
         b"fewest steps",
         after(3_999_999_999, 3_999_938_962),
         SMALL_24,
@@ -81,6 +90,7 @@ fn totals_read() {
         388,
     );
     read(
+        out,
         b"one fewer",
         after(3_999_999_999, 3_999_938_963),
         SMALL_24,
@@ -88,125 +98,189 @@ fn totals_read() {
         388,
     );
     silent.total = 1;
-    read(b"silent with a total", silent, SMALL_24, 0, 388);
+    read(out, b"silent with a total", silent, SMALL_24, 0, 388);
 }
 
 // What is no packet, and "position past 3,999,999,999".
-pub(crate) fn packets_read() {
-    read(b"387 bytes", heard(0), SMALL_24, 1, 387);
-    read(b"388 bytes", heard(0), SMALL_24, 1, 388);
-    read(b"number 1 first", reader::silent(1), SMALL_24, 1, 388);
-    read(b"another form", heard(0), SMALL_16, 1, 516);
-    read(b"to 3999999999", heard(3_999_999_998), SMALL_24, 5739, 388);
-    read(b"to 4000000000", heard(3_999_999_999), SMALL_24, 5740, 388);
-    read(b"32 before 33", heard(3_999_999_999), SMALL_16, 5740, 516);
-    read(b"from 4000000000", heard(4_000_000_000), SMALL_24, 0, 387);
-    totals_read();
-    unpack(b"387 bytes unpacked", 387, 0);
-    unpack(b"to 127 numbers", 388, 127);
-    unpack(b"to 128 numbers", 388, 128);
+pub(crate) fn packets_read(out: Stdout) {
+    read(out, b"387 bytes", heard(0), SMALL_24, 1, 387);
+    read(out, b"388 bytes", heard(0), SMALL_24, 1, 388);
+    read(out, b"number 1 first", reader::silent(1), SMALL_24, 1, 388);
+    read(out, b"another form", heard(0), SMALL_16, 1, 516);
+    read(
+        out,
+        b"to 3999999999",
+        heard(3_999_999_998),
+        SMALL_24,
+        5739,
+        388,
+    );
+    read(
+        out,
+        b"to 4000000000",
+        heard(3_999_999_999),
+        SMALL_24,
+        5740,
+        388,
+    );
+    read(
+        out,
+        b"32 before 33",
+        heard(3_999_999_999),
+        SMALL_16,
+        5740,
+        516,
+    );
+    read(
+        out,
+        b"from 4000000000",
+        heard(4_000_000_000),
+        SMALL_24,
+        0,
+        387,
+    );
+    totals_read(out);
+    unpack(out, b"387 bytes unpacked", 387, 0);
+    unpack(out, b"to 127 numbers", 388, 127);
+    unpack(out, b"to 128 numbers", 388, 128);
 }
 
 // Writes a wish to a buffer of so many bytes.
-fn write(words: &[u8], w: Wish, room: usize) {
+fn write(out: Stdout, words: &[u8], w: Wish, room: usize) {
     let mut buffer = [0u8; 16];
     if 16 < room {
         return;
     }
     let part = &mut buffer[..room];
     let written = wishes::write(w, part);
-    name(words);
+    name(out, words);
     match written {
-        wishes::Written::Message(n) => tell(codes::DONE, first(part, n)),
-        wishes::Written::ChannelNotAllowed => tell(codes::CHANNEL_NOT_ALLOWED, b""),
-        wishes::Written::NotAllowed => tell(codes::VALUE_NOT_ALLOWED, b""),
-        wishes::Written::NoRoom => tell(codes::NO_ROOM, b""),
+        wishes::Written::Message(n) => tell(out, codes::DONE, first(part, n)),
+        wishes::Written::ChannelNotAllowed => tell(out, codes::CHANNEL_NOT_ALLOWED, b""),
+        wishes::Written::NotAllowed => tell(out, codes::VALUE_NOT_ALLOWED, b""),
+        wishes::Written::NoRoom => tell(out, codes::NO_ROOM, b""),
     }
 }
 
-pub(crate) fn wishes_written() {
-    write(b"AskName in 15 bytes", Wish::AskName, 15);
-    write(b"AskName in 16 bytes", Wish::AskName, 16);
-    write(b"16 before 20", Wish::AskVersion(4), 15);
-    write(b"SetGain -30", Wish::SetGain(0, -30), 16);
-    write(b"SetGain -31", Wish::SetGain(0, -31), 16);
-    write(b"idle", Wish::SetState(StateFields { run: 1, mode: 1 }), 16);
-    write(b"run", Wish::SetState(StateFields { run: 2, mode: 0 }), 16);
+pub(crate) fn wishes_written(out: Stdout) {
+    write(out, b"AskName in 15 bytes", Wish::AskName, 15);
+    write(out, b"AskName in 16 bytes", Wish::AskName, 16);
+    write(out, b"16 before 20", Wish::AskVersion(4), 15);
+    write(out, b"SetGain -30", Wish::SetGain(0, -30), 16);
+    write(out, b"SetGain -31", Wish::SetGain(0, -31), 16);
     write(
+        out,
+        b"idle",
+        Wish::SetState(StateFields { run: 1, mode: 1 }),
+        16,
+    );
+    write(
+        out,
+        b"run",
+        Wish::SetState(StateFields { run: 2, mode: 0 }),
+        16,
+    );
+    write(
+        out,
         b"run 3",
         Wish::SetState(StateFields { run: 3, mode: 0 }),
         16,
     );
-    channels_written();
+    channels_written(out);
 }
 
 // 02, No. 7: the channel byte is checked first, and what any box allows is written.
-fn channels_written() {
-    write(b"15 before 16", Wish::SetFrequency(1, 34_000_001), 16);
-    write(b"15 before 20", Wish::AskGain(0xFF), 15);
-    write(b"past the band", Wish::SetFrequency(2, 34_000_001), 16);
-    write(b"SetFrequency 02", Wish::SetFrequency(2, 14_010_000), 16);
-    write(b"SetGain FF", Wish::SetGain(0xFF, -20), 16);
-    write(b"AskFrequency FF", Wish::AskFrequency(0xFF), 16);
-    write(b"AskFrequencyRange 02", Wish::AskFrequencyRange(2), 16);
-    write(b"AskRate 77", Wish::AskRate(0x77), 16);
-    write(b"SetChannelSetup 4", Wish::SetChannelSetup(4), 16);
-    write(b"SetChannelSetup 5", Wish::SetChannelSetup(5), 16);
+fn channels_written(out: Stdout) {
+    write(out, b"15 before 16", Wish::SetFrequency(1, 34_000_001), 16);
+    write(out, b"15 before 20", Wish::AskGain(0xFF), 15);
+    write(out, b"past the band", Wish::SetFrequency(2, 34_000_001), 16);
+    write(
+        out,
+        b"SetFrequency 02",
+        Wish::SetFrequency(2, 14_010_000),
+        16,
+    );
+    write(out, b"SetGain FF", Wish::SetGain(0xFF, -20), 16);
+    write(out, b"AskFrequency FF", Wish::AskFrequency(0xFF), 16);
+    write(out, b"AskFrequencyRange 02", Wish::AskFrequencyRange(2), 16);
+    write(out, b"AskRate 77", Wish::AskRate(0x77), 16);
+    write(out, b"SetChannelSetup 4", Wish::SetChannelSetup(4), 16);
+    write(out, b"SetChannelSetup 5", Wish::SetChannelSetup(5), 16);
 }
 
 // Reads bytes as the reply to a wish.
-fn hear(words: &[u8], w: Wish, bytes: &[u8]) {
-    name(words);
+fn hear(out: Stdout, words: &[u8], w: Wish, bytes: &[u8]) {
+    name(out, words);
     match replies::read(w, bytes) {
-        Reply::ChannelNotAllowed => tell(codes::CHANNEL_NOT_ALLOWED, b""),
-        Reply::NotAllowed => tell(codes::VALUE_NOT_ALLOWED, b""),
-        Reply::NotAReply => tell(codes::NOT_A_REPLY, b""),
-        _ => tell(codes::DONE, b""),
+        Reply::ChannelNotAllowed => tell(out, codes::CHANNEL_NOT_ALLOWED, b""),
+        Reply::NotAllowed => tell(out, codes::VALUE_NOT_ALLOWED, b""),
+        Reply::NotAReply => tell(out, codes::NOT_A_REPLY, b""),
+        _ => tell(out, codes::DONE, b""),
     }
 }
 
-pub(crate) fn replies_read() {
-    hear(b"NAK to AskRate", Wish::AskRate(0), b"\x02\x00");
-    hear(b"NAK to AskVersion 4", Wish::AskVersion(4), b"\x02\x00");
-    hear(b"nothing to AskRate", Wish::AskRate(0), b"");
+pub(crate) fn replies_read(out: Stdout) {
+    hear(out, b"NAK to AskRate", Wish::AskRate(0), b"\x02\x00");
     hear(
+        out,
+        b"NAK to AskVersion 4",
+        Wish::AskVersion(4),
+        b"\x02\x00",
+    );
+    hear(out, b"nothing to AskRate", Wish::AskRate(0), b"");
+    hear(
+        out,
         b"rate 200000",
         Wish::AskRate(0),
         b"\x09\x00\xB8\x00\x00\x40\x0D\x03\x00",
     );
     hear(
+        out,
         b"rate 200001",
         Wish::AskRate(0),
         b"\x09\x00\xB8\x00\x00\x41\x0D\x03\x00",
     );
-    hear(b"status 0C", Wish::AskStatus, b"\x05\x00\x05\x00\x0C");
-    hear(b"status 0D", Wish::AskStatus, b"\x05\x00\x05\x00\x0D");
+    hear(out, b"status 0C", Wish::AskStatus, b"\x05\x00\x05\x00\x0C");
+    hear(out, b"status 0D", Wish::AskStatus, b"\x05\x00\x05\x00\x0D");
     hear(
+        out,
         b"serial of Z",
         Wish::AskSerial,
         b"\x0D\x00\x02\x00ZZZZZZZZ\x00",
     );
     hear(
+        out,
         b"serial of [",
         Wish::AskSerial,
         b"\x0D\x00\x02\x00ZZZZZZZ[\x00",
     );
-    channels_read();
+    channels_read(out);
 }
 
 // 02, No. 7: a reply echoes the wish's channel byte; 15 before 16.
-fn channels_read() {
+fn channels_read(out: Stdout) {
     let second = b"\x0A\x00\x20\x00\x02\x90\xC6\xD5\x00\x00";
-    hear(b"frequency of 02", Wish::AskFrequency(2), second);
-    hear(b"the other channel's", Wish::AskFrequency(0), second);
+    hear(out, b"frequency of 02", Wish::AskFrequency(2), second);
+    hear(out, b"the other channel's", Wish::AskFrequency(0), second);
     hear(
+        out,
         b"NAK to AskFrequency FF",
         Wish::AskFrequency(0xFF),
         b"\x02\x00",
     );
-    hear(b"15 before 16", Wish::SetGain(1, -31), b"\x02\x00");
-    hear(b"setup 4", Wish::AskChannelSetup, b"\x05\x00\x19\x00\x04");
-    hear(b"setup 5", Wish::AskChannelSetup, b"\x05\x00\x19\x00\x05");
+    hear(out, b"15 before 16", Wish::SetGain(1, -31), b"\x02\x00");
+    hear(
+        out,
+        b"setup 4",
+        Wish::AskChannelSetup,
+        b"\x05\x00\x19\x00\x04",
+    );
+    hear(
+        out,
+        b"setup 5",
+        Wish::AskChannelSetup,
+        b"\x05\x00\x19\x00\x05",
+    );
 }
 
 // 01: "SPN".
@@ -241,58 +315,68 @@ fn naming(version: u32, serial: u64, clock: u32) -> Head {
 }
 
 // Writes a head to so many bytes.
-fn head(words: &[u8], h: Head, room: usize) {
-    let mut out = [0u8; 26];
+fn head(out: Stdout, words: &[u8], h: Head, room: usize) {
+    let mut bytes = [0u8; 26];
     if 26 < room {
         return;
     }
-    let part = &mut out[..room];
+    let part = &mut bytes[..room];
     let written = heads::write_head(h, part);
-    name(words);
+    name(out, words);
     match written {
-        heads::Written::Whole => tell(codes::DONE, part),
-        heads::Written::NotAllowed => tell(codes::VALUE_NOT_ALLOWED, b""),
-        heads::Written::NoRoom => tell(codes::NO_ROOM, b""),
+        heads::Written::Whole => tell(out, codes::DONE, part),
+        heads::Written::NotAllowed => tell(out, codes::VALUE_NOT_ALLOWED, b""),
+        heads::Written::NoRoom => tell(out, codes::NO_ROOM, b""),
     }
 }
 
-fn written_by_d() {
+fn written_by_d(out: Stdout) {
     let mut last = bare(1, 625);
     last.mode = 0x00;
     last.size = 1;
-    head(b"D 9", bare(1, 9), 14);
-    head(b"D 10", bare(1, 10), 14);
-    head(b"D 625", last, 14);
-    head(b"D 626", bare(1, 626), 14);
-    head(b"in 13 bytes", bare(1, 100), 13);
-    head(b"16 before 20", bare(1, 9), 13);
+    head(out, b"D 9", bare(1, 9), 14);
+    head(out, b"D 10", bare(1, 10), 14);
+    head(out, b"D 625", last, 14);
+    head(out, b"D 626", bare(1, 626), 14);
+    head(out, b"in 13 bytes", bare(1, 100), 13);
+    head(out, b"16 before 20", bare(1, 9), 13);
 }
 
-fn written_by_version() {
-    head(b"version 0", bare(0, 100), 26);
-    head(b"version 1", bare(1, 100), 26);
-    head(b"version 2", bare(2, 100), 26);
-    head(b"version 3", bare(3, 100), 26);
-    head(b"version 1, a serial", naming(1, NAMED, CLOCK), 26);
-    head(b"version 1, clock 79999999", naming(1, 0, 79_999_999), 26);
-    head(b"version 1, clock 80000001", naming(1, 0, 80_000_001), 26);
+fn written_by_version(out: Stdout) {
+    head(out, b"version 0", bare(0, 100), 26);
+    head(out, b"version 1", bare(1, 100), 26);
+    head(out, b"version 2", bare(2, 100), 26);
+    head(out, b"version 3", bare(3, 100), 26);
+    head(out, b"version 1, a serial", naming(1, NAMED, CLOCK), 26);
+    head(
+        out,
+        b"version 1, clock 79999999",
+        naming(1, 0, 79_999_999),
+        26,
+    );
+    head(
+        out,
+        b"version 1, clock 80000001",
+        naming(1, 0, 80_000_001),
+        26,
+    );
 }
 
-fn written_by_name() {
-    head(b"clock 79991999", naming(2, 0, 79_991_999), 26);
-    head(b"clock 79992000", naming(2, 0, 79_992_000), 26);
-    head(b"clock 80008000", naming(2, 0, 80_008_000), 26);
-    head(b"clock 80008001", naming(2, 0, 80_008_001), 26);
-    head(b"MT123456", naming(2, NAMED, CLOCK), 26);
-    head(b"a zero byte", naming(2, HOLED, CLOCK), 26);
-    head(b"version 2 in 25 bytes", naming(2, NAMED, CLOCK), 25);
-    head(b"version 2, 16 before 20", naming(2, HOLED, CLOCK), 25);
+fn written_by_name(out: Stdout) {
+    head(out, b"clock 79991999", naming(2, 0, 79_991_999), 26);
+    head(out, b"clock 79992000", naming(2, 0, 79_992_000), 26);
+    head(out, b"clock 80008000", naming(2, 0, 80_008_000), 26);
+    head(out, b"clock 80008001", naming(2, 0, 80_008_001), 26);
+    head(out, b"MT123456", naming(2, NAMED, CLOCK), 26);
+    head(out, b"a zero byte", naming(2, HOLED, CLOCK), 26);
+    head(out, b"version 2 in 25 bytes", naming(2, NAMED, CLOCK), 25);
+    head(out, b"version 2, 16 before 20", naming(2, HOLED, CLOCK), 25);
 }
 
-pub(crate) fn heads_written() {
-    written_by_d();
-    written_by_version();
-    written_by_name();
+pub(crate) fn heads_written(out: Stdout) {
+    written_by_d(out);
+    written_by_version(out);
+    written_by_name(out);
 }
 
 // A head's values where version 2 has them.
@@ -309,62 +393,77 @@ fn head_bytes(h: Head) -> [u8; 26] {
     out
 }
 
-fn tell_head(h: Head) {
-    say_code(codes::DONE);
-    say_number(h.version as u64);
-    say_number(h.divisor as u64);
-    say_number(h.frequency);
-    say_number(h.mode as u64);
-    say_number(h.size as u64);
-    say_number(h.serial);
-    say_number(h.clock as u64);
-    say(b"\n");
+fn tell_head(out: Stdout, h: Head) {
+    say_code(out, codes::DONE);
+    say_number(out, h.version as u64);
+    say_number(out, h.divisor as u64);
+    say_number(out, h.frequency);
+    say_number(out, h.mode as u64);
+    say_number(out, h.size as u64);
+    say_number(out, h.serial);
+    say_number(out, h.clock as u64);
+    say(out, b"\n");
 }
 
 // Reads the first n bytes of a head, and tells its values.
-fn open(words: &[u8], h: Head, n: usize) {
+fn open(out: Stdout, words: &[u8], h: Head, n: usize) {
     let bytes = head_bytes(h);
-    name(words);
+    name(out, words);
     match heads::read_head(first(&bytes, n)) {
-        Opened::Head(read) => tell_head(read),
-        Opened::NotAHead => tell(codes::NOT_A_HEAD, b""),
-        Opened::OtherVersion => tell(codes::OTHER_VERSION, b""),
+        Opened::Head(read) => tell_head(out, read),
+        Opened::NotAHead => tell(out, codes::NOT_A_HEAD, b""),
+        Opened::OtherVersion => tell(out, codes::OTHER_VERSION, b""),
     }
 }
 
-fn read_by_version() {
-    open(b"13 bytes", bare(1, 100), 13);
-    open(b"14 bytes", bare(1, 100), 14);
-    open(b"more behind", naming(1, NAMED, 79_992_000), 26);
-    open(b"version 0", bare(0, 100), 14);
-    open(b"version 3", bare(3, 100), 14);
-    open(b"version 3, D 9", bare(3, 9), 14);
-    open(b"version 3, 13 bytes", bare(3, 100), 13);
+fn read_by_version(out: Stdout) {
+    open(out, b"13 bytes", bare(1, 100), 13);
+    open(out, b"14 bytes", bare(1, 100), 14);
+    open(out, b"more behind", naming(1, NAMED, 79_992_000), 26);
+    open(out, b"version 0", bare(0, 100), 14);
+    open(out, b"version 3", bare(3, 100), 14);
+    open(out, b"version 3, D 9", bare(3, 9), 14);
+    open(out, b"version 3, 13 bytes", bare(3, 100), 13);
 }
 
-fn read_of_version_2() {
-    open(b"version 2, 14 bytes", bare(2, 100), 14);
-    open(b"version 2, 25 bytes", bare(2, 100), 25);
-    open(b"version 2, 26 bytes", bare(2, 100), 26);
-    open(b"version 2, MT123456", naming(2, NAMED, 79_999_990), 26);
-    open(b"version 2, D 9", bare(2, 9), 26);
-    open(b"version 2, clock 79991999", naming(2, 0, 79_991_999), 26);
-    open(b"version 2, clock 80008001", naming(2, 0, 80_008_001), 26);
-    open(b"version 2, a zero byte", naming(2, HOLED, CLOCK), 26);
+fn read_of_version_2(out: Stdout) {
+    open(out, b"version 2, 14 bytes", bare(2, 100), 14);
+    open(out, b"version 2, 25 bytes", bare(2, 100), 25);
+    open(out, b"version 2, 26 bytes", bare(2, 100), 26);
+    open(
+        out,
+        b"version 2, MT123456",
+        naming(2, NAMED, 79_999_990),
+        26,
+    );
+    open(out, b"version 2, D 9", bare(2, 9), 26);
+    open(
+        out,
+        b"version 2, clock 79991999",
+        naming(2, 0, 79_991_999),
+        26,
+    );
+    open(
+        out,
+        b"version 2, clock 80008001",
+        naming(2, 0, 80_008_001),
+        26,
+    );
+    open(out, b"version 2, a zero byte", naming(2, HOLED, CLOCK), 26);
 }
 
-pub(crate) fn heads_read() {
-    read_by_version();
-    read_of_version_2();
+pub(crate) fn heads_read(out: Stdout) {
+    read_by_version(out);
+    read_of_version_2(out);
 }
 
-fn tell_moved(m: Moved, bytes: &[u8]) {
+fn tell_moved(out: Stdout, m: Moved, bytes: &[u8]) {
     match m {
-        Moved::Whole => tell(codes::DONE, bytes),
-        Moved::NotAHead => tell(codes::NOT_A_HEAD, b""),
-        Moved::OtherVersion => tell(codes::OTHER_VERSION, b""),
-        Moved::WouldLose => tell(codes::WOULD_LOSE, b""),
-        Moved::NoRoom => tell(codes::NO_ROOM, b""),
+        Moved::Whole => tell(out, codes::DONE, bytes),
+        Moved::NotAHead => tell(out, codes::NOT_A_HEAD, b""),
+        Moved::OtherVersion => tell(out, codes::OTHER_VERSION, b""),
+        Moved::WouldLose => tell(out, codes::WOULD_LOSE, b""),
+        Moved::NoRoom => tell(out, codes::NO_ROOM, b""),
     }
 }
 
@@ -376,44 +475,74 @@ fn moved(back: bool, bytes: &[u8], out: &mut [u8]) -> Moved {
 }
 
 // Moves a head back to version 1, or on to version 2, in so many bytes.
-fn shift(words: &[u8], back: bool, h: Head, room: usize) {
-    let mut out = [0u8; 26];
+fn shift(out: Stdout, words: &[u8], back: bool, h: Head, room: usize) {
+    let mut bytes = [0u8; 26];
     if 26 < room {
         return;
     }
-    let part = &mut out[..room];
+    let part = &mut bytes[..room];
     let m = moved(back, &head_bytes(h), part);
-    name(words);
-    tell_moved(m, part);
+    name(out, words);
+    tell_moved(out, m, part);
 }
 
-fn moved_on() {
-    shift(b"on, 25 bytes", false, bare(1, 100), 25);
-    shift(b"on, 26 bytes", false, bare(1, 100), 26);
-    shift(b"on, more behind", false, naming(1, NAMED, 79_992_000), 26);
-    shift(b"on, version 2", false, naming(2, NAMED, 79_999_990), 26);
-    shift(b"40 before 20", false, bare(1, 9), 25);
-    shift(b"41 before 20", false, bare(3, 100), 25);
+fn moved_on(out: Stdout) {
+    shift(out, b"on, 25 bytes", false, bare(1, 100), 25);
+    shift(out, b"on, 26 bytes", false, bare(1, 100), 26);
+    shift(
+        out,
+        b"on, more behind",
+        false,
+        naming(1, NAMED, 79_992_000),
+        26,
+    );
+    shift(
+        out,
+        b"on, version 2",
+        false,
+        naming(2, NAMED, 79_999_990),
+        26,
+    );
+    shift(out, b"40 before 20", false, bare(1, 9), 25);
+    shift(out, b"41 before 20", false, bare(3, 100), 25);
 }
 
-fn moved_back() {
-    shift(b"back, 13 bytes", true, bare(2, 100), 13);
-    shift(b"back, 14 bytes", true, bare(2, 100), 14);
-    shift(b"back, version 1", true, bare(1, 100), 14);
-    shift(b"back, more behind", true, naming(1, NAMED, 79_992_000), 14);
+fn moved_back(out: Stdout) {
+    shift(out, b"back, 13 bytes", true, bare(2, 100), 13);
+    shift(out, b"back, 14 bytes", true, bare(2, 100), 14);
+    shift(out, b"back, version 1", true, bare(1, 100), 14);
+    shift(
+        out,
+        b"back, more behind",
+        true,
+        naming(1, NAMED, 79_992_000),
+        14,
+    );
 }
 
-fn not_moved_back() {
-    shift(b"back, MT123456", true, naming(2, NAMED, CLOCK), 14);
-    shift(b"back, clock 79999999", true, naming(2, 0, 79_999_999), 14);
-    shift(b"back, clock 80000001", true, naming(2, 0, 80_000_001), 14);
-    shift(b"42 before 20", true, naming(2, NAMED, CLOCK), 13);
-    shift(b"40 before 42", true, head_of(2, 9, NAMED, CLOCK), 13);
-    shift(b"41 before 20", true, bare(3, 100), 13);
+fn not_moved_back(out: Stdout) {
+    shift(out, b"back, MT123456", true, naming(2, NAMED, CLOCK), 14);
+    shift(
+        out,
+        b"back, clock 79999999",
+        true,
+        naming(2, 0, 79_999_999),
+        14,
+    );
+    shift(
+        out,
+        b"back, clock 80000001",
+        true,
+        naming(2, 0, 80_000_001),
+        14,
+    );
+    shift(out, b"42 before 20", true, naming(2, NAMED, CLOCK), 13);
+    shift(out, b"40 before 42", true, head_of(2, 9, NAMED, CLOCK), 13);
+    shift(out, b"41 before 20", true, bare(3, 100), 13);
 }
 
-pub(crate) fn heads_moved() {
-    moved_on();
-    moved_back();
-    not_moved_back();
+pub(crate) fn heads_moved(out: Stdout) {
+    moved_on(out);
+    moved_back(out);
+    not_moved_back(out);
 }

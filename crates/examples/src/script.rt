@@ -10,6 +10,7 @@ ghost use Rattle.std.specs.Prelude.{◌≤◌, ◌<◌, length};
 
 use crate::telling::{find, first, from, name, say, tell};
 use station::Station;
+use std::io::Stdout;
 
 // The value of a hexadecimal digit in capitals; of anything else 0.
 fn value_of(digit: u8) -> u8 {
@@ -56,60 +57,60 @@ fn zeros_in(text: &[u8]) -> usize
 }
 
 // Feeds a message in one call.
-fn feed_and_tell(s: Station, message: &[u8]) -> Station {
+fn feed_and_tell(out: Stdout, s: Station, message: &[u8]) -> Station {
     let mut reply = [0u8; 64];
     let fed = station::feed(s, message, &mut reply);
-    tell(fed.code, first(&reply, fed.wrote));
+    tell(out, fed.code, first(&reply, fed.wrote));
     fed.station
 }
 
 // A message of at most 8,200 bytes.
-fn run_message(s: Station, line: &[u8]) -> Station {
+fn run_message(out: Stdout, s: Station, line: &[u8]) -> Station {
     let mut message = [0u8; 8200];
     let plus = find(line, 0, b'+');
     let n = read_bytes(&line[..plus], &mut message);
     let more = zeros_in(&line[plus..]);
-    feed_and_tell(s, first(&message, n + more))
+    feed_and_tell(out, s, first(&message, n + more))
 }
 
 // A message, behind its name where it has one.
-fn run_named(s: Station, line: &[u8]) -> Station {
+fn run_named(out: Stdout, s: Station, line: &[u8]) -> Station {
     let colon = find(line, 0, b':');
     if colon == line.len() {
-        return run_message(s, line);
+        return run_message(out, s, line);
     }
-    name(&line[..colon]);
-    run_message(s, from(&line[colon..], 2))
+    name(out, &line[..colon]);
+    run_message(out, s, from(&line[colon..], 2))
 }
 
 // The box that a line "box SERIAL" begins.
-fn begin(line: &[u8]) -> Station {
+fn begin(out: Stdout, line: &[u8]) -> Station {
     let began = station::fresh(from(line, 4));
-    name(line);
-    tell(began.code, b"");
+    name(out, line);
+    tell(out, began.code, b"");
     began.station
 }
 
 // One line of the script, and the box after it.
-fn run_line(s: Station, line: &[u8]) -> Station {
+fn run_line(out: Stdout, s: Station, line: &[u8]) -> Station {
     if line.len() == 0 || line[0] == b'#' {
-        say(line);
-        say(b"\n");
+        say(out, line);
+        say(out, b"\n");
         return s;
     }
     if check::same(first(line, 4), b"box ") {
-        return begin(line);
+        return begin(out, line);
     }
-    run_named(s, line)
+    run_named(out, s, line)
 }
 
 // One line after the other.
-pub(crate) fn run(text: &[u8]) {
+pub(crate) fn run(out: Stdout, text: &[u8]) {
     let mut now = station::fresh(b"00000000").station;
     let mut at = 0;
     while at < text.len() {
         let end = find(text, at, b'\n');
-        now = run_line(now, &text[at..end]);
+        now = run_line(out, now, &text[at..end]);
         if end == text.len() {
             return;
         }

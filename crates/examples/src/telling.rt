@@ -2,16 +2,16 @@
 // comparison then shows.
 ghost use Rattle.std.specs.Prelude.{◌≤◌, length};
 
-use libc::STDOUT_FILENO;
+use std::io::Stdout;
 
-pub(crate) fn say(text: &[u8]) {
-    io::write_all(STDOUT_FILENO, text);
+pub(crate) fn say(out: Stdout, text: &[u8]) {
+    let _ = out.write_all(text);
 }
 
 // What the call is.
-pub(crate) fn name(words: &[u8]) {
-    say(words);
-    say(b": ");
+pub(crate) fn name(out: Stdout, words: &[u8]) {
+    say(out, words);
+    say(out, b": ");
 }
 
 // The first n bytes, or all where there are fewer.
@@ -58,31 +58,31 @@ fn digit_of(value: u8) -> u8 {
 }
 
 // A space and a byte.
-fn say_byte(b: u8) {
-    say(&[b' ', digit_of(b >> 4), digit_of(b & 15)]);
+fn say_byte(out: Stdout, b: u8) {
+    say(out, &[b' ', digit_of(b >> 4), digit_of(b & 15)]);
 }
 
 // A space and a number.
-pub(crate) fn say_number(n: u64) {
-    say(b" ");
-    io::print_decimal(STDOUT_FILENO, n);
+pub(crate) fn say_number(out: Stdout, n: u64) {
+    say(out, b" ");
+    let _ = out.print(n);
 }
 
 fn wide(code: u8) -> u64 {
     code as u64
 }
 
-pub(crate) fn say_code(code: u8) {
-    io::print_decimal(STDOUT_FILENO, wide(code));
+pub(crate) fn say_code(out: Stdout, code: u8) {
+    let _ = out.print(wide(code));
 }
 
 // A code, the bytes, and the line's end.
-pub(crate) fn tell(code: u8, bytes: &[u8]) {
-    say_code(code);
+pub(crate) fn tell(out: Stdout, code: u8, bytes: &[u8]) {
+    say_code(out, code);
     let mut i = 0;
     while i < bytes.len() {
-        say_byte(bytes[i]);
+        say_byte(out, bytes[i]);
         i += 1;
     }
-    say(b"\n");
+    say(out, b"\n");
 }

@@ -1,5 +1,9 @@
 // Writes a capture head to standard output from the words of its command: of version 1 from four, of version 2 from six. BITS is 2x24
 // or 2x16 where there are two channels. A word that is none of those allowed is named on standard error, and nothing is written.
+#![tactic(auto)]
+
+mod words; // words.rt: the words of the command
+
 ghost use Rattle.std.specs.Prelude.{◌≡◌, true};
 ghost use Rattle.heads.specs.Head.{head_bytes, allowed_head};
 ghost use Rattle.headwords.specs.Words.{Fit};
@@ -7,14 +11,16 @@ ghost use Rattle.head.specs.Command.{worded_of};
 
 use heads::{Head, Written};
 use headwords::Worded;
-use libc::{STDERR_FILENO, STDOUT_FILENO};
+use std::rt::Env;
+use streams::Streams;
+use words::word;
 
 // Writes a head's bytes. The head is there for the contract alone, which says whose they are.
-fn write_bytes(h: Head, bytes: &[u8])
+fn write_bytes(io: &mut Streams, h: Head, bytes: &[u8])
     requires { (allowed_head h ≡ true) × (bytes.now ≡ head_bytes h) }
 {
-    if !io::write_all(STDOUT_FILENO, bytes) {
-        os::fail(b"head: the head could not be written");
+    if !io.write_all(bytes) {
+        io.fail(b"head: the head could not be written");
     }
 }
 
@@ -23,7 +29,7 @@ fn never()
     requires { ⊥ }
 {}
 
-fn write_whole(h: Head)
+fn write_whole(io: &mut Streams, h: Head)
     requires { allowed_head h ≡ true }
 {
     let mut out = [0u8; 26];
@@ -31,9 +37,9 @@ fn write_whole(h: Head)
     match written {
         Written::Whole => {
             if h.version == 2 {
-                write_bytes(h, &out);
+                write_bytes(io, h, &out);
             } else {
-                write_bytes(h, &out[..14]);
+                write_bytes(io, h, &out[..14]);
             }
         }
         Written::NotAllowed => never(),
@@ -41,13 +47,14 @@ fn write_whole(h: Head)
     }
 }
 
-fn say(line: &[u8]) {
-    io::write_all(STDERR_FILENO, line);
+fn say(io: &mut Streams, line: &[u8]) {
+    io.report(line);
 }
 
 // Writes the head that words came to, or says which word is none of those allowed, and what is. The words and their number are there
 // for the contract alone, which says whose head it is.
 fn answer(
+    io: &mut Streams,
     count: usize,
     d: &[u8],
     hz: &[u8],
@@ -61,30 +68,39 @@ fn answer(
         × (worded ≡ worded_of count d.now hz.now bits.now size.now serial.now clock.now) }
 {
     match worded {
-        Worded::Head(h) => write_whole(h),
-        Worded::BadDivisor => say(b"head: D is a whole number from 10 to 625\n"),
+        Worded::Head(h) => write_whole(io, h),
+        Worded::BadDivisor => say(io, b"head: D is a whole number from 10 to 625\n"),
         Worded::BadFrequency => say(
+            io,
             b"head: HZ is a whole number from 100000 to 34000000 or from 140000000 to 150000000\n",
         ),
         Worded::BadBits => say(
+            io,
             b"head: BITS is 24 or 16, or 2x24 or 2x16 where there are two channels\n",
         ),
-        Worded::BadSize => say(b"head: SIZE is large or small\n"),
+        Worded::BadSize => say(io, b"head: SIZE is large or small\n"),
         Worded::BadSerial => {
-            say(b"head: SERIAL is eight of A-Z, 0-9, or - where it is not known\n")
+            say(
+                io,
+                b"head: SERIAL is eight of A-Z, 0-9, or - where it is not known\n",
+            )
         }
-        Worded::BadClock => say(b"head: CLOCK is a whole number from 79992000 to 80008000\n"),
+        Worded::BadClock => say(
+            io,
+            b"head: CLOCK is a whole number from 79992000 to 80008000\n",
+        ),
     }
 }
 
-fn answer_four(count: usize, d: &[u8], hz: &[u8], bits: &[u8], size: &[u8])
+fn answer_four(io: &mut Streams, count: usize, d: &[u8], hz: &[u8], bits: &[u8], size: &[u8])
     requires { count ≡ 5 }
 {
     let worded = headwords::plain(d, hz, bits, size);
-    answer(count, d, hz, bits, size, b"", b"", worded);
+    answer(io, count, d, hz, bits, size, b"", b"", worded);
 }
 
 fn answer_six(
+    io: &mut Streams,
     count: usize,
     d: &[u8],
     hz: &[u8],
@@ -96,22 +112,23 @@ fn answer_six(
     requires { count ≡ 7 }
 {
     let worded = headwords::named(d, hz, bits, size, serial, clock);
-    answer(count, d, hz, bits, size, serial, clock, worded);
+    answer(io, count, d, hz, bits, size, serial, clock, worded);
 }
 
 // The first four words. One of more than 32 bytes is none of those allowed, and counts as empty, which is none either.
-fn from_four(count: usize)
+fn from_four(io: &mut Streams, rt: &impl Env, count: usize)
     requires { count ≡ 5 }
 {
     let mut d = [0u8; 32];
-    let d_long = os::arg(1, &mut d);
+    let d_long = word(rt, 1, &mut d);
     let mut hz = [0u8; 32];
-    let hz_long = os::arg(2, &mut hz);
+    let hz_long = word(rt, 2, &mut hz);
     let mut bits = [0u8; 32];
-    let bits_long = os::arg(3, &mut bits);
+    let bits_long = word(rt, 3, &mut bits);
     let mut size = [0u8; 32];
-    let size_long = os::arg(4, &mut size);
+    let size_long = word(rt, 4, &mut size);
     answer_four(
+        io,
         count,
         &d[..d_long],
         &hz[..hz_long],
@@ -121,22 +138,23 @@ fn from_four(count: usize)
 }
 
 // All six, likewise.
-fn from_six(count: usize)
+fn from_six(io: &mut Streams, rt: &impl Env, count: usize)
     requires { count ≡ 7 }
 {
     let mut d = [0u8; 32];
-    let d_long = os::arg(1, &mut d);
+    let d_long = word(rt, 1, &mut d);
     let mut hz = [0u8; 32];
-    let hz_long = os::arg(2, &mut hz);
+    let hz_long = word(rt, 2, &mut hz);
     let mut bits = [0u8; 32];
-    let bits_long = os::arg(3, &mut bits);
+    let bits_long = word(rt, 3, &mut bits);
     let mut size = [0u8; 32];
-    let size_long = os::arg(4, &mut size);
+    let size_long = word(rt, 4, &mut size);
     let mut serial = [0u8; 32];
-    let serial_long = os::arg(5, &mut serial);
+    let serial_long = word(rt, 5, &mut serial);
     let mut clock = [0u8; 32];
-    let clock_long = os::arg(6, &mut clock);
+    let clock_long = word(rt, 6, &mut clock);
     answer_six(
+        io,
         count,
         &d[..d_long],
         &hz[..hz_long],
@@ -148,13 +166,14 @@ fn from_six(count: usize)
 }
 
 // The program's own name counts among its words.
-fn main() {
-    let count = os::arg_count();
+fn main(rt: HostRuntime) {
+    let mut io = Streams::new(rt.stdin(), rt.stdout(), rt.stderr());
+    let count = words::count_of(&rt);
     if count == 5 {
-        from_four(count);
+        from_four(&mut io, &rt, count);
     } else if count == 7 {
-        from_six(count);
+        from_six(&mut io, &rt, count);
     } else {
-        say(b"usage: head D HZ BITS SIZE [SERIAL CLOCK]\n");
+        say(&mut io, b"usage: head D HZ BITS SIZE [SERIAL CLOCK]\n");
     }
 }

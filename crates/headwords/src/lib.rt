@@ -1,4 +1,6 @@
 // A capture head's values as a user writes them, for the program head.
+#![tactic(auto)]
+
 ghost use Rattle.std.specs.Prelude.{◌≡◌, ◌||◌};
 ghost use Rattle.wire.specs.Lists.{same};
 ghost use Rattle.wire.specs.Choice.{pick};

@@ -8,6 +8,7 @@ use items::Settings;
 use reader::Reader;
 use spans::Span;
 use station::Station;
+use std::io::Stdout;
 use wire::codes;
 use wishes::Wish;
 
@@ -78,53 +79,53 @@ fn cut(s: Station, p: u32, packet: &mut [u8]) -> Cut {
 }
 
 // The first I and the first Q of each channel.
-fn say_first(numbers: &[i32], channels: u8) {
+fn say_first(out: Stdout, numbers: &[i32], channels: u8) {
     if 4 <= numbers.len() {
-        say_signed(numbers[0]);
-        say_signed(numbers[1]);
+        say_signed(out, numbers[0]);
+        say_signed(out, numbers[1]);
         if channels == 2 {
-            say_signed(numbers[2]);
-            say_signed(numbers[3]);
+            say_signed(out, numbers[2]);
+            say_signed(out, numbers[3]);
         }
     }
 }
 
 // The first numbers that a packet of so many channels unpacks to.
-fn say_numbers(packet: &[u8], channels: u8) {
+fn say_numbers(out: Stdout, packet: &[u8], channels: u8) {
     let mut numbers = [0i32; 512];
     let unpacked = reader::unpack(packet, &mut numbers);
     if unpacked.code == codes::DONE {
-        say_first(&numbers, channels);
+        say_first(out, &numbers, channels);
     }
 }
 
 // Hands bytes of the capture to the span, and prints the lines that are due.
-fn measure(s: Span, piece: &[u8]) -> Span {
+fn measure(out: Stdout, s: Span, piece: &[u8]) -> Span {
     let mut lines = [0u8; 256];
     let eaten = spans::eat(s, piece, &mut lines);
-    say(first(&lines, eaten.wrote));
+    say(out, first(&lines, eaten.wrote));
     eaten.span
 }
 
 // Reads a packet that was heard, and tells its number, its position, its first sample's position, how many were missed just
 // before it and in all, and its first numbers.
-fn read_packet(r: Reader, packet: &[u8]) -> Reader {
+fn read_packet(out: Stdout, r: Reader, packet: &[u8]) -> Reader {
     let heard = reader::read(r, packet);
-    say_number(b"number", packets::number_in(packet) as u64);
-    say_number(b" position", heard.position);
-    say_number(b" sample", heard.sample);
-    say_number(b" missed", heard.missed);
-    say_number(b" of", heard.total);
-    say_numbers(packet, r.channels);
-    say(b"\n");
+    say_number(out, b"number", packets::number_in(packet) as u64);
+    say_number(out, b" position", heard.position);
+    say_number(out, b" sample", heard.sample);
+    say_number(out, b" missed", heard.missed);
+    say_number(out, b" of", heard.total);
+    say_numbers(out, packet, r.channels);
+    say(out, b"\n");
     heard.reader
 }
 
 // A packet of n bytes is heard.
-fn hear(night: Night, packet: &[u8], n: usize) -> Night {
+fn hear(out: Stdout, night: Night, packet: &[u8], n: usize) -> Night {
     let whole = first(packet, n);
-    let reader = read_packet(night.reader, whole);
-    let span = measure(night.span, whole);
+    let reader = read_packet(out, night.reader, whole);
+    let span = measure(out, night.span, whole);
     let station = night.station;
     Night {
         station,
@@ -134,7 +135,7 @@ fn hear(night: Night, packet: &[u8], n: usize) -> Night {
 }
 
 // The packet at position p is cut, and heard or lost.
-fn next(night: Night, p: u32) -> Night {
+fn next(out: Stdout, night: Night, p: u32) -> Night {
     let mut packet = [0u8; 1444];
     let cut = cut(night.station, p, &mut packet);
     let station = cut.station;
@@ -146,24 +147,24 @@ fn next(night: Night, p: u32) -> Night {
         span,
     };
     if is_heard(p) {
-        return hear(after, &packet, cut.wrote);
+        return hear(out, after, &packet, cut.wrote);
     }
     after
 }
 
 // As many packets as are asked for.
-fn packets_of(night: Night, count: u32) -> Night {
+fn packets_of(out: Stdout, night: Night, count: u32) -> Night {
     let mut after = night;
     let mut p = 0;
     while p < count {
-        after = next(after, p);
+        after = next(out, after, p);
         p += 1;
     }
     after
 }
 
 // A span that has taken the head of the capture that the box begins; it names the box and its clock.
-fn open(settings: Settings) -> Span {
+fn open(out: Stdout, settings: Settings) -> Span {
     let mut head = [0u8; 26];
     let serial = settings.serial;
     heads::write_head(
@@ -178,26 +179,26 @@ fn open(settings: Settings) -> Span {
         },
         &mut head,
     );
-    measure(spans::fresh(), &head)
+    measure(out, spans::fresh(), &head)
 }
 
 // The end of the capture: what it covers.
-fn close(s: Span) {
+fn close(out: Stdout, s: Span) {
     let mut lines = [0u8; 256];
     let told = spans::finish(s, &mut lines);
-    say(first(&lines, told.wrote));
+    say(out, first(&lines, told.wrote));
 }
 
 // A capture in a mode and size, with as many channels as the box has, from its first packet to the box's being idle again.
-pub(crate) fn capture(s: Station, mode: u8, size: u8, count: u32) -> Station {
-    let sized = ask(s, b"SetPacketSize", Wish::SetPacketSize(size));
-    let running = run(sized, mode);
+pub(crate) fn capture(out: Stdout, s: Station, mode: u8, size: u8, count: u32) -> Station {
+    let sized = ask(out, s, b"SetPacketSize", Wish::SetPacketSize(size));
+    let running = run(out, sized, mode);
     let begun = Night {
         station: running,
         reader: reader::silent(channels::count_of(running.settings)),
-        span: open(running.settings),
+        span: open(out, running.settings),
     };
-    let over = packets_of(begun, count);
-    close(over.span);
-    idle(over.station)
+    let over = packets_of(out, begun, count);
+    close(out, over.span);
+    idle(out, over.station)
 }

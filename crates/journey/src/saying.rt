@@ -1,8 +1,8 @@
 // Words and numbers on standard output. A write that fails loses its text, which the comparison then shows.
-use libc::STDOUT_FILENO;
+use std::io::Stdout;
 
-pub(crate) fn say(text: &[u8]) {
-    io::write_all(STDOUT_FILENO, text);
+pub(crate) fn say(out: Stdout, text: &[u8]) {
+    let _ = out.write_all(text);
 }
 
 // The first n bytes, or all where there are fewer.
@@ -14,10 +14,10 @@ pub(crate) fn first(bytes: &[u8], n: usize) -> &[u8] {
 }
 
 // A word and the number behind it.
-pub(crate) fn say_number(word: &[u8], n: u64) {
-    say(word);
-    say(b" ");
-    io::print_decimal(STDOUT_FILENO, n);
+pub(crate) fn say_number(out: Stdout, word: &[u8], n: u64) {
+    say(out, word);
+    say(out, b" ");
+    let _ = out.print(n);
 }
 
 // A signed number, half a turn higher: so no number is below zero.
@@ -26,13 +26,13 @@ fn lifted(n: i32) -> u64 {
 }
 
 // A space and a number that may be below zero.
-pub(crate) fn say_signed(n: i32) {
+pub(crate) fn say_signed(out: Stdout, n: i32) {
     let up = lifted(n);
     if up < 2_147_483_648 {
-        say(b" -");
-        io::print_decimal(STDOUT_FILENO, 2_147_483_648 - up);
+        say(out, b" -");
+        let _ = out.print(2_147_483_648 - up);
         return;
     }
-    say(b" ");
-    io::print_decimal(STDOUT_FILENO, up - 2_147_483_648);
+    say(out, b" ");
+    let _ = out.print(up - 2_147_483_648);
 }

@@ -5,7 +5,7 @@ use Rattle.std.proofs.lemmas.List.Edits.{sets}
 use Rattle.wire.specs.Codes as Code
 use Rattle.wire.specs.Lists.{joined}
 use Rattle.reads.specs.Got.{NoMore, Whole}
-use Rattle.libc.specs.Io.{Moved}
+use Rattle.streams.specs.Moved.{Moved}
 use Rattle.lines.specs.Lines.{Line, refusal_line}
 use Rattle.heads.specs.Head.{head_length, head_length_in}
 use Rattle.heads.specs.declared.Moved.{Moved as MovedHead}

@@ -1,7 +1,7 @@
 // Standard output, and how much was written to it.
 ghost use Rattle.std.specs.Prelude.{◌≡◌, true, ◌+◌, length};
 
-use libc::STDOUT_FILENO;
+use streams::Streams;
 
 // How many bytes were written to standard output. The field is this file's alone, so that elsewhere it grows by writing only.
 #[derive(Drop)]
@@ -24,7 +24,7 @@ pub struct Sending {
 }
 
 // Writes bytes and counts them. More than can be counted, to which no run comes, count as not written.
-pub fn send(sent: Sent, bytes: &[u8]) -> Sending
+pub fn send(io: &mut Streams, sent: Sent, bytes: &[u8]) -> Sending
     ensures { result.written ≡ true → result.sent.bytes ≡ sent.bytes + length bytes.now }
 {
     let before = sent.bytes;
@@ -34,7 +34,7 @@ pub fn send(sent: Sent, bytes: &[u8]) -> Sending
             written: false,
         };
     }
-    let written = io::write_all(STDOUT_FILENO, bytes);
+    let written = io.write_all(bytes);
     Sending {
         sent: Sent {
             bytes: before + bytes.len(),

@@ -10,8 +10,7 @@ use lib.ListN.{length, take}
 use lib.Seq.{length-take-le}
 use borrow.Author.Tests.{lt-leb}
 use lib.Signed.{lt_z, le_z}
-use Rattle.libc.specs.Io.{Moved}
-use Rattle.io.specs.Counts.{clamp_len}
+use Rattle.streams.specs.Moved.{Moved, clamp_len}
 use Rattle.reads.specs.Got.{NoMore, Whole, AllOf}
 
 pub no_more : (got : ℤ) → le_z got (pos 0) ≡ true → NoMore got

@@ -1,19 +1,21 @@
 // The session program: standard input is fed to a fresh box with serial MT123456, and its raw replies go to standard
 // output. It stands behind a TCP relay, so every reply is written before the program waits for more input.
+#![tactic(auto)]
+
 ghost use Rattle.std.specs.Prelude.{◌≡◌, true};
 ghost use Rattle.station.specs.Feeding.{feeding_of};
 ghost use Rattle.reads.specs.Got.{AllOf, NoMore, Whole};
 ghost use Rattle.session.specs.Session.{HandedOver, ReadSoFar};
 
-use libc::{STDIN_FILENO, STDOUT_FILENO};
 use station::{Fed, Station};
+use streams::Streams;
 
 // Writes the reply of a box to some bytes of the host, in one write, and answers whether it was written. Box and bytes are
 // there for the contract alone, which says whose reply it is.
-fn write_reply(s: Station, host: &[u8], reply: &[u8]) -> bool
+fn write_reply(io: &mut Streams, s: Station, host: &[u8], reply: &[u8]) -> bool
     requires { reply.now ≡ (feeding_of s host.now 64).bytes }
 {
-    io::write_all(STDOUT_FILENO, reply)
+    io.write_all(reply)
 }
 
 // What a call of feeding came to. Where its reply could not be written nothing is promised, so that nobody can go on.
@@ -24,13 +26,13 @@ struct Answered {
 }
 
 // One call of feeding on what is left of a piece, and its reply.
-fn feed_once(s: Station, host: &[u8]) -> Answered
+fn feed_once(io: &mut Streams, s: Station, host: &[u8]) -> Answered
     ensures { result.written ≡ true → result.fed ≡ (feeding_of s host.now 64).fed }
 {
     let mut reply = [0u8; 64];
     let fed = station::feed(s, host, &mut reply);
     let wrote = fed.wrote;
-    let written = write_reply(s, host, &reply[..wrote]);
+    let written = write_reply(io, s, host, &reply[..wrote]);
     Answered { fed, written }
 }
 
@@ -43,14 +45,14 @@ struct Handed {
 
 // Hands a piece over by calling again until its bytes are used up, or a reply cannot be written. The two counts are there for
 // the contract alone: so many bytes were read before, and the piece is all that the last read gave.
-fn feed_piece(s: Station, read: usize, got: isize, piece: &[u8]) -> Handed
+fn feed_piece(io: &mut Streams, s: Station, read: usize, got: isize, piece: &[u8]) -> Handed
     requires { ReadSoFar s read × AllOf got piece.now }
     ensures { result.written ≡ true → HandedOver s piece.now result.station }
 {
     let mut station = s;
     let mut at = 0;
     while at < piece.len() {
-        let answered = feed_once(station, &piece[at..]);
+        let answered = feed_once(io, station, &piece[at..]);
         let fed = answered.fed;
         let next = fed.station;
         if !answered.written {
@@ -83,14 +85,14 @@ struct Ended {
 const MOST: usize = 0x8000_0000_0000_0000;
 
 // Reads pieces as they come, until the input ends, a read fails or a reply cannot be written.
-fn serve(s: Station, buf: &mut [u8]) -> Ended
+fn serve(io: &mut Streams, s: Station, buf: &mut [u8]) -> Ended
     requires { ReadSoFar s 0 }
     ensures { result.written ≡ true → ReadSoFar result.station result.read × NoMore result.got }
 {
     let mut station = s;
     let mut read = 0;
     loop {
-        let got = libc::read(STDIN_FILENO, buf);
+        let got = io.read(buf);
         if got <= 0 {
             return Ended {
                 station,
@@ -99,7 +101,7 @@ fn serve(s: Station, buf: &mut [u8]) -> Ended
                 written: true,
             };
         }
-        let n = io::count(got, buf);
+        let n = streams::count(got, buf);
         if MOST - read < n {
             return Ended {
                 station,
@@ -108,7 +110,7 @@ fn serve(s: Station, buf: &mut [u8]) -> Ended
                 written: true,
             };
         }
-        let handed = feed_piece(station, read, got, &buf[..n]);
+        let handed = feed_piece(io, station, read, got, &buf[..n]);
         let next = handed.station;
         if !handed.written {
             return Ended {
@@ -130,15 +132,16 @@ fn served(s: Station, read: usize, got: isize)
 {}
 
 // Says once, and after all else, what could not be done.
-fn main() {
+fn main(rt: HostRuntime) {
+    let mut io = Streams::new(rt.stdin(), rt.stdout(), rt.stderr());
     let mut buf = [0u8; 65536];
-    let ended = serve(station::session_box(), &mut buf);
+    let ended = serve(&mut io, station::session_box(), &mut buf);
     if !ended.written {
-        os::fail(b"session: a reply could not be written");
+        io.fail(b"session: a reply could not be written");
         return;
     }
     if ended.got < 0 {
-        os::fail(b"session: the input could not be read to its end");
+        io.fail(b"session: the input could not be read to its end");
         return;
     }
     served(ended.station, ended.read, ended.got);

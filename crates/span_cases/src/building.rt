@@ -3,6 +3,7 @@ ghost use Rattle.std.specs.Prelude.{◌≤◌, length};
 
 use crate::feeding::{further, ways};
 use crate::saying::first;
+use std::io::Stdout;
 
 // How much of an input there is, and the first digit of a byte that is half there (16 where none is).
 #[derive(Drop)]
@@ -73,10 +74,10 @@ fn build(line: &[u8], input: &mut [u8]) -> usize {
 }
 
 // A case: its name, and its bytes as a line has them.
-fn case(name: &[u8], line: &[u8]) {
+fn case(out: Stdout, name: &[u8], line: &[u8]) {
     let mut input = [0u8; 8192];
     let n = build(line, &mut input);
-    ways(name, first(&input, n));
+    ways(out, name, first(&input, n));
 }
 
 // The first place from one on that has this byte, or the end.
@@ -95,12 +96,12 @@ fn find(text: &[u8], from: usize, b: u8) -> usize
 }
 
 // One case after the other.
-pub(crate) fn cases(text: &[u8]) {
+pub(crate) fn cases(out: Stdout, text: &[u8]) {
     let mut at = 0;
     while at < text.len() {
         let colon = find(text, at, b':');
         let end = find(text, colon, b'\n');
-        case(&text[at..colon], &text[colon..end]);
+        case(out, &text[at..colon], &text[colon..end]);
         at = further(end, 1, text.len());
     }
 }

@@ -4,6 +4,7 @@ ghost use Rattle.spans.specs.Eating.{eating_of};
 
 use crate::saying::{first, say};
 use spans::{Eaten, Span};
+use std::io::Stdout;
 
 // The place n bytes behind another, at most the end.
 pub(crate) fn further(at: usize, n: usize, end: usize) -> usize
@@ -19,60 +20,60 @@ pub(crate) fn further(at: usize, n: usize, end: usize) -> usize
 }
 
 // Hands a piece of the input over, and prints the lines that are due.
-fn hand_over(s: Span, piece: &[u8]) -> Eaten
+fn hand_over(out: Stdout, s: Span, piece: &[u8]) -> Eaten
     ensures { result ≡ (eating_of s piece.now 256).eaten }
 {
-    let mut out = [0u8; 256];
-    let e = spans::eat(s, piece, &mut out);
-    say(first(&out, e.wrote));
+    let mut lines = [0u8; 256];
+    let e = spans::eat(s, piece, &mut lines);
+    say(out, first(&lines, e.wrote));
     e
 }
 
 // Prints the lines that the end of the input brings.
-fn close(s: Span) {
-    let mut out = [0u8; 256];
-    let told = spans::finish(s, &mut out);
-    say(first(&out, told.wrote));
+fn close(out: Stdout, s: Span) {
+    let mut lines = [0u8; 256];
+    let told = spans::finish(s, &mut lines);
+    say(out, first(&lines, told.wrote));
 }
 
 // Hands an input over in pieces of so many bytes, each from where the one before was consumed to; then the end.
-fn run(input: &[u8], step: usize)
+fn run(out: Stdout, input: &[u8], step: usize)
     requires { 0 < step }
 {
     let mut span = spans::fresh();
     let mut at = 0;
     while at < input.len() {
-        let e = hand_over(span, first(&input[at..], step));
+        let e = hand_over(out, span, first(&input[at..], step));
         let next = e.span;
         span = next;
         at += e.consumed;
     }
-    close(span);
+    close(out, span);
 }
 
 // A name, a way to cut, and the lines.
-fn cut(name: &[u8], way: &[u8], input: &[u8], step: usize)
+fn cut(out: Stdout, name: &[u8], way: &[u8], input: &[u8], step: usize)
     requires { 0 < step }
 {
-    say(name);
-    say(way);
-    run(input, step);
+    say(out, name);
+    say(out, way);
+    run(out, input, step);
 }
 
 // An input in each way to cut it. None is longer than 8,192 bytes.
-pub(crate) fn ways(name: &[u8], input: &[u8]) {
-    cut(name, b": whole\n", input, 8192);
-    cut(name, b": byte by byte\n", input, 1);
-    cut(name, b": pieces of 7\n", input, 7);
-    cut(name, b": pieces of 389\n", input, 389);
+pub(crate) fn ways(out: Stdout, name: &[u8], input: &[u8]) {
+    cut(out, name, b": whole\n", input, 8192);
+    cut(out, name, b": byte by byte\n", input, 1);
+    cut(out, name, b": pieces of 7\n", input, 7);
+    cut(out, name, b": pieces of 389\n", input, 389);
 }
 
 // Hands the same packet over so many times.
-fn again(s: Span, packet: &[u8], count: u32) -> Span {
+fn again(out: Stdout, s: Span, packet: &[u8], count: u32) -> Span {
     let mut span = s;
     let mut left = count;
     while 0 < left {
-        let e = hand_over(span, packet);
+        let e = hand_over(out, span, packet);
         let next = e.span;
         span = next;
         left -= 1;
@@ -81,16 +82,17 @@ fn again(s: Span, packet: &[u8], count: u32) -> Span {
 }
 
 // A case of a packet numbered 0 and so many packets of another number behind it, each handed over by itself.
-pub(crate) fn repeated(name: &[u8], number: u64, count: u32) {
-    say(name);
-    say(b": packet by packet\n");
+pub(crate) fn repeated(out: Stdout, name: &[u8], number: u64, count: u32) {
+    say(out, name);
+    say(out, b": packet by packet\n");
     let opened = hand_over(
+        out,
         spans::fresh(),
         b"SPN\x01\x00\x64\x00\x80\x96\x98\x00\x00\x80\x01",
     );
     let mut packet = [0u8; 388];
     wire::put(&mut packet, 0, 4, 0x0000_8184);
-    let begun = again(opened.span, &packet, 1);
+    let begun = again(out, opened.span, &packet, 1);
     wire::put(&mut packet, 2, 2, number);
-    close(again(begun, &packet, count));
+    close(out, again(out, begun, &packet, count));
 }

@@ -4,17 +4,21 @@
 //
 //     NAME: 53504E 84810400* ..    bytes; a star behind four bytes that begin a packet stands for the rest of it, zeros,
 //                                  and a minus takes the last byte away
+#![tactic(auto)]
+
 mod building; // building.rt: from a line to an input
 mod feeding; // feeding.rt: an input is handed over
 mod saying; // saying.rt: words on standard output
 
-use libc::STDIN_FILENO;
+use streams::Streams;
 
-fn main() {
-    let mut text = io::large_buffer();
-    let n = io::read_full(STDIN_FILENO, &mut text);
-    building::cases(&text[..n]);
+fn main(rt: HostRuntime) {
+    let mut io = Streams::new(rt.stdin(), rt.stdout(), rt.stderr());
+    let mut text = [0u8; 65536];
+    let n = io.read_full(&mut text);
+    let out = rt.stdout();
+    building::cases(out, &text[..n]);
     // "position past 3,999,999,999": 61,036 full turns past position 5,739 lies the last one, past 5,740 one too many.
-    feeding::repeated(b"to position 3999999999", 5739, 61037);
-    feeding::repeated(b"to position 4000000000", 5740, 61037);
+    feeding::repeated(out, b"to position 3999999999", 5739, 61037);
+    feeding::repeated(out, b"to position 4000000000", 5740, 61037);
 }

@@ -1,10 +1,10 @@
 // Words on standard output. A write that fails loses its text, which the comparison then shows.
 ghost use Rattle.std.specs.Prelude.{◌≡◌, take};
 
-use libc::STDOUT_FILENO;
+use std::io::Stdout;
 
-pub(crate) fn say(text: &[u8]) {
-    io::write_all(STDOUT_FILENO, text);
+pub(crate) fn say(out: Stdout, text: &[u8]) {
+    let _ = out.write_all(text);
 }
 
 // The first n bytes, or all where there are fewer.

@@ -1,0 +1,12 @@
+use Rattle.std.proofs.Common.{ℕ, ◌<◌, sym, ap, get_or, arith}
+use mathlib.Core.Path.{◌∙◌}
+use Rattle.items.specs.Settings.{holds_serial}
+use Rattle.headwords.proofs.Words.{holds_there}
+use Rattle.headwords.proofs.is_serial_word.Goals as goal
+
+pub returns : goal.returns
+returns c =
+    let word = c.args.word.now in
+    let small : (k : ℕ) → get_or word k 0 < 256 = λ k. omega (arith, c.type_inv.word k) in
+    rw (sym c.is_same.ensures ∙ c.if-is_same.false)
+    (c.is_serial.ensures ∙ ap holds_serial c.number_at.ensures ∙ holds_there word small c.if-word-ne8.false)
