@@ -1,4 +1,6 @@
 // Replies of document 01: "Replies have the item's set layout with the current value; the channel byte or id is echoed."
+#![tactic(auto)]
+
 ghost use Rattle.std.specs.Prelude.{◌≡◌, length};
 ghost use Rattle.std.proofs.lemmas.List.Edits.{sets};
 ghost use Rattle.answers.specs.Replies.{answer_of};

@@ -1,4 +1,6 @@
 // The two tuning channels of a box (02, No. 7): which are open, which of them a set covers, and what a set leaves of one.
+#![tactic(auto)]
+
 ghost use Rattle.std.specs.Prelude.{◌≡◌, ◌∷◌};
 ghost use Rattle.wire.specs.Choice.{pick, one_of};
 ghost use Rattle.items.specs.Settings.{open_channels, channels_of, covers, channel_at, gained_to};

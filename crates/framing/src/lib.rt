@@ -1,5 +1,7 @@
 // Feeding, the part of it that no item has a say in: which bytes make a message, and what the box keeps of one that is
 // not finished.
+#![tactic(auto)]
+
 ghost use Rattle.std.specs.Prelude.{◌≡◌, true, false, ◌++◌, ◌+◌, ◌*◌, ◌-◌, ◌≤◌, ◌<◌, eqb, length, take, drop, get_or, replicate};
 ghost use Rattle.framing.specs.Framing.{between, total_of, announced_by, finished, zeros, could_be_left};
 ghost use Rattle.framing.specs.Telling.{first_ten, took_in, held_after};

@@ -1,6 +1,8 @@
 // The capture head, in two versions. Document 01: "SPN, 16-bit version 1, 16-bit D, five-byte frequency, mode byte, size byte". 02,
 // No. 9: "Version 2 of the head adds the serial (eight bytes, all zero for unknown) and the clock (four bytes, the 01 range) after
 // the size byte". No. 7: "mode byte bit 6 set for two channels".
+#![tactic(auto)]
+
 mod allowed;
 mod moving;
 mod reading;

@@ -1,4 +1,6 @@
 // A capture's packets as they come, in whatever pieces: which are accepted, where each stands, and which is refused.
+#![tactic(auto)]
+
 mod coming;
 mod pieces;
 

@@ -1,4 +1,5 @@
 // Items of document 01: the settings of a box, the table of items, and what a header alone decides.
+#![tactic(auto)]
 
 pub mod header; // header.rt: what the header of a message decides
 mod range_reply; // range_reply.rt: the range reply

@@ -1,4 +1,6 @@
 // What a finished message does, by the table of items of document 01: its code, and the settings after it.
+#![tactic(auto)]
+
 mod message; // message.rt: header, table and item in turn
 mod sets; // sets.rt: what a set of each item does
 

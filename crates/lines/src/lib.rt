@@ -1,4 +1,6 @@
 // The lines that the span program prints: what each says, and its text.
+#![tactic(auto)]
+
 mod telling;
 mod text;
 

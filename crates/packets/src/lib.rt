@@ -1,4 +1,6 @@
 // Packets and numbers of document 01: the four forms, and the number at each position. (Crate samples has the loops.)
+#![tactic(auto)]
+
 ghost use Rattle.std.specs.Prelude.{◌≡◌, ◌<◌, ◌&&◌, leb, get_or};
 ghost use Rattle.wire.specs.Choice.{pick};
 ghost use Rattle.wire.specs.Number.{field};

@@ -1,4 +1,6 @@
 // Rate of document 01: the 616 achieved rates, and the D whose exact rate is nearest.
+#![tactic(auto)]
+
 mod choice;
 mod entries;
 mod table;

@@ -1,4 +1,6 @@
 // The harvester's packet reader: a packet's position, its sample bytes, its samples.
+#![tactic(auto)]
+
 ghost use Rattle.std.specs.Prelude.{◌≡◌, true, ◌+◌, ◌<◌, length};
 ghost use Rattle.std.proofs.lemmas.List.Edits.{sets};
 ghost use Rattle.packets.specs.Channels.{is_count};

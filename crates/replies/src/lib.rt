@@ -1,4 +1,6 @@
 // The harvester's reply reader: given a wish and the bytes that came, what a box said to it.
+#![tactic(auto)]
+
 mod awaited; // awaited.rt: which values a wish waits for, and what each says
 mod compared; // compared.rt: two slices held together
 

@@ -1,5 +1,7 @@
 // Runs of calls: many packets at once, for a program in another language that has them at once. A run crosses the boundary
 // once, so the state stays where the library keeps it. (A run of messages is a talk: crate talks.)
+#![tactic(auto)]
+
 ghost use Rattle.std.specs.Prelude.{◌≡◌};
 ghost use Rattle.runs.specs.Cutting.{started, cut_run};
 ghost use Rattle.runs.specs.Reading.{read_run};

@@ -46,8 +46,8 @@ module _ (bits : ℕ) (some : 1 ≤ bits) (most : bits ≤ 24) (whole : 2 ^ bits
       let joined : before ++ samples_bytes bits (z ∷ zs) ≡ before ++ sample_bytes bits z ++ samples_bytes bits zs
       = sym (append_assoc before (sample_bytes bits z) (samples_bytes bits zs)) in
       rw first
-          (ap (λ (l : List ℕ). narrowed bits z ∷ samples_from bits l (i + 1) (length zs)) joined
-          ∙ ap (λ (ns : List ℤ). narrowed bits z ∷ ns) rest)
+      (ap (λ (l : List ℕ). narrowed bits z ∷ samples_from bits l (i + 1) (length zs)) joined
+      ∙ ap (λ (ns : List ℤ). narrowed bits z ∷ ns) rest)
 
   -- all samples come back, narrowed to the width
   pub round_trip : (zs : List ℤ) → all_samples zs ≡ true → samples_from bits (samples_bytes bits zs) 0 (length zs) ≡ map (narrowed bits) zs

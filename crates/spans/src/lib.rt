@@ -1,4 +1,6 @@
 // The span program's work: it takes the bytes of a capture as they come, and writes the lines that are to be printed.
+#![tactic(auto)]
+
 mod due;
 mod eating;
 mod head;

@@ -1,4 +1,6 @@
 // The box of document 01: a fresh one, feeding it, and its tuning word.
+#![tactic(auto)]
+
 mod feeding; // feeding.rt: one call of feeding
 mod talking; // talking.rt: a host's whole talk with a fresh box
 

@@ -1,5 +1,7 @@
 // A host's whole talk at once, for a program in another language that has it at once. It has a library of its own, so that
 // the compiler finds one caller of feeding, and makes one loop of it all.
+#![tactic(auto)]
+
 ghost use Rattle.std.specs.Prelude.{◌≡◌, length};
 ghost use Rattle.std.proofs.lemmas.List.Edits.{sets};
 ghost use Rattle.station.specs.Talking.{serve_run};

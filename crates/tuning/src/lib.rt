@@ -1,4 +1,6 @@
 // Bands and tuning word of document 01.
+#![tactic(auto)]
+
 mod bands;
 mod word;
 

@@ -1,4 +1,6 @@
 // Message blocks of document 01: headers and numbers, least significant byte first; and the little that all crates share.
+#![tactic(auto)]
+
 mod bytes;
 mod choice;
 pub mod codes; // codes.rt: what comes back

@@ -1,4 +1,6 @@
 // Harvester's wishes of document 01: what the harvester can ask of a box, and the messages that ask it.
+#![tactic(auto)]
+
 ghost use Rattle.std.specs.Prelude.{◌≡◌, ◌∷◌, length};
 ghost use Rattle.std.proofs.lemmas.List.Edits.{sets};
 ghost use Rattle.wire.specs.Choice.{one_of};
