@@ -245,6 +245,7 @@ pub fn step(s: u16, t: u16) -> u64
 
 // Whether the position is one that a capture can have, and the total one that steps to it give: each is 1 to 65,535, and passes
 // over one packet less.
+#[tactic(auto, unfolding(crate::specs::Missed::steps_give))]
 pub fn steps_give(position: u64, total: u64) -> bool
     ensures { result ≡ leb position last && steps_give position total }
 {
