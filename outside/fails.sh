@@ -22,7 +22,7 @@ for program in span session newer older; do
     case $program in span) what='a line' ;; session) what='a reply' ;; *) what='the output' ;; esac
     start=$(./run --command "$program")
     input=crates/$program/stdin
-    run() { $start 2>"$room/said"; } # $start is a command in several words
+    run() { "$start" 2>"$room/said"; }
 
     : >"$room/wrote"
     run <"$input" >/dev/full

@@ -1,51 +1,27 @@
 #!/bin/sh
-# native.sh: what rt proves and builds, for the processor at hand, in outside/target/native.
+# native.sh: what rt proves and builds, in outside/target/native.
 #
-#     native.sh [NAME...]      a library:  outside/target/native/libNAME.a
-#                              a program:  outside/target/native/NAME
-#                              no name: all that the comparison and the benchmarks need
+#     native.sh [NAME...]      a static library:  outside/target/native/libNAME.a
+#                              a program:         outside/target/native/NAME
+#                              no name:           all that the comparison and the benchmarks need
 #
-# rt compiles for x86-64. There its own archive and its own program are taken. On another machine it runs programs in an
-# emulator, where a time says nothing and nothing native can be linked; so the LLVM module that it hands to its clang is kept
-# (module.sh), and the same clang compiles that for this machine.
+# The kit builds for x86-64 alone: its own archive and its own program are taken.
 set -eu
 
 [ $# -gt 0 ] || set -- boxdoor harvestdoor airdoor talks runs span
-if [ $# -gt 1 ]; then
-    for name in "$@"; do sh "$0" "$name"; done
-    exit
-fi
-name=$1
+[ "$(uname -m)" = x86_64 ] || { echo "native.sh: the kit builds for x86-64 alone, and this is $(uname -m)" >&2; exit 2; }
 cd "$(dirname "$0")/.."
 out=$PWD/outside/target/native
 mkdir -p "$out"
-kind=lib
-[ ! -f "crates/$name/src/main.rt" ] || kind=program
-machine=$(uname -m)
 
-quietly() { # COMMAND: its words only where it fails
-    "$@" >"$out/log" 2>&1 || { cat "$out/log" >&2; exit 1; }
-}
-
-if [ "$machine" = x86_64 ]; then
-    if [ $kind = program ]; then
-        quietly rt check "$name"
-        cp "target/bin/$name" "$out/$name"
+for name; do
+    if [ -f "crates/$name/src/main.rt" ]; then
+        program=$(./run --command "$name")
+        cp "$program" "$out/$name.new"
+        mv "$out/$name.new" "$out/$name"
     else
-        quietly rt staticlib "$name"
-        cp "target/staticlib/lib$name.a" "$out/lib$name.a"
+        # by LLVM, whatever the caller's environment prefers
+        (cd "crates/$name" && env -u RT_BACKEND rt lib) >"$out/log" 2>&1 </dev/null || { cat "$out/log" >&2; exit 1; }
+        cp "crates/$name/out/lib$name.a" "$out/lib$name.a"
     fi
-    exit
-fi
-
-room=$(mktemp -d)
-trap 'rm -rf "$room"' EXIT
-outside/module.sh "$name" "$room"
-quietly "$room/bin/clang" --target="$machine-unknown-linux-gnu" -O3 -fPIC -ffunction-sections -Wno-override-module \
-    -c -x ir "$room/module.bc" -o "$room/module.o"
-if [ $kind = program ]; then
-    quietly cc -O2 -o "$out/$name" "$room/module.o" outside/c/os.c
-else
-    rm -f "$out/lib$name.a"
-    quietly "$room/bin/llvm-ar" rcs "$out/lib$name.a" "$room/module.o"
-fi
+done

@@ -19,14 +19,13 @@ programs=$outside/target/onair
 
 # By content, as ../run decides: all that the programs could be made of, both compilers among it.
 made_of() {
-    rt=$(readlink -f "$(command -v rt)")
-    kit=${RATTLE_HOME:-$(dirname "$(dirname "$rt")")}
+    kit=$(dirname "$(dirname "$(readlink -f "$(command -v rt)")")")
     (
         cd "$outside"
-        cat "$kit/KIT-ID" 2>/dev/null || :
+        cat "$kit/KIT-ID" "$kit/WHAT" 2>/dev/null || :
         rustc --version
-        find ../crates ../crates.txt src c Cargo.toml Cargo.lock build.rs native.sh module.sh -type f -exec sha256sum {} + |
-            LC_ALL=C sort
+        find ../crates ../crates.txt ../run src c Cargo.toml Cargo.lock build.rs native.sh \
+            -type d -name out -prune -o -type f -exec sha256sum {} + | LC_ALL=C sort
     ) | sha256sum
 }
 is_built() { [ -f "$programs/made-of" ] && [ "$(made_of)" = "$(cat "$programs/made-of")" ]; }

@@ -4,7 +4,7 @@
 #
 #     outside/stack.sh
 #
-# For x86-64, for which rt builds, and for the machine at hand where it is another one, under 1,000 bytes each:
+# For x86-64, for which alone rt builds, under 1,000 bytes each:
 #   counted   the worst path through the machine code (src/bin/stack) of each door that cuts packets, as delivered; of the
 #             functions that a Rattle program calls, compiled by the same words; and of cut_held and pack where the optimiser
 #             does nothing
@@ -13,8 +13,8 @@
 #   walled    the same calls in 1,024 bytes above a page that may not be touched, and in what was painted, rounded up to
 #             sixteens, but not in 16 less
 #   planted   a copy of the packet, planted in the library: count, paint and wall have to notice
-# Feeding is another task's, and is held to the same. It ends with 0 if all of this holds. It needs a disassembler that knows the
-# machine: objdump knows its own, Debian's llvm has one for both.
+# Feeding is another task's, and is held to the same. It ends with 0 if all of this holds. It needs a disassembler, objdump or
+# llvm-objdump.
 set -eu
 cd "$(dirname "$0")"
 export CARGO_TARGET_DIR="$PWD/target"
@@ -32,17 +32,15 @@ fails() {
 cargo build --quiet --release --offline --bin stack
 tools=$room/boxdoor/bin
 
-# a module as rt has it compiled, but for the processor and how much is optimised
-compile() { # CRATE SOURCE OBJECT MACHINE LEVEL
-    crate=$1 source=$2 object=$3 machine=$4 level=$5
+# a module as rt has it compiled, but for how much is optimised
+compile() { # CRATE SOURCE OBJECT LEVEL
+    crate=$1 source=$2 object=$3 level=$4
     set -- -Wno-override-module
     while read -r word; do
         case $word in
         *.bc) word=$source ;;
         *.o) word=$object ;;
         -O3) word=-O$level ;;
-        --target=*) word=--target=$machine-unknown-linux-gnu ;;
-        -march=*) [ "$machine" = x86_64 ] || continue ;;
         --sysroot=* | -Werror) continue ;;
         esac
         set -- "$@" "$word"
@@ -54,14 +52,14 @@ text_of() { # CRATE: its module as text, nothing optimised
         "$room/$1/module.bc" -o "$room/$1/module.ll"
 }
 
-listing() { # OBJECT...: by the first disassembler that knows its machine
-    for by in llvm-objdump objdump "$machine-linux-gnu-objdump"; do
+listing() { # OBJECT...: by the first disassembler that there is
+    for by in llvm-objdump objdump; do
         if "$by" -dr --no-show-raw-insn "$@" >"$room/listing" 2>"$room/said" && grep -q '^ .*ret' "$room/listing"; then
             cat "$room/listing"
             return
         fi
     done
-    echo "stack.sh: no disassembler here knows $machine; Debian's package llvm has one" >&2
+    echo "stack.sh: no disassembler is here; Debian's package binutils has one" >&2
     exit 1
 }
 count() { # WORDS... -- OBJECT...
@@ -71,8 +69,8 @@ count() { # WORDS... -- OBJECT...
     listing "$@" | target/release/stack $words # no name has a blank in it
 }
 
-run() { # PROGRAM WORDS...: on this machine, or as this machine would if it were an x86-64; quietly where it is killed
-    if [ "$machine" = "$(uname -m)" ]; then "$@"; else "$tools/qemu-$machine" "$@"; fi 2>"$room/said"
+run() { # PROGRAM WORDS...: quietly where it is killed
+    "$@" 2>"$room/said"
 }
 walls() { # PROGRAM WORDS...: it ran into the page that may not be touched (signal 11), and did not end for another reason
     ended=0
@@ -97,26 +95,19 @@ cat >"$room/plant" <<'END'
 END
 sed -f "$room/plant" "$room/boxdoor/module.ll" >"$room/planted.ll"
 
-objects() { # for $machine: both archives, a planted copy, what is inside at -O3 and -O0, the door at -O0, and the calls
+objects() { # both archives, a planted copy, what is inside at -O3 and -O0, the door at -O0, and the calls
     for crate in boxdoor runs; do
-        compile $crate "$room/$crate/module.bc" "$room/$crate.o" "$machine" 3
-        rm -f "$room/$crate.a"
-        "$tools/llvm-ar" rcs "$room/$crate.a" "$room/$crate.o"
+        compile $crate "$room/$crate/module.bc" "$room/$crate.o" 3
+        # what is counted is what is delivered
+        cp "$room/$crate/lib$crate.a" "$room/$crate.a"
+        "$tools/llvm-ar" p "$room/$crate.a" >"$room/delivered.o"
+        cmp "$room/$crate.o" "$room/delivered.o" || fails "the archive of $crate is not what its module gives"
     done
-    # what is counted is what is delivered
-    if [ "$machine" = x86_64 ]; then
-        for crate in boxdoor runs; do
-            "$tools/llvm-ar" p "../target/staticlib/lib$crate.a" >"$room/delivered.o"
-            cmp "$room/$crate.o" "$room/delivered.o" || fails "the archive of $crate is not what its module gives"
-            cp "../target/staticlib/lib$crate.a" "$room/$crate.a"
-        done
-    fi
-    compile boxdoor "$room/planted.ll" "$room/planted.o" "$machine" 3
-    compile runs "$room/visible.ll" "$room/inside.o" "$machine" 3
-    compile runs "$room/visible.ll" "$room/inside0.o" "$machine" 0
-    compile boxdoor "$room/boxdoor/module.bc" "$room/boxdoor0.o" "$machine" 0
-    case $machine in x86_64) red=-mno-red-zone ;; *) red= ;; esac
-    "$tools/clang" --target="$machine-unknown-linux-gnu" -O2 -ffreestanding -fno-stack-protector $red \
+    compile boxdoor "$room/planted.ll" "$room/planted.o" 3
+    compile runs "$room/visible.ll" "$room/inside.o" 3
+    compile runs "$room/visible.ll" "$room/inside0.o" 0
+    compile boxdoor "$room/boxdoor/module.bc" "$room/boxdoor0.o" 0
+    "$tools/clang" --target=x86_64-unknown-linux-gnu -O2 -ffreestanding -fno-stack-protector -mno-red-zone \
         -c c/stack.c -o "$room/calls.o"
     "$tools/ld.lld" -o "$room/calls" "$room/calls.o" "$room/boxdoor.a" "$room/runs.a"
     "$tools/ld.lld" -o "$room/planted" "$room/calls.o" "$room/planted.o" "$room/runs.a"
@@ -152,22 +143,18 @@ planted() {
     echo "a planted copy of the packet: counted $(sed 's/^[^:]*: \([0-9]*\) .*/\1/' "$room/counted"), painted $used, not past the wall"
 }
 
-for machine in x86_64 $(uname -m | grep -v x86_64); do
-    objects
-    case $machine in x86_64) what='as delivered' ;; *) what='the same modules' ;; esac
-    echo "$machine, $what (-O3):"
-    measure boxdoor skvornela_cut cut_now cut
-    measure runs skvornela_cut_run run_now run
-    measure boxdoor skvornela_feed feed_now feed --tables
-    planted
-    echo "$machine, what a Rattle program calls:"
-    count $most $inside cutting::cut_packet -- "$room/inside.o" || fails "a function that a Rattle program calls"
-    echo "$machine, where the optimiser does nothing (-O0):" # with the memset and memmove of c/stack.c, where they are called
-    count $most $inside -- "$room/inside0.o" "$room/calls.o" || fails "the path inside at -O0"
-    echo "$machine, at -O0 with no limit, to be known:"
-    count 1000000 cutting::cut_packet -- "$room/inside0.o" "$room/calls.o" | sed 's/ (.*//'
-    count 1000000 skvornela_cut -- "$room/boxdoor0.o" "$room/calls.o" | sed 's/ (.*//'
-    echo
-done
+objects
+echo "x86_64, as delivered (-O3):"
+measure boxdoor skvornela_cut cut_now cut
+measure runs skvornela_cut_run run_now run
+measure boxdoor skvornela_feed feed_now feed --tables
+planted
+echo "what a Rattle program calls:"
+count $most $inside cutting::cut_packet -- "$room/inside.o" || fails "a function that a Rattle program calls"
+echo "where the optimiser does nothing (-O0):" # with the memset and memmove of c/stack.c, where they are called
+count $most $inside -- "$room/inside0.o" "$room/calls.o" || fails "the path inside at -O0"
+echo "at -O0 with no limit, to be known:"
+count 1000000 cutting::cut_packet -- "$room/inside0.o" "$room/calls.o" | sed 's/ (.*//'
+count 1000000 skvornela_cut -- "$room/boxdoor0.o" "$room/calls.o" | sed 's/ (.*//'
 [ $wrong -eq 0 ] || { echo "stack.sh: FAILED"; exit 1; }
 echo "stack.sh: all keep under $most bytes of stack"
