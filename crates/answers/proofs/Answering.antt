@@ -9,7 +9,6 @@ use lib.ListN.{length, get_or, take, length-drop}
 use lib.Seq.{sets, get_or-drop}
 use borrow.Author.Tests.{le-ltb, ne_eqb}
 use Rattle.wire.specs.Choice.{pick}
-use Rattle.wire.specs.Number.{bytes}
 use Rattle.wire.specs.Header.{nak, type_range, type_reply, type_range_reply}
 use Rattle.items.specs.declared.Settings.{Settings}
 use Rattle.items.specs.Items.{Item, row_of}

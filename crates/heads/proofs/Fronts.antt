@@ -10,7 +10,6 @@ use borrow.Author.Tests.{le-ltb}
 use Rattle.wire.specs.Choice.{pick}
 use Rattle.wire.specs.Number.{number, field}
 use Rattle.wire.proofs.Numbers.{field_front}
-use Rattle.heads.specs.declared.Head.{Head}
 use Rattle.heads.specs.Head.{mark, is_head_version, head_length, unknown, nominal, head_length_in, version_in, head_in}
 use Rattle.heads.specs.Head.{allowed_head, head_read_code}
 use Rattle.heads.proofs.Codes.{head_by, code_by_lem, least_long}

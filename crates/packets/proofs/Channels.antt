@@ -1,7 +1,7 @@
 -- The channels of a packet stand in turn: a place is a pair's, then a channel's, then that of I or Q. Each channel has as many pairs as the
 -- other, so all places are taken.
 use Prim.Native.Nat.{ℕ, suc, ◌+◌, ◌*◌, ◌/◌, ◌%◌, ◌≤◌, ◌<◌}
-use mathlib.Core.Path.{◌≡◌, refl, ap, ◌∙◌}
+use mathlib.Core.Path.{◌≡◌, refl, ap}
 use mathlib.Core.Bool.{true}
 use mathlib.Core.List.{[], ◌∷◌}
 use native.Mathlib.Decide.{dec_lt}
@@ -14,7 +14,7 @@ use Rattle.wire.proofs.Laws.{one_has}
 use Rattle.packets.specs.declared.Form.{Form}
 use Rattle.packets.specs.Forms.{listed_form}
 use Rattle.packets.specs.Channels.{is_count, pairs_each, place_of, PairsPerChannel, AsPrinted}
-use Rattle.packets.specs.Channels.{IsNumber, StandsAt, InTurn, ChannelsInTurn}
+use Rattle.packets.specs.Channels.{IsNumber, StandsAt, ChannelsInTurn}
 use Rattle.packets.proofs.Forms.{of_listed}
 
 pub pairs_per_channel : PairsPerChannel

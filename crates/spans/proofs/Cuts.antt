@@ -5,15 +5,14 @@ use mathlib.Core.Bool.{Bool, true, false}
 use mathlib.Core.List.{List, [], ◌∷◌, ◌++◌, append_assoc}
 use native.Mathlib.Decide.{dec_lt, ℕ_discrete}
 use native.Mathlib.Omega.{arith}
-use lib.Dec.{eqb, ltb}
+use lib.Dec.{eqb}
 use lib.ListN.{length, take, drop, length-append, length-drop, drop_of_length-le}
-use lib.Seq.{sets, length-sets, take-append-le, drop-append-le, take-append-add, drop-append-add, take_all, drop-length}
+use lib.Seq.{length-sets, drop-append-le, drop-length}
 use borrow.Author.Tests.{not-false, lt-ltb, le-ltb, ne_eqb, eqb-true}
 use Rattle.wire.specs.Choice.{pick}
 use Rattle.wire.specs.Lists.{joined}
 use Rattle.wire.proofs.Laws.{true_not_false}
 use Rattle.wire.proofs.Checks.{given_below}
-use Rattle.wire.proofs.Stores.{sets_append}
 use Rattle.packets.specs.declared.Form.{Form}
 use Rattle.heads.specs.declared.Head.{Head}
 use Rattle.heads.specs.Head.{form_in, head_read_checks}

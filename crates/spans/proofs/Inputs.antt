@@ -1,5 +1,5 @@
 -- What is printed for pieces of an input is the report of the input.
-use Prim.Native.Nat.{ℕ, ◌+◌, ◌-◌, ◌≤◌, ◌<◌}
+use Prim.Native.Nat.{ℕ, ◌+◌, ◌≤◌, ◌<◌}
 use mathlib.Core.Path.{◌≡◌, refl, sym, ap, ◌∙◌}
 use mathlib.Core.Bool.{Bool, true, false}
 use mathlib.Core.List.{List, [], ◌∷◌, ◌++◌}
@@ -30,7 +30,7 @@ use Rattle.spans.specs.Eating.{tally_from, fresh_span, head_lacks, head_of, lack
 use Rattle.spans.specs.Pieces.{PrintsTheReport}
 use Rattle.spans.proofs.Telling.{if_one, coming_by}
 use Rattle.spans.proofs.Filling.{wants_of, wants_many, wants_least, by_least, by_is, early_lacks, late_whole}
-use Rattle.spans.proofs.Cuts.{coming_head, coming, coming_head_lem, head_coming, printed_is}
+use Rattle.spans.proofs.Cuts.{coming_head, coming, coming_head_lem, printed_is}
 use Rattle.spans.proofs.Reported.{Knows, coming_lines}
 
 -- ---- a head that begins an input

@@ -29,7 +29,7 @@ use Rattle.heads.proofs.Listed.{is_count_lem}
 use Rattle.hearing.specs.declared.Tally.{Tally}
 use Rattle.hearing.specs.declared.Reach.{Reach}
 use Rattle.lines.specs.Lines.{Line, refusal_line}
-use Rattle.spans.specs.Report.{Known, missed_among, line_of, ended, reader_after, packet_in, packet_code, begins}
+use Rattle.spans.specs.Report.{Known, missed_among, line_of, ended, reader_after, packet_in, packet_code}
 use Rattle.spans.specs.Report.{known_after, packets_in, at_packet, at_end, at_refusal, lines_from}
 use Rattle.hearing.specs.Hearing.{low_high, taking_byte, form_coming, position_now, lacks_first, heard_code, accepting, closes, settled, reaching}
 use Rattle.hearing.specs.Inside.{goes_on}

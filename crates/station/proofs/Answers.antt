@@ -18,7 +18,7 @@ use Rattle.answers.specs.Replies.{answer_of, replied}
 use Rattle.answers.specs.Replies.{refused as refused_answer}
 use Rattle.station.specs.declared.Station.{Station}
 use Rattle.station.specs.declared.Fed.{Fed}
-use Rattle.station.specs.Feeding.{message_in, refused, answered}
+use Rattle.station.specs.Feeding.{message_in, refused}
 use Rattle.station.specs.Inside.{opened_message, answering}
 use Rattle.wire.proofs.Checks.{not_given}
 

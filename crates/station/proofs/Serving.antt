@@ -9,7 +9,7 @@ use mathlib.Core.List.{List, [], ◌∷◌, ◌++◌}
 use lib.ListN.{length, drop}
 use Rattle.wire.specs.Choice.{pick}
 use Rattle.wire.specs.Lists.{joined as joined_bytes}
-use Rattle.framing.specs.Framing.{call_takes, finished}
+use Rattle.framing.specs.Framing.{call_takes}
 use Rattle.framing.specs.Stream as stream
 use Rattle.framing.specs.Stream.{Stream}
 use Rattle.framing.proofs.Cutting.{finished_taking}

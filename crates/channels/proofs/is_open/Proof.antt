@@ -1,6 +1,6 @@
 -- The tests are the definition's list, whatever 0019's value is.
 use Prim.Native.Nat.{ℕ}
-use mathlib.Core.Path.{◌≡◌, refl, sym}
+use mathlib.Core.Path.{◌≡◌, refl}
 use mathlib.Core.Bool.{Bool, true, false, ◌&&◌, ◌||◌, or-false, and-true, and-false}
 use mathlib.Core.List.{[], ◌∷◌}
 use lib.Dec.{eqb}

@@ -1,12 +1,11 @@
 -- A position below 4,000,000,000 times at most 256 pairs fits 64 bits.
-use Prim.Native.Nat.{◌*◌, ◌<◌}
-use mathlib.Core.Path.{◌≡◌, ap, ◌∙◌}
+use Prim.Native.Nat.{◌<◌}
+use mathlib.Core.Path.{◌≡◌, ◌∙◌}
 use native.Mathlib.Nat.{mul-le-mul}
 use native.Mathlib.Omega.{arith}
 use Rattle.wire.proofs.Laws.{pick_true}
 use Rattle.packets.specs.Channels.{is_count, pairs_each}
 use Rattle.packets.proofs.Channels.{each_fewer}
-use Rattle.reader.specs.declared.Heard.{Heard}
 use borrow.Author.Rules.{rules}
 use Rattle.reader.proofs.heard_at.Statement.{statement}
 use Rattle.reader.proofs.heard_at.Tie as tie

@@ -1,6 +1,5 @@
 -- `station::is_sound` meets its contract: the settings and the store decide.
 -- Assumes nothing.
-use borrow.Author.Tests.{not-true, not-false}
 use Rattle.station.specs.Station.{valid}
 use borrow.Author.Rules.{rules}
 use Rattle.station.proofs.is_sound.Statement.{statement}

@@ -5,7 +5,6 @@ use lib.ListN.{length}
 use lib.Dec.{lit≤}
 use native.Mathlib.Nat.{le_trans}
 use borrow.Author.Rules.{rules}
-use borrow.Author.Tests.{not-true, not-false}
 use Rattle.wishes.specs.Wishes.{open_wish, allowed_wish, layout_of, message_of}
 use Rattle.wishes.specs.Writing.{bytes_written}
 use Rattle.layouts.proofs.Writing.{written_whole}

@@ -1,8 +1,6 @@
 -- What both versions have decides first.
-use mathlib.Core.Path.{◌≡◌, refl, sym, ap, ◌∙◌}
-use mathlib.Core.Bool.{Bool, true}
-use borrow.Author.Tests.{eq-eqb, ne_eqb, not-true, not-false}
-use Rattle.wire.specs.Choice.{pick}
+use mathlib.Core.Path.{◌≡◌, refl, sym, ◌∙◌}
+use mathlib.Core.Bool.{true}
 use Rattle.heads.specs.declared.Head.{Head}
 use Rattle.heads.specs.Inside.{first_allowed}
 use Rattle.heads.proofs.Codes.{allowed_in_two, naming_new, naming_old}

@@ -6,7 +6,7 @@ use mathlib.Core.List.{List, [], ◌∷◌}
 use native.Mathlib.Omega.{arith}
 use lib.Dec.{ltb}
 use lib.ListN.{length, get_or}
-use borrow.Author.Tests.{lt-ltb, le-ltb, eq-eqb, not-true, not-false}
+use borrow.Author.Tests.{lt-ltb, le-ltb, eq-eqb}
 use Rattle.heads.specs.declared.Head.{Head}
 use Rattle.heads.specs.Head.{is_head_version, head_length, head_length_in, head_in, allowed_head, naming_ok, head_read_code}
 use Rattle.heads.proofs.Codes.{code_by, code_by_lem, reading_by, allowed_in_two, named_new}

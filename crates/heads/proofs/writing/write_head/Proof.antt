@@ -1,9 +1,9 @@
 -- Each return has the code of the tests that led there, and writes what that code says.
-use mathlib.Core.Path.{◌≡◌, refl, sym, ap, ◌∙◌}
+use mathlib.Core.Path.{◌≡◌, refl, sym, ◌∙◌}
 use mathlib.Core.Bool.{true}
 use native.Mathlib.Omega.{arith}
 use lib.ListN.{length}
-use borrow.Author.Tests.{not-true, not-false, lt-ltb, le-ltb}
+use borrow.Author.Tests.{lt-ltb, le-ltb}
 use Rattle.heads.specs.Head.{head_length, allowed_head}
 use Rattle.heads.proofs.Codes.{write_by}
 use Rattle.heads.proofs.Values.{is_version_lem}

@@ -3,7 +3,6 @@ use borrow.Author.Rules.{rules}
 use mathlib.Core.Path.{◌≡◌, sym, ap, subst, ◌∙◌}
 use mathlib.Core.Bool.{true}
 use native.Mathlib.Omega.{arith}
-use borrow.Author.Tests.{not-true, not-false}
 use Rattle.wire.proofs.Laws.{and_not_left, and_not_right}
 use Rattle.packets.specs.Forms.{listed_form}
 use Rattle.hearing.specs.declared.Tally.{Tally}

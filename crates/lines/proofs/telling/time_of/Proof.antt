@@ -1,7 +1,6 @@
 -- Numbers that a capture can have are those that the end time is counted of.
 use mathlib.Core.Path.{◌≡◌, sym, ◌∙◌}
 use mathlib.Core.Bool.{true}
-use borrow.Author.Tests.{not-true, not-false}
 use borrow.Author.Rules.{rules}
 use Rattle.lines.specs.Timing.{of_a_capture}
 use Rattle.lines.proofs.Times.{capture_fits, timing_by}

@@ -3,7 +3,6 @@ use mathlib.Core.Path.{◌≡◌, sym, ◌∙◌}
 use mathlib.Core.Bool.{true, false}
 use native.Mathlib.Omega.{arith}
 use borrow.Author.Rules.{rules}
-use borrow.Author.Tests.{not-true, not-false}
 use Rattle.wire.proofs.Laws.{pick_true, pick_false}
 use Rattle.rates.specs.Rate.{may_ask}
 use Rattle.rates.proofs.Choosing.{low, rest, most, above_fits, below_fits, nearest_here, nearest_next}

@@ -1,7 +1,5 @@
 -- The tally begins where the head ends.
 use borrow.Author.Rules.{rules}
-use mathlib.Core.Path.{ap, ◌∙◌}
-use Rattle.hearing.specs.declared.Tally.{Tally}
 use Rattle.spans.proofs.eating.after_head.Statement.{statement}
 use Rattle.spans.proofs.eating.after_head.Tie as tie
 

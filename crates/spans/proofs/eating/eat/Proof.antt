@@ -3,7 +3,6 @@ use borrow.Author.Rules.{rules}
 use mathlib.Core.Path.{◌≡◌, refl, sym, ◌∙◌}
 use mathlib.Core.Bool.{true}
 use lib.ListN.{length}
-use borrow.Author.Tests.{not-true, not-false}
 use Rattle.spans.specs.Eating.{valid_span}
 use Rattle.spans.proofs.Eats.{answers, valid_range, valid_head, eating_broken, eating_stopped, eating_head, eating_packets}
 use Rattle.spans.proofs.eating.eat.Statement.{statement}

@@ -4,7 +4,6 @@ use mathlib.Core.Path.{◌≡◌, refl, sym, ap, ◌∙◌}
 use mathlib.Core.Bool.{true}
 use native.Mathlib.Omega.{arith}
 use lib.ListN.{length}
-use borrow.Author.Tests.{not-true, not-false}
 use Rattle.spans.specs.Eating.{valid_span}
 use mathlib.Core.List.{List}
 use Rattle.lines.specs.Lines.{Line, text_of}

@@ -1,7 +1,6 @@
 -- A span that has stopped is valid; of any other, count and head decide.
 use borrow.Author.Rules.{rules}
 use mathlib.Core.Path.{refl, sym, ◌∙◌}
-use borrow.Author.Tests.{not-true, not-false}
 use Rattle.spans.proofs.Eats.{valid_by}
 use Rattle.spans.proofs.eating.is_valid.Statement.{statement}
 use Rattle.spans.proofs.eating.is_valid.Tie as tie

@@ -4,7 +4,6 @@ use Prim.Native.Nat.{ℕ, ◌<◌}
 use mathlib.Core.Path.{◌≡◌, sym, ap, ◌∙◌}
 use native.Mathlib.Omega.{arith}
 use borrow.Author.Tests.{ltb-true}
-use Rattle.spans.specs.declared.Span.{Span}
 use Rattle.spans.specs.Eating.{head_wants_by, head_filled}
 use Rattle.spans.proofs.Filling.{wants_of, wants_most, by_is, by_above, by_most}
 use Rattle.spans.proofs.head.take_head.Statement.{statement}

@@ -1,9 +1,7 @@
 -- `station::feeding::feed_held` meets its contract: the box is broken, or it is a valid one.
 -- Assumes nothing.
-use mathlib.Core.Path.{◌≡◌, refl, sym, ◌∙◌}
-use mathlib.Core.Bool.{true}
+use mathlib.Core.Path.{refl, sym, ◌∙◌}
 use lib.ListN.{length}
-use borrow.Author.Tests.{not-true, not-false}
 use Rattle.station.specs.declared.Station.{Station}
 use Rattle.station.specs.Station.{box_of}
 use Rattle.station.proofs.Valid.{feeding_broken}

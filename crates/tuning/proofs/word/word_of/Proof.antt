@@ -1,6 +1,5 @@
 -- Where frequency and clock have a word, it is the quotient.
 use Rattle.std.proofs.Common.{◌≡◌, ℕ, ◌*◌, ◌^◌, true, sym, ap, ◌∙◌, arith, rules}
-use borrow.Author.Tests.{not-true, not-false}
 use Rattle.wire.specs.Halves.{halves_up}
 use Rattle.wire.proofs.Laws.{and_left, and_right, within_low}
 use Rattle.tuning.specs.Bands.{in_bands}
