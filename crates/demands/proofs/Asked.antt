@@ -11,7 +11,6 @@ use mathlib.Core.Logic.{◌⊎◌, inl, inr, ◌↔◌}
 use lib.Dec.{leb, lit≤}
 use lib.ListN.{length, take, replicate}
 use lib.Seq.{take_all}
-use Rattle.wire.specs.Number.{bytes}
 use Rattle.wire.specs.Header.{nak, header_of, type_in, length_in, type_data}
 use Rattle.wire.proofs.Checks.{absent}
 use Rattle.wire.proofs.Headers.{length_header, type_header, header_below}

@@ -22,8 +22,8 @@ use Rattle.items.specs.declared.Settings.{Settings}
 use Rattle.items.specs.declared.Channel.{Channel}
 use Rattle.items.specs.Settings.{is_mode, tuned_to, gained_to}
 use Rattle.items.specs.Items.{Echoed, no_byte, an_id, any_channel, a_channel}
-use Rattle.items.specs.Items.{state_bytes, Item, items, row_of, run_byte, mode_byte, idle, run, frequency, gain}
-use Rattle.items.specs.Items.{clock, state, status}
+use Rattle.items.specs.Items.{state_bytes, Item, items, row_of, run_byte, mode_byte, idle, run}
+use Rattle.items.specs.Items.{state, status}
 use Rattle.items.specs.Table.{is_total}
 use Rattle.items.specs.Answer.{Message, item_in, row, parameters, channel_allowed, covers_asked, code_of, settings_after, reply_of}
 use Rattle.items.proofs.Judging.{is_listed, has_length, has_channel, has_value, is_free, after_ways}

@@ -10,7 +10,6 @@ use lib.IntN.{ℤ}
 use lib.ListN.{length}
 use Rattle.packets.specs.declared.Form.{Form}
 use Rattle.packets.specs.Numbers.{number_at, number_in, step_of}
-use Rattle.items.specs.declared.Settings.{Settings}
 use Rattle.items.specs.Settings.{channels_of}
 use Rattle.items.proofs.Channels.{box_count}
 use Rattle.station.specs.declared.Station.{Station}

@@ -5,7 +5,6 @@ use mathlib.Core.Bool.{true}
 use mathlib.Core.List.{List}
 use lib.Dec.{eqb}
 use borrow.Author.Rules.{rules}
-use borrow.Author.Tests.{not-true, not-false}
 use Rattle.wire.specs.Number.{field}
 use Rattle.wire.specs.Lists.{same}
 use Rattle.wire.proofs.Numbers.{field_below}

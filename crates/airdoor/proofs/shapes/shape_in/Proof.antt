@@ -4,7 +4,6 @@ use mathlib.Core.Path.{◌≡◌, sym, ap, ◌∙◌}
 use mathlib.Core.Bool.{true}
 use native.Mathlib.Omega.{arith}
 use borrow.Author.Rules.{rules}
-use borrow.Author.Tests.{not-true, not-false}
 use Rattle.packets.specs.Forms.{listed_form}
 use Rattle.packets.proofs.Forms.{is_listed_form}
 use Rattle.heads.specs.Head.{form_in}

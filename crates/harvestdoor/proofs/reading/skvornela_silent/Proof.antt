@@ -2,7 +2,6 @@
 use Prim.Native.Nat.{ℕ}
 use mathlib.Core.Path.{sym, ap, ◌∙◌}
 use mathlib.Core.List.{List}
-use borrow.Author.Tests.{not-true, not-false}
 use Rattle.harvestdoor.specs.States.{reader_bytes}
 use Rattle.harvestdoor.proofs.Heard.{made_short, made_by}
 use borrow.Author.Rules.{rules}
