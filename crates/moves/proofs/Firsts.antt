@@ -12,8 +12,7 @@ use lib.ListN.{length, take}
 use lib.Seq.{sets, length-sets, length-take-le}
 use lib.Dec.{eqb}
 use borrow.Author.Tests.{ltb-false, le-ltb, eqb-true, eqb-false}
-use Rattle.libc.specs.Io.{Moved}
-use Rattle.io.specs.Counts.{clamp_len}
+use Rattle.streams.specs.Moved.{Moved, clamp_len}
 use Rattle.wire.specs.Codes.{others_write}
 use Rattle.wire.specs.Choice.{pick}
 use Rattle.wire.proofs.Laws.{by_test}

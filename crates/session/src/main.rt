@@ -91,7 +91,7 @@ fn serve(io: &mut Streams, s: Station, buf: &mut [u8]) -> Ended
 {
     let mut station = s;
     let mut read = 0;
-    loop {
+    'pieces: loop {
         let got = io.read(buf);
         if got <= 0 {
             return Ended {
