@@ -38,7 +38,7 @@ fn put_opening(on: bool, buf: &mut [u8], at: usize) -> usize
 // "samples x 4D / clock seconds, in microseconds rounded down". A sample takes 4D cycles of the clock. The cycles times a million can
 // have more than 64 bits, so the whole seconds are counted first, and then the microseconds of the cycles that are left.
 fn end_time(samples: u64, divisor: u64, clock: u64) -> u64
-    requires { (samples ≤ most_samples) × (divisor ≤ 625) × (is_clock clock ≡ true) }
+    requires { (samples ≤ 1_024_000_000_000) × (divisor ≤ 625) × (is_clock clock ≡ true) }
     ensures { result ≡ end_time divisor clock samples }
 {
     let cycles = samples * (4 * divisor);
