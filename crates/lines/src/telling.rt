@@ -5,7 +5,7 @@ ghost use Rattle.tuning.specs.Word.{is_clock};
 ghost use Rattle.lines.specs.Lines.{text_of, end_time};
 ghost use Rattle.lines.specs.Inside.{Stored};
 ghost use Rattle.lines.specs.Due.{opening_if, capture_if, ending_lines, due_lines, sized, telling_of};
-ghost use Rattle.lines.specs.Timing.{most_samples, of_a_capture, timing_of};
+ghost use Rattle.lines.specs.Timing.{of_a_capture, timing_of};
 
 use crate::text::put_line;
 use crate::{Due, Ending, LinesAnswer, TimeAnswer};
