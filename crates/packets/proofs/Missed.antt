@@ -1,7 +1,7 @@
 -- How much was lost. A total that steps give is told by a test; and what is heard and what is missed are all positions.
 use Prim.Native.Nat.{ℕ, zero, suc, ◌+◌, ◌*◌, ◌-◌, ◌≤◌, ◌<◌}
 use mathlib.Core.Path.{◌≡◌, refl, subst}
-use mathlib.Core.Bool.{true}
+use mathlib.Core.Bool.{Bool, true, ◌&&◌}
 use mathlib.Core.List.{List, [], ◌∷◌}
 use native.Mathlib.Omega.{arith}
 use native.Mathlib.Decide.{dec_lt}
@@ -9,7 +9,7 @@ use lib.Dec.{leb}
 use lib.ListN.{length}
 use borrow.Author.Tests.{le-leb, leb-true}
 use Rattle.wire.proofs.Laws.{and_left, and_right, and_both}
-use Rattle.packets.specs.Numbers.{number_at, step_of}
+use Rattle.packets.specs.Numbers.{number_at, step_of, last}
 use Rattle.packets.specs.Missed.{is_step, are_steps, leads_to, steps_by, missed_in, missed_over, StepsGive, steps_give}
 use Rattle.packets.proofs.Numbers.{number_le, step_above, step_not_above}
 
@@ -56,6 +56,13 @@ steps_give_within position total e =
     let a = leb total position in
     let b = leb position (65_535 * (position - total)) in
     (leb-true total position (and_left a b e), leb-true position (65_535 * (position - total)) (and_right a b e))
+
+-- by what its tests come to, with 01's on the position in front
+pub steps_give_by_tests : (position total : ℕ) {a b c : Bool} → leb position last ≡ a → leb total position ≡ b
+    → leb position (65_535 * (position - total)) ≡ c
+    → (leb position last && steps_give position total) ≡ (a && (b && c))
+unfolding steps_give
+steps_give_by_tests position total p q r = rw (p, q, r)
 
 -- what steps give passes the test
 pub steps_tested : (position total : ℕ) → StepsGive position total → steps_give position total ≡ true

@@ -3,17 +3,18 @@
 -- Assumes nothing.
 use Prim.Native.Nat.{ℕ, suc, ◌+◌, ◌-◌, ◌%◌, ◌^◌, ◌≤◌, ◌<◌}
 use mathlib.Core.Path.{◌≡◌, refl, ap, ◌∙◌}
-use mathlib.Core.Bool.{true}
+use mathlib.Core.Bool.{true, false}
 use native.Mathlib.Nat.{add-mod_right, mod-eq_of_lt, mod-eq-sub-mod}
 use native.Mathlib.Decide.{dec_lt}
 use native.Mathlib.Omega.{arith}
 use lib.IntN.{ℤ, pos, negsuc, sub_ℕ, ◌+ℤ◌, ◌-ℤ◌}
-use lib.Signed.{mag, le_z, mag_shr}
+use lib.Signed.{mag, le_z, lt_z, mag_shr}
 use mir.Syntax.{Width, w32}
 use mir.Val.{SFits, to_z, of_z}
 use mir.Facts.{to_z-of_z, to_z_pos}
-use borrow.Author.Tests.{lt-ltb, le-ltb, le-leb}
+use borrow.Author.Tests.{leb-true, ltb-true, ltb-false, lt-ltb, le-ltb, le-leb}
 use Rattle.wire.specs.Signed.{minus, coded, signed}
+use Rattle.wire.proofs.Laws.{never}
 use Rattle.packets.specs.Samples.{is_sample, at_most, rounded, narrowed}
 use Rattle.packets.proofs.Quotients.{sub_high, sub_low, less_sub, by_sum}
 use Rattle.packets.proofs.Narrowed.{sample_small, narrowed_small}
@@ -87,6 +88,21 @@ module _ (z : ℤ) (s : is_sample z ≡ true) where
       go : (q : ℤ) → mag (at_most 32_767 q) < 32_768 → le_z (minus 32_768) q ≡ true
       go (pos n) l = refl
       go (negsuc n) l = le-leb n 32_767 (omega arith)
+
+-- ---- held, by the tests
+
+pub hold_high : (m : ℕ) (q : ℤ) → lt_z (pos m) q ≡ true → pos m ≡ at_most m q
+hold_high m (pos n) h = ap pos (omega (arith, ltb-true m n h))
+hold_high m (negsuc n) h = never h
+
+pub hold_not_above : (m : ℕ) (q : ℤ) → lt_z (pos m) q ≡ false → q ≡ at_most m q
+hold_not_above m (pos n) h = ap pos (omega (arith, ltb-false m n h))
+hold_not_above m (negsuc n) h = refl
+
+-- a number that is not below the least of the width
+pub not_below : {X : Type 0} (m : ℕ) (q : ℤ) → le_z (negsuc m) q ≡ true → lt_z q (negsuc m) ≡ true → X
+not_below m (pos n) l h = never h
+not_below m (negsuc n) l h = absurd (omega (arith, leb-true n m l, ltb-true m n h))
 
 -- ---- and back: a code lifted by half a turn, the whole turns taken off, and the half turn taken off again
 
