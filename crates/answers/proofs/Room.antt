@@ -1,16 +1,20 @@
 -- What is due is written whole where there is room, and not at all where there is none.
 use Prim.Native.Nat.{ℕ, ◌≤◌, ◌<◌}
 use mathlib.Core.Path.{◌≡◌, refl, sym, ap, subst, ◌∙◌}
-use mathlib.Core.List.{List, []}
+use mathlib.Core.List.{List, [], ◌∷◌}
 use lib.Dec.{ltb}
 use lib.ListN.{length}
 use lib.Seq.{sets}
-use borrow.Author.Tests.{le-ltb, lt-ltb}
+use borrow.Author.Tests.{le-ltb, lt-ltb, ne_eqb}
 use Rattle.wire.specs.Choice.{pick}
 use Rattle.layouts.specs.declared.Layout.{Layout}
 use Rattle.layouts.specs.Layouts.{size_of, laid}
 use Rattle.layouts.proofs.Sizes.{length_laid}
-use Rattle.answers.specs.Inside.{count_in, bytes_in}
+use Rattle.wire.specs.Header.{type_reply}
+use Rattle.items.specs.declared.Settings.{Settings}
+use Rattle.items.specs.Items.{row_of}
+use Rattle.items.specs.Answer.{framed, reply_body}
+use Rattle.answers.specs.Inside.{count_in, bytes_in, due}
 
 module _ (l due : List ℕ) where
   -- what is promised of a count that is returned and of the slice as it is left
@@ -36,6 +40,7 @@ module _ (l due : List ℕ) where
         put.1 ∙ ap (λ (n : ℕ). sets l 0 (pick (ltb (length l) n) [] (laid a))) (sym (length_laid a)),
       )
 
--- the same said of what is due in other words
-pub wrote_as : (l : List ℕ) {due also : List ℕ} {r : ℕ} {k : List ℕ} → also ≡ due → Wrote l also r k → Wrote l due r k
-wrote_as l {due} {also} {r} {k} is w = subst (λ (d : List ℕ). Wrote l d r k) is w
+-- what is due for an accepted message that asks for no range
+pub due_reply : (code kind item echo : ℕ) (s : Settings) → code ≡ 1 → (kind ≡ 2 → ⊥)
+    → framed type_reply (reply_body (row_of item) s (echo ∷ [])) ≡ due code kind item echo s
+due_reply code kind item echo s done plain = rw (done, ne_eqb kind 2 plain) refl
