@@ -24,11 +24,6 @@ fn write_bytes(io: &mut Streams, h: Head, bytes: &[u8])
     }
 }
 
-// No call of it is made: a head that may be written is not refused in 26 bytes.
-fn never()
-    requires { ⊥ }
-{}
-
 fn write_whole(io: &mut Streams, h: Head)
     requires { allowed_head h ≡ true }
 {
@@ -42,8 +37,9 @@ fn write_whole(io: &mut Streams, h: Head)
                 write_bytes(io, h, &out[..14]);
             }
         }
-        Written::NotAllowed => never(),
-        Written::NoRoom => never(),
+        // a head that may be written is not refused in 26 bytes
+        Written::NotAllowed => unreachable!(),
+        Written::NoRoom => unreachable!(),
     }
 }
 

@@ -114,13 +114,6 @@ fn refuse(io: &mut Streams, version: u32, got: isize, first: &[u8], line: &[u8])
     Begun::Refused
 }
 
-// No call of it is made: 26 bytes have room for each head.
-fn never() -> Begun
-    requires { ⊥ }
-{
-    Begun::Refused
-}
-
 // Moves the head that the first bytes begin with.
 fn begin(io: &mut Streams, version: u32, got: isize, first: &[u8]) -> Begun
     requires { (is_head_version version ≡ true) × Enough got first.now }
@@ -133,7 +126,8 @@ fn begin(io: &mut Streams, version: u32, got: isize, first: &[u8]) -> Begun
         Moved::NotAHead => refuse(io, version, got, first, b"R 40 0\n"),
         Moved::OtherVersion => refuse(io, version, got, first, b"R 41 0\n"),
         Moved::WouldLose => refuse(io, version, got, first, b"R 42 0\n"),
-        Moved::NoRoom => never(),
+        // 26 bytes have room for each head
+        Moved::NoRoom => unreachable!(),
     }
 }
 

@@ -1,5 +1,5 @@
 -- Writing is not refused, so the head's bytes are there, 14 of them or 26.
-use Rattle.std.proofs.Common.{◌≡◌, refl, sym, ap, arith}
+use Rattle.std.proofs.Common.{refl, sym, ap, arith}
 use mathlib.Core.Path.{◌∙◌}
 use Rattle.heads.specs.Head.{written_code}
 use Rattle.head.proofs.Written.{not_refused, all_of_it, half_of_it}
@@ -13,12 +13,12 @@ pub write_bytes-requires-else-h-eq2 : goal.write_bytes-requires-else-h-eq2
 write_bytes-requires-else-h-eq2 c =
     (c.requires, half_of_it _ c.requires _ _ refl c.write_head-written.ensures.1 c.if-h-eq2.false)
 
-pub never-requires : goal.never-requires
-never-requires c =
+pub unreachable-requires : goal.unreachable-requires
+unreachable-requires c =
     let bad = ap written_code (sym c.in-NotAllowed.is) ∙ c.write_head-written.ensures.0 ∙ not_refused _ c.requires in
     omega (arith, bad)
 
-pub never-requires-in-NoRoom : goal.never-requires-in-NoRoom
-never-requires-in-NoRoom c =
+pub unreachable-requires-in-NoRoom : goal.unreachable-requires-in-NoRoom
+unreachable-requires-in-NoRoom c =
     let bad = ap written_code (sym c.in-NoRoom.is) ∙ c.write_head-written.ensures.0 ∙ not_refused _ c.requires in
     omega (arith, bad)

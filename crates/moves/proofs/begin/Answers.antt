@@ -29,9 +29,6 @@ unfolding decimal digits_in
 refuse-requires-in-WouldLose c =
     (rw (to_z-of_z c.ranges.got) c.requires.1, refused _ _ (ap moved_code (sym c.in-WouldLose.is) ∙ c.to_version-moved.ensures.code))
 
-pub never-requires : goal.never-requires
-never-requires c = has_room_lem _ _ (sym (ap moved_code (sym c.in-NoRoom.is) ∙ c.to_version-moved.ensures.code))
-
-pub returns-in-NoRoom : goal.returns-in-NoRoom
-returns-in-NoRoom c =
-    absurd (has_room_lem _ _ (sym (ap moved_code (sym c.in-NoRoom.is) ∙ c.to_version-moved.ensures.code)))
+pub unreachable-requires : goal.unreachable-requires
+unreachable-requires c =
+    has_room_lem _ _ (sym (ap moved_code (sym c.in-NoRoom.is) ∙ c.to_version-moved.ensures.code))
