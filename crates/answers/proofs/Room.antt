@@ -44,3 +44,7 @@ module _ (l due : List ℕ) where
 pub due_reply : (code kind item echo : ℕ) (s : Settings) → code ≡ 1 → (kind ≡ 2 → ⊥)
     → framed type_reply (reply_body (row_of item) s (echo ∷ [])) ≡ due code kind item echo s
 due_reply code kind item echo s done plain = rw (done, ne_eqb kind 2 plain) refl
+
+-- the same said of what is due in other words
+pub wrote_as : (l : List ℕ) {due also : List ℕ} {r : ℕ} {k : List ℕ} → also ≡ due → Wrote l also r k → Wrote l due r k
+wrote_as l {due} {also} {r} {k} is w = subst (λ (d : List ℕ). Wrote l d r k) is w

@@ -53,7 +53,7 @@ pub fn total_of(kind: u8, size: u16) -> u16
 // Whether some bytes of a host could have left these bytes held and this count of them taken: there are 64 places, those
 // not taken are zero, and the message is not finished.
 pub fn could_be_left(held: &[u8], taken: usize) -> bool
-    ensures { result ≡ could_be_left (record { held = held.entry.now; taken = taken }) }
+    ensures { result ≡ could_be_left (record { held = held.now; taken = taken }) }
 {
     if held.len() != 64 {
         return false;
@@ -69,8 +69,8 @@ pub fn could_be_left(held: &[u8], taken: usize) -> bool
 // nothing more of it is kept. Of any other those bytes are kept that belong to its first 64. Where there are not 64 places
 // nothing is taken.
 pub fn take_in(held: &mut [u8], had: usize, host: &[u8]) -> Took
-    ensures { (result ≡ took_in (record { held = held.entry.now; taken = had }) host.now)
-        × (held.exit.now ≡ held_after (record { held = held.entry.now; taken = had }) host.now) }
+    ensures { (result ≡ took_in (record { held = held.old; taken = had }) host.now)
+        × (held.new ≡ held_after (record { held = held.old; taken = had }) host.now) }
 {
     if held.len() != 64 {
         return open(0, had);
@@ -173,7 +173,7 @@ fn announced_by(header: u16) -> usize
 // Whether the message is finished of which these bytes are held and `taken` were taken.
 fn is_finished(held: &[u8], taken: usize) -> bool
     requires { length held.now ≡ 64 }
-    ensures { result ≡ finished (record { held = held.entry.now; taken = taken }) }
+    ensures { result ≡ finished (record { held = held.now; taken = taken }) }
 {
     if taken < 2 {
         return false;

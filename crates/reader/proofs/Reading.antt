@@ -55,13 +55,17 @@ samples_there p some = rw (a_packet p some) (take_all (length p - 4) (drop 4 p) 
 pub sound_count : (r : Reader) → sound r ≡ true → is_count r.channels ≡ true
 sound_count r fine = and_left (is_count r.channels) (heard_well r) fine
 
--- soundness, of a reader that was told none; of one that was, and has heard a packet, by what its tests come to
+-- soundness, of a reader that was told none; of one that was, and has heard a packet, by what its tests come to, and that has not
 pub untold_broken : (r : Reader) → is_count r.channels ≡ false → sound r ≡ false
 untold_broken r none = and_not_left (is_count r.channels) (heard_well r) none
 
 pub heard_sound : (r : Reader) {a b : Bool} → is_count r.channels ≡ true → r.heard ≡ true
     → (leb r.position last && steps_give r.position r.total) ≡ a → listed_form r.form ≡ b → sound r ≡ (a && b)
 heard_sound r n h p q = rw (n, h, p, q)
+
+pub unheard_sound : (r : Reader) {a b c : Bool} → is_count r.channels ≡ true → r.heard ≡ false → eqb r.position 0 ≡ a
+    → eqb r.total 0 ≡ b → same_form r.form no_form ≡ c → sound r ≡ (a && b && c)
+unheard_sound r n h p q t = rw (n, h, p, q, t)
 
 -- "A reader that has heard a packet holds its position (at most 3,999,999,999) and a listed form"
 pub heard_within : (r : Reader) → sound r ≡ true → r.heard ≡ true

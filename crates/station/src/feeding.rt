@@ -138,7 +138,7 @@ fn answer(settings: Settings, opening: [u8; 10], reply: &mut [u8]) -> Answered
 
 // "All is zero between messages", as it is already where nothing was kept.
 fn clear(held: &mut [u8], taken: usize)
-    requires { could_be_left (record { held = held.now; taken = taken }) ≡ true }
+    requires { could_be_left (record { held = held.old; taken = taken }) ≡ true }
     ensures { held.new ≡ between.held }
 {
     if 0 < taken {

@@ -4,7 +4,7 @@ use mir.Facts.{to_z-of_z, sfits_widen}
 use Rattle.journey.proofs.asking.wide.Statement.{statement}
 use Rattle.journey.proofs.asking.wide.Tie as tie
 
-cast-result : tie.Need-overflow-cast-result
+cast-result : tie.Need-overflow_cast-result
 cast-result c = rw (to_z-of_z c.ranges.gain) (sfits_widen tt c.ranges.gain)
 
 returns : tie.Need-returns

@@ -6,14 +6,14 @@ use lib.Seq.{length-take-le}
 use Rattle.journey.proofs.capturing.first_samples.Statement.{statement}
 use Rattle.journey.proofs.capturing.first_samples.Tie as tie
 
-returns : tie.Need-returns
+returns : tie.Need-returns-then-samples-n
 returns c = search rules
 
-slice-aggregate-result : tie.Need-slice-aggregate-result
+slice-aggregate-result : tie.Need-slice_bounds-result-end
 slice-aggregate-result c = sym (length-take-le _ _ (omega arith))
 
-returns-2 : tie.Need-returns-2
+returns-2 : tie.Need-returns
 returns-2 c = search rules
 
-pub first-samples-spec : {M : Type 1} → statement M
-first-samples-spec = tie.close (tie.spec returns slice-aggregate-result returns-2)
+pub first_samples_spec : {M : Type 1} → statement M
+first_samples_spec = tie.close (tie.spec returns slice-aggregate-result returns-2)

@@ -6,19 +6,19 @@ use Rattle.samples.proofs.Codes.{drop_fits}
 use Rattle.journey.proofs.capturing.signal.Statement.{statement}
 use Rattle.journey.proofs.capturing.signal.Tie as tie
 
-mul-spread : tie.Need-overflow-mul-spread
+mul-spread : tie.Need-overflow_mul-spread
 mul-spread c = search rules
 
-mul-spread-2 : tie.Need-overflow-mul-spread-2
+mul-spread-2 : tie.Need-overflow_mul-spread-2
 mul-spread-2 c = search rules
 
-add-spread : tie.Need-overflow-add-spread
+add-spread : tie.Need-overflow_add-spread
 add-spread c = search rules
 
-cast-result : tie.Need-overflow-cast-result
+cast-result : tie.Need-overflow_cast-result
 cast-result c = search rules
 
-sub-result : tie.Need-overflow-sub-result
+sub-result : tie.Need-overflow_sub-result
 sub-result c = drop_fits 8_388_608 ((c.args.i * 7_919 + c.args.p * 5_000_011) % 16_777_216) (omega arith) (omega arith)
 
 returns : tie.Need-returns

@@ -6,13 +6,13 @@ use lib.Seq.{length-take-le}
 use Rattle.journey.proofs.saying.first.Statement.{statement}
 use Rattle.journey.proofs.saying.first.Tie as tie
 
-returns : tie.Need-returns
+returns : tie.Need-returns-then-bytes-n
 returns c = search rules
 
-slice-aggregate-result : tie.Need-slice-aggregate-result
+slice-aggregate-result : tie.Need-slice_bounds-result-end
 slice-aggregate-result c = sym (length-take-le _ _ (omega arith))
 
-returns-2 : tie.Need-returns-2
+returns-2 : tie.Need-returns
 returns-2 c = search rules
 
 pub first_spec : {M : Type 1} → statement M

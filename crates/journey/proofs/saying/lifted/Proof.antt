@@ -32,17 +32,17 @@ up_fits z f = record { sfits = omega (arith, up_below z f) }
 stored : (z : ℤ) → SFits w32 z → to_z w64 (of_z w64 (to_z w64 (of_z w64 (to_z w32 (of_z w32 z))) +ℤ pos 2147483648)) ≡ pos (up z)
 stored z f = rw (widened z f) (to_z-of_z (up_fits z f))
 
-cast-result : tie.Need-overflow-cast-result
+cast-result : tie.Need-overflow_cast-result
 cast-result c = rw (to_z-of_z c.ranges.n) (sfits_widen tt c.ranges.n)
 
-add-result : tie.Need-overflow-add-result
+add-result : tie.Need-overflow_add-result
 add-result c = rw (widened c.args.n c.ranges.n) (up_fits c.args.n c.ranges.n)
 
-cast-result-2 : tie.Need-overflow-cast-result-2
+cast-result-2 : tie.Need-overflow_cast-result-2
 cast-result-2 c = rw (stored c.args.n c.ranges.n) (tt, record { fits = omega (arith, up_below c.args.n c.ranges.n) })
 
 returns : tie.Need-returns
 returns c = search rules
 
-pub lifted-spec : {M : Type 1} → statement M
-lifted-spec = tie.close (tie.spec cast-result add-result cast-result-2 returns)
+pub lifted_spec : {M : Type 1} → statement M
+lifted_spec = tie.close (tie.spec cast-result add-result cast-result-2 returns)
