@@ -6,10 +6,10 @@ use Rattle.journey.proofs.capturing.packets_of.Statement.{statement}
 use Rattle.journey.proofs.capturing.packets_of.Tie as tie
 
 abbrev invariant-loop : tie.invariant-loop-p
-invariant-loop out night count after₀ p₀ after p = p ≤ count
+invariant-loop out count after₀ p₀ after p = p ≤ count
 
 abbrev decreases-loop : tie.decreases-loop-p
-decreases-loop out night count after₀ p₀ after p = count - p
+decreases-loop out count after₀ p₀ after p = count - p
 
 loop-holds : tie.Need-loop-p-init invariant-loop decreases-loop
 loop-holds c = search rules
