@@ -31,4 +31,4 @@ write_last-requires c =
     let fits : SFits w64 ended.got = search rules in
     let none = subst (WantsNoMore ended.span) (sym (to_z-of_z fits)) so_far.1 in
     let lines = lines_of_end _ _ _ _ long (rw long at c.finish-told.ensures.0) (rw long at c.finish-told.ensures.1) in
-    (so_far.0, to_its_end ended.span _ none c.if-ended-lt0.false, lines.bytes)
+    (so_far.0, to_its_end ended.span _ none (search rules), lines.bytes)
