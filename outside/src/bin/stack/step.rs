@@ -38,8 +38,8 @@ const NUMBERS: &[&str] = &[
 ];
 const VECTORS: &[&str] = &[
     "mov", "cmov", "set", "cvt", "pack", "punpck", "unpck", "padd", "psub", "pmul", "pmadd", "pand", "por", "pxor",
-    "pcmp", "pmin", "pmax", "pshuf", "psll", "psrl", "psra", "pextr", "pinsr", "pavg", "pmovmskb", "movmsk", "shuf",
-    "xorp", "andp", "andnp", "orp",
+    "pblend", "pcmp", "pmin", "pmax", "pshuf", "psll", "psrl", "psra", "pextr", "pinsr", "pavg", "pmovmskb", "movmsk",
+    "shuf", "xorp", "andp", "andnp", "orp",
 ];
 
 fn is_plain(name: &str) -> bool {
