@@ -90,6 +90,7 @@ pub fn is_valid(s: Station) -> bool
 }
 
 // The same of a box in parts.
+#[tactic(auto, unfolding(crate::specs::Station::valid))]
 pub fn is_sound(settings: Settings, held: &[u8], taken: usize) -> bool
     ensures { result ≡ valid (box_of settings held.now taken) }
 {
