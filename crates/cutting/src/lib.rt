@@ -78,7 +78,8 @@ pub fn cut_held(
         return refused(codes::WHILE_IDLE, settings);
     }
     let count = settings.count;
-    if packets::MOST <= count {
+    let full = packets::MOST <= count;
+    if full {
         return refused(codes::CAPTURE_FULL, settings);
     }
     let form = packets::form_for(settings.mode, settings.size as u8);

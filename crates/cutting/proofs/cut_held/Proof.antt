@@ -51,7 +51,7 @@ running_at : (c : tie.Else-not-settings) → (lent (sound c).before).settings.ru
 running_at c = not-false _ c.if-not-settings.false
 
 -- its capture is not full, and its form is known
-abbrev unfull : tie.After-form_for-form → tie.Else-count-ge-MOST
+abbrev unfull : tie.After-form_for-form → tie.Else-full
 unfull c = c.before.before
 
 abbrev running : tie.After-form_for-form → tie.Else-not-settings
@@ -148,18 +148,18 @@ returns-2 c =
     let code = code_22 (lent v.before.before.before.before) a.samples.now n (valid_at s.before.before.before) (not-true _ c.if-not-settings.true) in
     rw (c.refused-then-not-settings.ensures, ← refuses (lent v.before.before.before.before) a.samples.now n 22 code (λ e. omega arith)) (refl, refl)
 
-refused-requires-3 : tie.Need-refused-requires-then-count-ge-MOST
+refused-requires-3 : tie.Need-refused-requires-then-full
 refused-requires-3 c κs = search rules
 
-returns-3 : tie.Need-returns-then-count-ge-MOST
+returns-3 : tie.Need-returns-then-full
 returns-3 c =
     let r = c in
     let s = sound r.before.before in
     let v = s in
     let a = (from v.before).args in
     let n = length a.packet.now in
-    let code = code_25 (lent v.before) a.samples.now n (valid_at s) (running_at r.before.before) c.if-count-ge-MOST.true in
-    rw (c.refused-then-count-ge-MOST.ensures, ← refuses (lent v.before) a.samples.now n 25 code (λ e. omega arith)) (refl, refl)
+    let code = code_25 (lent v.before) a.samples.now n (valid_at s) (running_at r.before.before) c.if-full.true in
+    rw (c.refused-then-full.ensures, ← refuses (lent v.before) a.samples.now n 25 code (λ e. omega arith)) (refl, refl)
 
 cast-form-for : tie.Need-overflow_cast-settings
 cast-form-for c =
@@ -181,7 +181,7 @@ returns-4 c =
     let other : length (given f.before.before.before) ≡ 2 * (form_now (box f.before.before.before).settings).pairs → ⊥ =
     λ e. c.if-samples-form.true (e ∙ ap (λ (g : Form). 2 * g.pairs) (sym (form_at_lem f.before.before.before))) in
     let code =
-    code_23 (box f.before.before.before) (given f.before.before.before) (room f.before.before.before) (valid_at (sound (running f.before.before.before))) (running_at (running f.before.before.before)) (unfull f.before.before.before).if-count-ge-MOST.false other in
+    code_23 (box f.before.before.before) (given f.before.before.before) (room f.before.before.before) (valid_at (sound (running f.before.before.before))) (running_at (running f.before.before.before)) (unfull f.before.before.before).if-full.false other in
     rw (c.refused-then-samples-form.ensures, ← refuses (box f.before.before.before) (given f.before.before.before) (room f.before.before.before) 23 code (λ e. omega arith)) (refl, refl)
 
 pack-requires : tie.Need-pack-requires
@@ -199,7 +199,7 @@ returns-5 c =
     let f = at_pack p.before.before.before.before in
     let none : may_pack (form f) (given f) (room f) ≡ false = sym (packs_at p.before.before.before.before) ∙ c.if-not-pack.true in
     let unpacked =
-    refuses_unpacked (box f) (given f) (room f) (valid_at (sound (running f))) (running_at (running f)) (unfull f).if-count-ge-MOST.false
+    refuses_unpacked (box f) (given f) (room f) (valid_at (sound (running f))) (running_at (running f)) (unfull f).if-full.false
     (count_at (counted p.before.before.before.before))
     (ap (λ (g : Form). leb (total_of g) (room f) && all_samples (given f)) (sym (form_at_lem f)) ∙ sym (room_and_samples p.before.before.before.before) ∙ none) in
     rw (c.not_packed.ensures, ← unpacked)
@@ -237,7 +237,7 @@ returns-6 c =
     let good : all_samples (given f) ≡ true =
     and_right (leb (total_of (form f)) (room f)) _ (sym (room_and_samples p) ∙ good_at t.before.before.before.before.before) in
     let code =
-    code_1 s (given f) (room f) (valid_at (sound (running f))) (running_at (running f)) (unfull f).if-count-ge-MOST.false (count_at n) good
+    code_1 s (given f) (room f) (valid_at (sound (running f))) (running_at (running f)) (unfull f).if-full.false (count_at n) good
     (subst (λ (g : Form). total_of g ≤ room f) (form_at_lem f) (fits_at t.before.before.before.before.before)) in
     rw (c.counted.ensures, ← cuts s (given f) (room f) code) (
       ap (written s.settings) (total_at t.before.before.before.before.before ∙ ap total_of (form_at_lem f)),
