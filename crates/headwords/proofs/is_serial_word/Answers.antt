@@ -1,4 +1,4 @@
-use Rattle.std.proofs.Common.{ℕ, ◌<◌, sym, ap, get_or, arith}
+use Rattle.std.proofs.Common.{ℕ, ◌<◌, ◌≡◌, length, sym, ap, get_or, arith}
 use mathlib.Core.Path.{◌∙◌}
 use Rattle.items.specs.Settings.{holds_serial}
 use Rattle.headwords.proofs.Words.{holds_there}
@@ -8,5 +8,6 @@ pub returns : goal.returns
 returns c =
     let word = c.args.word.now in
     let small : (k : ℕ) → get_or word k 0 < 256 = λ k. omega (arith, c.type_inv.word k) in
+    let eight : length word ≡ 8 = omega arith in
     rw (sym c.is_same.ensures ∙ c.if-is_same.false)
-    (c.is_serial.ensures ∙ ap holds_serial c.number_at.ensures ∙ holds_there word small c.if-word-ne8.false)
+    (c.is_serial.ensures ∙ ap holds_serial c.number_at.ensures ∙ holds_there word small eight)
