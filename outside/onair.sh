@@ -25,7 +25,7 @@ made_of() {
         cat "$kit/KIT-ID" "$kit/WHAT" 2>/dev/null || :
         rustc --version
         find ../crates ../crates.txt ../run src c Cargo.toml Cargo.lock build.rs native.sh \
-            -type d -name out -prune -o -type f -exec sha256sum {} + | LC_ALL=C sort
+            -type d -regex ".*crates/[^/]*/out" -prune -o -type f -exec sha256sum {} + | LC_ALL=C sort
     ) | sha256sum
 }
 is_built() { [ -f "$programs/made-of" ] && [ "$(made_of)" = "$(cat "$programs/made-of")" ]; }

@@ -1,7 +1,8 @@
 #!/bin/sh
 # tried.sh: the wrong answers of docs/FIRMNESS.md that the gate has no time for. Each edit of outside/tried/CRATE/ is made in a
-# copy of its crate, and must be refused because a fact fails. One that does not compile, or whose proof only no longer fits
-# the code's shape, shows nothing, and counts as failed.
+# copy of its crate, and must be refused because a fact fails. One that does not compile shows nothing, and counts as failed; so
+# does one of which rt tells first that a name is gone, or a mere consequence. rt tells one error of each edit: what stands behind
+# it is not looked at.
 #
 #     outside/tried.sh [CRATE...]      every crate that has such edits, by default
 #
@@ -42,7 +43,8 @@ told_of() { # CRATE NAME
             split(said, part, ":")
             place = part[1]
             sub(/^[^:]*:[0-9]+:[0-9]+: (error: )?/, "", said)
-            if (place ~ /^src\//) place = function_at(place, part[2])
+            place_is_source = place ~ /^src\//
+            if (place_is_source) place = function_at(place, part[2])
             else {
                 sub(/^proofs\//, "", place)
                 sub(/\/(Proof|Answers|Invariants)\.antt$/, "", place)
@@ -52,7 +54,9 @@ told_of() { # CRATE NAME
             goal = ""
             if (match(said, /^`[^`]*`: /)) { goal = substr(said, 2, RLENGTH - 4); said = substr(said, RLENGTH + 1) }
             else if (match(said, /\(`[^`]*`\)/)) goal = substr(said, RSTART + 2, RLENGTH - 4)
-            kind = said ~ /has no field|has no `|is not in scope|can be named from here|expected type `(tie|goal)\.|write the clause/ ? "other" : "fact"
+            # a fact fails where no name is gone and nothing is told as a mere consequence; of src/, where the goal is said not to be proved
+            if (place_is_source && said !~ /it is not proved that/) { print "other " place ": " said; exit }
+            kind = said ~ /which was rejected|was not admitted|not checked|has no field|has no `|is not in scope|can be named from here|expected type `(tie|goal)\.|write the clause/ ? "other" : "fact"
             print kind " " place (goal == "" ? "" : ", " goal) ": " said
             exit
         }' "$room/said"
