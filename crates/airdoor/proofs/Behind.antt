@@ -15,7 +15,8 @@ use Rattle.packets.specs.declared.Form.{Form}
 use Rattle.packets.specs.Forms.{form_for, total_of, listed_form}
 use Rattle.packets.specs.Channels.{is_count, pairs_each}
 use Rattle.packets.specs.Numbers.{most}
-use Rattle.packets.proofs.Forms.{packet_is}
+use Rattle.packets.proofs.Forms.{packet_is, picked_some}
+use Rattle.std.specs.Prelude.{Some, None}
 use Rattle.packets.proofs.Channels.{shared_out}
 use Rattle.items.specs.declared.Settings.{Settings}
 use Rattle.items.specs.Settings.{is_mode, is_size, is_setup, is_serial, channel_in_range, in_range, open_channels}
@@ -34,10 +35,10 @@ shape_by h is = rw is
 
 -- what the library answers of a listed form and a count
 pub shaped : (h : Head) (f : Form) (n pairs total : ℕ) → f ≡ form_in h → listed_form f ≡ true → n ≡ channels_in h
-    → pairs ≡ pick (is_count n) (pairs_each n f) 0 → total ≡ pick (listed_form f) (total_of f) 0
+    → Some pairs ≡ pick (is_count n) (Some (pairs_each n f)) None → Some total ≡ pick (listed_form f) (Some (total_of f)) None
     → as_shape 1 n f.bits pairs (2 * f.pairs) total ≡ shape_in h
 shaped h f n pairs total is listed counts each all =
-    rw (shape_by h (rw is at listed), all, listed, each, counts, is_count_lem h, is)
+    rw (shape_by h (rw is at listed), (picked_some _ _ _ all).1, (picked_some _ _ _ each).1, counts, is)
 
 -- ---- all eight, and no others
 

@@ -1,3 +1,4 @@
 pub mod Heading
 pub mod Shapes
 pub mod Measures
+pub mod Inside

@@ -4,7 +4,7 @@ ghost use Rattle.items.specs.Settings.{is_mode, is_setup, open_channels};
 ghost use Rattle.airdoor.specs.Heading.{head_mode_over, head_length_over};
 
 use items::ranges;
-use wire::codes;
+use wire::{Refusal, codes};
 
 // Whether a box can be in this capture mode with this channel setup.
 fn is_allowed(mode: u8, setup: u8) -> bool
@@ -34,7 +34,7 @@ pub extern "C" fn skvornela_head_mode(mode: u8, setup: u8, byte: &mut u8) -> u8
         return codes::DONE;
     }
     *byte = 0;
-    codes::VALUE_NOT_ALLOWED
+    Refusal::ValueNotAllowed as u8
 }
 
 // How many bytes a head of a version has, 0 where there is no such version.

@@ -9,7 +9,7 @@ ghost use Rattle.airdoor.specs.Measures.{message_over};
 pub extern "C" fn skvornela_divisor(rate: u32) -> u32
     ensures { result ≡ d_of rate }
 {
-    rates::d_of(rate)
+    rates::d_of(rate).unwrap_or(0)
 }
 
 // How many bytes the message has in all that begins with these bytes; 0 while there are not two, its header.
@@ -36,6 +36,6 @@ pub extern "C" fn skvornela_end_time(
     ensures { record { code = result; microseconds = microseconds.new } ≡ timing_of samples divisor clock }
 {
     let t = lines::time_of(samples, divisor, clock);
-    *microseconds = t.microseconds;
-    t.code
+    *microseconds = t.unwrap_or(0);
+    wire::code_of(t)
 }

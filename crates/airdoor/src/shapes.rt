@@ -1,14 +1,14 @@
 // The shape of packets behind a capture head: how they are laid out.
 ghost use Rattle.std.specs.Prelude.{◌≡◌};
 ghost use Rattle.airdoor.specs.Shapes.{some_head, as_shape, shape_in, shape_over};
+ghost use Rattle.airdoor.specs.Inside.{shape_says};
 
 use heads::Head;
-use wire::codes;
+use wire::{Refusal, codes};
 
-// The code, and the shape, or zeros in the place of one that there is not.
+// The channels of a packet, the bits of a sample, the I/Q pairs of each channel, the numbers in a packet, and its bytes in all.
 #[derive(Clone, Copy)]
 struct Shape {
-    code: u8,
     channels: u8,
     bits: u64,
     pairs: u64,
@@ -32,29 +32,18 @@ fn some_head(mode: u8, size: u8) -> Head
 }
 
 // The shape of packets behind a head.
-fn shape_in(h: Head) -> Shape
-    ensures { as_shape result.code result.channels result.bits result.pairs result.numbers result.total ≡ shape_in h }
+fn shape_in(h: Head) -> Result<Shape, Refusal>
+    ensures { shape_says result ≡ shape_in h }
 {
-    let form = heads::form_in(h);
-    if !packets::is_listed(form) {
-        return Shape {
-            code: codes::VALUE_NOT_ALLOWED,
-            channels: 0,
-            bits: 0,
-            pairs: 0,
-            numbers: 0,
-            total: 0,
-        };
-    }
+    let form = heads::form_in(h).ok_or(Refusal::ValueNotAllowed)?;
     let channels = heads::channels_in(h);
-    Shape {
-        code: codes::DONE,
-        channels: channels,
+    Ok(Shape {
+        channels,
         bits: form.bits,
-        pairs: packets::pairs_each(channels, form),
+        pairs: packets::pairs_each(channels, form).unwrap(),
         numbers: (2 * form.pairs) as usize,
-        total: packets::total_of(form) as usize,
-    }
+        total: packets::total_of(form).unwrap() as usize,
+    })
 }
 
 // How packets are laid out behind a head with this mode byte and this size byte: how many channels they hold, the bits of a sample, the
@@ -73,11 +62,22 @@ pub extern "C" fn skvornela_shape(
     ensures { as_shape result channels.new bits.new pairs.new numbers.new total.new
         ≡ shape_over mode size }
 {
-    let s = shape_in(some_head(mode, size));
-    *channels = s.channels;
-    *bits = s.bits;
-    *pairs = s.pairs;
-    *numbers = s.numbers;
-    *total = s.total;
-    s.code
+    match shape_in(some_head(mode, size)) {
+        Ok(s) => {
+            *channels = s.channels;
+            *bits = s.bits;
+            *pairs = s.pairs;
+            *numbers = s.numbers;
+            *total = s.total;
+            codes::DONE
+        }
+        Err(refusal) => {
+            *channels = 0;
+            *bits = 0;
+            *pairs = 0;
+            *numbers = 0;
+            *total = 0;
+            u8::from(refusal)
+        }
+    }
 }

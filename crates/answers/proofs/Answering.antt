@@ -4,19 +4,27 @@ use mathlib.Core.Path.{◌≡◌, refl, sym, ap, ◌∙◌}
 use mathlib.Core.Bool.{Bool, true, false}
 use mathlib.Core.List.{List, [], ◌∷◌}
 use native.Mathlib.Omega.{arith}
-use lib.Dec.{eqb, ltb, lit<}
+use lib.Dec.{eqb, leb, ltb}
 use lib.ListN.{length, get_or, take, length-drop}
 use lib.Seq.{sets, get_or-drop}
 use borrow.Author.Tests.{le-ltb, ne_eqb}
+use Rattle.std.specs.Prelude.{Option, Some, None, Result, Ok, Err, is_err}
 use Rattle.wire.specs.Choice.{pick}
 use Rattle.wire.specs.Header.{nak, type_range, type_reply, type_range_reply}
 use Rattle.items.specs.declared.Settings.{Settings}
 use Rattle.items.specs.Items.{Item, row_of}
-use Rattle.items.specs.Answer.{Message, item_in, row, parameters, code_of, settings_after, reply_of, reply_to, reply_body, range_body, framed}
+use Rattle.items.specs.Answer.{Judged, checks, judged_of, Message, item_in, row, parameters, code_of, settings_after, reply_of, reply_to, reply_body, range_body, framed}
 use Rattle.items.proofs.Judging.{reply_by_code}
 use Rattle.items.proofs.Rows.{◌then◌, found}
-use Rattle.answers.specs.declared.Answered.{Answered}
-use Rattle.answers.specs.Replies.{answer_of}
+use Rattle.wire.specs.declared.refusal.Refusal.{Refusal}
+use Rattle.wire.specs.declared.refusal.Refusal.TheVariants.{NoRoom}
+use Rattle.wire.proofs.Checks.{given_has}
+use Rattle.wire.specs.Refusal.{refusal_code}
+use Rattle.wire.proofs.Refusals.{not_done, not_silent}
+use Rattle.answers.specs.declared.Outcome.{Outcome}
+use Rattle.answers.specs.declared.Outcome.TheVariants.{Unanswered}
+use Rattle.answers.specs.declared.Answered as Made
+use Rattle.answers.specs.Replies.{answer_of, answered_says, outcome_code}
 use Rattle.answers.specs.Inside.{count_in, bytes_in, due}
 
 -- ---- a reply has of the parameters only the first byte
@@ -80,49 +88,66 @@ module _ (s : Settings) (m : Message) where
       → 4 < length m.bytes → (code ≡ 2 → ⊥) → due code m.type item (get_or m.bytes 4 0) after ≡ reply_of s m
   judged_reply code item after c i a long answered = rw (c, i, a) (due_reply long (λ e. answered (c ∙ e)))
 
--- something is due
-pub some_due : (code kind item echo : ℕ) (s : Settings) → 0 < length (due code kind item echo s)
-some_due code kind item echo s = go (eqb code 1) (eqb kind type_range)
-  where
-    go : (a b : Bool) → 0 < length (pick a (replying (row_of item) s (echo ∷ []) b) nak)
-    go false b = lit< tt
-    go true true = lit< tt
-    go true false = omega arith
+-- of a message that is refused: NAK is due
+pub nak_reply : (s : Settings) (m : Message) (r : Refusal) → refusal_code r ≡ code_of s m → nak ≡ reply_of s m
+nak_reply s m r e =
+    let one : eqb (code_of s m) 1 ≡ false = rw (← e) (not_done r) in
+    let two : eqb (code_of s m) 2 ≡ false = rw (← e) (not_silent r) in
+    sym (rw (reply_by_code s m, one, two) refl)
 
 -- ---- the answer
 
+-- no message has a code from 20 on
+pub code_small : (s : Settings) (m : Message) → leb 20 (code_of s m) ≡ false
+unfolding code_of
+code_small s m =
+    given_has (λ (code : ℕ). leb 20 code ≡ false) (checks s m) 1
+    (refl, (refl, (refl, (refl, (refl, (refl, (refl, (refl, (refl, tt))))))))) refl
+
 module _ (s : Settings) (m : Message) (l : List ℕ) where
-  abbrev pub Answers : Answered → List ℕ → Type 0
-  Answers r k = (r ≡ (answer_of s m (length l)).answered) × (k ≡ sets l 0 (answer_of s m (length l)).bytes)
+  abbrev pub Answers : Result Made.Answered Refusal → List ℕ → Type 0
+  Answers r k =
+      (answered_says s r ≡ (answer_of s m (length l)).answered)
+      × (is_err r ≡ leb 20 (answer_of s m (length l)).answered.code)
+      × (k ≡ sets l 0 (answer_of s m (length l)).bytes)
 
   -- no reply is due
-  pub answers_nothing : (code : ℕ) (after : Settings) → code ≡ code_of s m → code ≡ 2 → after ≡ settings_after s m
-      → Answers (record { code = 2; wrote = 0; settings = after }) l
+  pub answers_nothing : record { code = 2; settings = s } ≡ judged_of s m
+      → Answers (Ok (record { outcome = Unanswered; wrote = 0; settings = s })) l
   unfolding answer_of
-  answers_nothing code after c two a =
-      let none = unanswered_reply s m (sym c ∙ two) in
+  answers_nothing e =
+      let code : 2 ≡ code_of s m = ap (λ (j : Judged). j.code) e in
+      let after : s ≡ settings_after s m = ap (λ (j : Judged). j.settings) e in
+      let none = unanswered_reply s m (sym code) in
       let free = le-ltb (length l) 0 (omega arith) in
-      (rw (none, free, ← c, two, a) refl, rw (none, free) refl)
+      (rw (none, free, ← code, ← after) refl, rw (none, free, ← code) refl, rw (none, free) refl)
 
-  module _ (w : ℕ) (k reply : List ℕ) (is : reply ≡ reply_of s m) (count : w ≡ count_in (length l) reply)
+  module _ (r : Option ℕ) (k reply : List ℕ) (is : reply ≡ reply_of s m) (count : r ≡ count_in (length l) reply)
       (left : k ≡ sets l 0 (bytes_in (length l) reply)) where
     -- there is no room
-    pub answers_short : 0 < length reply → w ≡ 0 → Answers (record { code = 20; wrote = 0; settings = s }) k
+    pub answers_short : r ≡ None → Answers (Err NoRoom) k
     unfolding answer_of
-    answers_short some none = go (ltb (length l) (length reply)) refl
+    answers_short none = go (ltb (length l) (length reply)) refl
       where
-        go : (b : Bool) → ltb (length l) (length reply) ≡ b → Answers (record { code = 20; wrote = 0; settings = s }) k
-        go true q = (rw (← is, q) refl, left ∙ rw (← is, q) refl)
-        go false q = absurd (let z : length reply ≡ 0 = sym (count ∙ rw q refl) ∙ none in omega arith)
+        go : (b : Bool) → ltb (length l) (length reply) ≡ b → Answers (Err NoRoom) k
+        go true q = (rw (← is, q) refl, rw (← is, q) refl, left ∙ rw (← is, q) refl)
+        go false q = absurd (let z : Some (length reply) ≡ None = sym (count ∙ rw q refl) ∙ none in cc)
 
     -- there is
-    pub answers_whole : (code : ℕ) (after : Settings) → code ≡ code_of s m → after ≡ settings_after s m → (w ≡ 0 → ⊥)
-        → Answers (record { code = code; wrote = w; settings = after }) k
+    pub answers_whole : (o : Outcome) (after : Settings) (w : ℕ) → record { code = outcome_code o; settings = after } ≡ judged_of s m
+        → r ≡ Some w → Answers (Ok (record { outcome = o; wrote = w; settings = after })) k
     unfolding answer_of
-    answers_whole code after c a some = go (ltb (length l) (length reply)) refl
+    answers_whole o after w e some = go (ltb (length l) (length reply)) refl
       where
-        go : (b : Bool) → ltb (length l) (length reply) ≡ b → Answers (record { code = code; wrote = w; settings = after }) k
-        go true q = absurd (some (count ∙ rw q refl))
+        code : outcome_code o ≡ code_of s m
+        code = ap (λ (j : Judged). j.code) e
+
+        left_to : after ≡ settings_after s m
+        left_to = ap (λ (j : Judged). j.settings) e
+
+        go : (b : Bool) → ltb (length l) (length reply) ≡ b → Answers (Ok (record { outcome = o; wrote = w; settings = after })) k
+        go true q = absurd (let z : None ≡ Some w = sym (count ∙ rw q refl) ∙ some in cc)
         go false q =
-            let all : w ≡ length reply = count ∙ rw q refl in
-            (rw (← is, q, c, a, all) refl, left ∙ rw (← is, q) refl)
+            let all : Some w ≡ Some (length reply) = sym some ∙ count ∙ rw q refl in
+            let long : w ≡ length reply = cc in
+            (rw (← is, q, code, left_to, long) refl, rw (← is, q) (sym (code_small s m)), left ∙ rw (← is, q) refl)

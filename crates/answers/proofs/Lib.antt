@@ -2,3 +2,4 @@ pub mod Values
 pub mod Shown
 pub mod Room
 pub mod Answering
+pub mod Says

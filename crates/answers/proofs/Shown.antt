@@ -3,30 +3,28 @@ use Prim.Native.Nat.{ℕ, suc, ◌+◌}
 use mathlib.Core.Path.{◌≡◌, refl}
 use mathlib.Core.List.{[], ◌∷◌}
 use native.Mathlib.Omega.{arith}
-use lib.ListN.{length}
+use lib.ListN.{length, take}
 use borrow.Author.Tests.{ne_eqb}
+use Rattle.std.specs.Prelude.{Option, Some, None}
 use Rattle.wire.specs.Number.{bytes}
 use Rattle.wire.specs.Header.{type_reply}
 use Rattle.wire.proofs.Numbers.{length_bytes}
-use Rattle.layouts.specs.Layouts.{laid}
+use Rattle.layouts.specs.Layouts.{echo_bytes, laid}
 use Rattle.items.specs.declared.Settings.{Settings}
 use Rattle.items.specs.Items.{echoes, Item, no_item, row_of}
 use Rattle.items.specs.Answer.{framed, reply_body}
-use Rattle.answers.specs.Inside.{plainly, echoing}
+use Rattle.answers.specs.Inside.{replying}
 
-module _ (i : Item) (item width value : ℕ) (s : Settings) (echo : ℕ) (code : i.code ≡ item)
-    (shown : i.rule.value s (echo ∷ []) ≡ bytes width value) where
-  -- without an echoed byte
-  pub shows_plainly : echoes i.echoed ≡ 0 → laid (plainly item width value) ≡ framed type_reply (reply_body i s (echo ∷ []))
-  shows_plainly none =
-      let size : 4 + width ≡ 2 + suc (suc (length (bytes width value))) = omega (arith, length_bytes width value) in
-      rw (none, shown, code, ← size) refl
-
-  -- with one
-  pub shows_echoing : echoes i.echoed ≡ 1 → laid (echoing item echo width value) ≡ framed type_reply (reply_body i s (echo ∷ []))
-  shows_echoing one =
-      let size : 5 + width ≡ 2 + suc (suc (suc (length (bytes width value)))) = omega (arith, length_bytes width value) in
-      rw (one, shown, code, ← size) refl
+-- with an echoed byte, and without one
+pub shows : (i : Item) (item width value : ℕ) (s : Settings) (echo : ℕ) (echoed : Option ℕ) → i.code ≡ item
+    → i.rule.value s (echo ∷ []) ≡ bytes width value → take (echoes i.echoed) (echo ∷ []) ≡ echo_bytes echoed
+    → laid (replying item echoed width value) ≡ framed type_reply (reply_body i s (echo ∷ []))
+shows i item width value s echo (Some byte) code shown same =
+    let size : 5 + width ≡ 2 + suc (suc (suc (length (bytes width value)))) = omega (arith, length_bytes width value) in
+    rw (same, shown, code, ← size) refl
+shows i item width value s echo None code shown same =
+    let size : 4 + width ≡ 2 + suc (suc (length (bytes width value))) = omega (arith, length_bytes width value) in
+    rw (same, shown, code, ← size) refl
 
 -- a code that is in no row
 pub no_row : (item : ℕ) → (item ≡ 0x0001 → ⊥) → (item ≡ 0x0002 → ⊥) → (item ≡ 0x0003 → ⊥) → (item ≡ 0x0004 → ⊥) → (item ≡ 0x0005 → ⊥)

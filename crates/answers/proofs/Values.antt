@@ -7,6 +7,7 @@ use native.Mathlib.Omega.{arith}
 use lib.Dec.{lit<}
 use lib.ListN.{length, get_or, take, length-append}
 use lib.Seq.{take_all}
+use Rattle.std.specs.Prelude.{Some}
 use Rattle.wire.specs.Number.{number, bytes, field}
 use Rattle.wire.specs.Header.{type_reply}
 use Rattle.wire.proofs.Numbers.{bytes_number}
@@ -15,7 +16,7 @@ use Rattle.items.specs.Settings.{fresh_of}
 use Rattle.items.specs.Items.{version_table, is_version, versions, state_bytes}
 use Rattle.items.proofs.Versions.{version_has, no_version_has}
 use Rattle.items.specs.Answer.{framed, reply_body}
-use Rattle.answers.specs.Inside.{echoing}
+use Rattle.answers.specs.Inside.{replying}
 
 -- 80, run byte, mode, 00
 pub state_bytes_lem : (run mode n : ℕ) → run < 256 → mode < 256 → n ≡ number (state_bytes run mode) → bytes 4 n ≡ state_bytes run mode
@@ -51,9 +52,9 @@ serial_bytes serial long small v is =
 abbrev version_reply : ℕ → List ℕ
 version_reply id = framed type_reply (reply_body versions (fresh_of []) (id ∷ []))
 
-pub version_laid : (id : ℕ) → is_version id ≡ true → laid (echoing 0x0004 id 2 (number (get_or version_table id []))) ≡ version_reply id
+pub version_laid : (id : ℕ) → is_version id ≡ true → laid (replying 0x0004 (Some id) 2 (number (get_or version_table id []))) ≡ version_reply id
 version_laid =
-    version_has (λ id. laid (echoing 0x0004 id 2 (number (get_or version_table id []))) ≡ version_reply id) refl refl refl refl
+    version_has (λ id. laid (replying 0x0004 (Some id) 2 (number (get_or version_table id []))) ≡ version_reply id) refl refl refl refl
 
-pub no_version : (id : ℕ) → is_version id ≡ false → laid (echoing 0x0004 id 0 0) ≡ version_reply id
-no_version = no_version_has (λ id. laid (echoing 0x0004 id 0 0) ≡ version_reply id) (λ k. refl)
+pub no_version : (id : ℕ) → is_version id ≡ false → laid (replying 0x0004 (Some id) 0 0) ≡ version_reply id
+no_version = no_version_has (λ id. laid (replying 0x0004 (Some id) 0 0) ≡ version_reply id) (λ k. refl)

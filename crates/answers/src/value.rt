@@ -4,10 +4,10 @@ ghost use Rattle.wire.specs.Choice.{pick};
 ghost use Rattle.wire.specs.Number.{bytes};
 ghost use Rattle.wire.specs.Header.{type_reply};
 ghost use Rattle.layouts.specs.Layouts.{laid};
-ghost use Rattle.items.specs.Items.{status_byte, versions, idle, run, state_bytes, row_of};
+ghost use Rattle.items.specs.Items.{achieved_rate, status_byte, versions, idle, run, state_bytes, row_of};
 ghost use Rattle.items.specs.Settings.{fresh_of};
 ghost use Rattle.items.specs.Answer.{framed, reply_body};
-ghost use Rattle.answers.specs.Inside.{plainly, echoing};
+ghost use Rattle.answers.specs.Inside.{replying};
 
 use items::{Settings, table, values};
 use layouts::Layout;
@@ -20,45 +20,44 @@ pub(crate) fn reply_layout(s: Settings, item: u16, echo: u8) -> Layout
     ensures { laid result ≡ framed type_reply (reply_body (row_of item) s (echo ∷ [])) }
 {
     match item {
-        table::NAME => plain(item, 7, values::NAME),
+        table::NAME => reply(item, None, 7, values::NAME),
         table::SERIAL => {
             let serial = s.serial;
-            plain(item, 9, serial_value(&serial))
+            reply(item, None, 9, serial_value(&serial))
         }
-        table::INTERFACE => plain(item, 2, values::INTERFACE),
+        table::INTERFACE => reply(item, None, 2, values::INTERFACE),
         table::VERSIONS => version(echo),
-        table::STATUS => plain(item, 1, status_value(s.running)),
-        table::STATE => plain(item, 4, state_value(s.running, s.mode)),
-        table::CHANNEL_SETUP => plain(item, 1, s.setup as u64),
-        table::FREQUENCY => with_echo(item, echo, 5, channels::channel_at(s, echo).frequency),
-        table::GAIN => with_echo(item, echo, 1, channels::channel_at(s, echo).gain as u64),
-        table::CLOCK => with_echo(item, echo, 4, s.clock as u64),
-        table::RATE => with_echo(item, echo, 4, rates::achieved(s.divisor) as u64),
-        table::PACKET_SIZE => plain(item, 1, s.size as u64),
-        _ => plain(item, 0, 0),
+        table::STATUS => reply(item, None, 1, status_value(s.running)),
+        table::STATE => reply(item, None, 4, state_value(s.running, s.mode)),
+        table::CHANNEL_SETUP => reply(item, None, 1, s.setup as u64),
+        table::FREQUENCY => reply(item, Some(echo), 5, channels::channel_at(s, echo).frequency),
+        table::GAIN => reply(
+            item,
+            Some(echo),
+            1,
+            channels::channel_at(s, echo).gain as u64,
+        ),
+        table::CLOCK => reply(item, Some(echo), 4, s.clock as u64),
+        table::RATE => reply(item, Some(echo), 4, achieved(s.divisor) as u64),
+        table::PACKET_SIZE => reply(item, None, 1, s.size as u64),
+        _ => reply(item, None, 0, 0),
     }
 }
 
-fn plain(item: u16, width: u8, value: u64) -> Layout
-    ensures { result ≡ plainly item width value }
+// The achieved rate of a D; a divisor that is none has no rate.
+fn achieved(divisor: u32) -> u32
+    ensures { result ≡ achieved_rate divisor }
+{
+    rates::achieved(divisor).unwrap_or(0)
+}
+
+// A reply for an item, with the byte that it echoes, where there is one, and a value in so many bytes.
+fn reply(item: u16, echo: Option<u8>, width: u8, value: u64) -> Layout
+    ensures { result ≡ replying item echo width value }
 {
     Layout {
         kind: types::REPLY,
         item,
-        echoed: false,
-        echo: 0,
-        width,
-        value,
-    }
-}
-
-fn with_echo(item: u16, echo: u8, width: u8, value: u64) -> Layout
-    ensures { result ≡ echoing item echo width value }
-{
-    Layout {
-        kind: types::REPLY,
-        item,
-        echoed: true,
         echo,
         width,
         value,
@@ -70,9 +69,9 @@ fn version(id: u8) -> Layout
     ensures { laid result ≡ framed type_reply (reply_body versions (fresh_of []) (id ∷ [])) }
 {
     if values::is_version(id) {
-        return with_echo(table::VERSIONS, id, 2, values::version_of(id));
+        return reply(table::VERSIONS, Some(id), 2, values::version_of(id));
     }
-    with_echo(table::VERSIONS, id, 0, 0)
+    reply(table::VERSIONS, Some(id), 0, 0)
 }
 
 // "0B idle, 0C running"

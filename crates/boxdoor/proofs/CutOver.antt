@@ -3,9 +3,9 @@ use Prim.Native.Nat.{ℕ, ◌≤◌, ◌<◌}
 use mathlib.Core.Path.{◌≡◌, refl, sym, ap, ◌∙◌}
 use mathlib.Core.List.{List}
 use native.Mathlib.Omega.{arith}
-use borrow.Author.Tests.{eq-eqb, ne_eqb, lt-ltb, le-ltb}
+use borrow.Author.Tests.{eqb-true, eqb-false, ltb-false, eq-eqb, ne_eqb, lt-ltb, le-ltb}
 use borrow.Rule.Slice.PartMut.{mid_of}
-use lib.Dec.{ltb}
+use lib.Dec.{eqb, ltb}
 use lib.IntN.{ℤ}
 use lib.ListN.{length}
 use lib.Seq.{sets}
@@ -13,11 +13,16 @@ use Rattle.wire.specs.Choice.{pick}
 use Rattle.wire.specs.Number.{bytes}
 use Rattle.framing.specs.declared.Store.{Store}
 use Rattle.station.specs.declared.Station.{Station}
-use Rattle.cutting.specs.declared.Cut.{Cut}
-use Rattle.cutting.specs.declared.CutHeld.{CutHeld}
+use Rattle.cutting.specs.Cutting.{Cut}
+use Rattle.cutting.specs.Cutting.{CutHeld}
 use Rattle.station.specs.Station.{box_of}
-use Rattle.cutting.specs.Cutting.{Cutting, cutting_of, parts_of}
-use Rattle.cutting.proofs.Ways.{each_cut, cutting_holds}
+use Rattle.cutting.specs.Cutting.{Cutting, cutting_of, cut_code, parts_of}
+use Rattle.cutting.proofs.Codes.{refuses, cuts}
+use Rattle.cutting.proofs.Ways.{each_cut, cutting_holds, cut_low}
+use mathlib.Core.Bool.{Bool, true, false}
+use Rattle.wire.specs.Refusal.{refusal_code}
+use Rattle.wire.specs.declared.refusal.Refusal.{Refusal}
+use Rattle.wire.proofs.Refusals.{done_no_refusal}
 use Rattle.boxdoor.specs.States.{held_from, taken_from, station_size, settings_in, settings_bytes, station_bytes}
 use Rattle.boxdoor.specs.Cutting.{CutAnswer, cut_by, cut_over, packet_over}
 use Rattle.boxdoor.proofs.Parts.{length_part}
@@ -80,6 +85,23 @@ module _ (state : List ℕ) (samples : List ℤ) (room : ℕ) (l : Lent state sa
 
   pub cut_refused : 20 ≤ r.code → record { code = r.code; wrote = r.wrote; state = state } ≡ cut_over state samples room
   cut_refused high = answer state (rw (le-ltb r.code 20 high) refl)
+
+  -- the code of a call that is refused
+  pub high_code : (q : Refusal) → record { code = refusal_code q; wrote = 0; settings = l.box.settings } ≡ parts_of cut → 20 ≤ refusal_code q
+  high_code q told = go (eqb (cut_code lent samples room) 1) refl
+    where
+      go : (b : Bool) → eqb (cut_code lent samples room) 1 ≡ b → 20 ≤ refusal_code q
+      go true e =
+          let one : cut_code lent samples room ≡ 1 = eqb-true (cut_code lent samples room) 1 e in
+          let done : refusal_code q ≡ 1 =
+          ap (λ (k : CutHeld). k.code) told ∙ sym (ap (λ (c : Cutting). c.cut.code) (cuts lent samples room one)) in
+          done_no_refusal q (sym done)
+      go false e =
+          let code : refusal_code q ≡ cut_code lent samples room =
+          ap (λ (k : CutHeld). k.code) told
+          ∙ sym (ap (λ (c : Cutting). c.cut.code)
+          (refuses lent samples room (cut_code lent samples room) refl (eqb-false (cut_code lent samples room) 1 e))) in
+          rw code (ltb-false (cut_code lent samples room) 20 (cut_low lent samples room ∙ e))
 
   pub packet_whole : (packet after : List ℕ) → after ≡ sets packet 0 (cutting_of lent samples room).bytes
       → after ≡ sets packet 0 (packet_over state samples room)

@@ -4,17 +4,17 @@ use mathlib.Core.Path.{◌≡◌, refl, sym, ap, ◌∙◌}
 use mathlib.Core.Bool.{Bool, true, false}
 use mathlib.Core.List.{List}
 use native.Mathlib.Omega.{arith}
-use borrow.Author.Tests.{eq-eqb, ne_eqb, lt-ltb, le-ltb}
+use borrow.Author.Tests.{leb-true, leb-false, eq-eqb, ne_eqb, lt-ltb, le-ltb}
 use borrow.Rule.Slice.PartMut.{mid_of, put_mid, same_len_mid, put_same}
-use lib.Dec.{ltb}
+use lib.Dec.{leb, ltb}
 use lib.ListN.{length}
 use lib.Seq.{sets}
 use Rattle.wire.specs.Choice.{pick}
 use Rattle.wire.specs.Number.{bytes}
 use Rattle.wire.specs.Told.{Told}
-use Rattle.station.specs.declared.FreshBox.{FreshBox}
-use Rattle.station.specs.declared.Fed.{Fed}
-use Rattle.station.specs.declared.FedHeld.{FedHeld}
+use Rattle.station.specs.Station.{FreshBox}
+use Rattle.station.specs.Feeding.{Fed}
+use Rattle.station.specs.Feeding.{FedHeld}
 use Rattle.station.specs.declared.Station.{Station}
 use Rattle.station.specs.Station.{box_of, valid, fresh_box, tuning_told}
 use Rattle.station.specs.Feeding.{Feeding, feeding_of, parts_of}
@@ -107,6 +107,13 @@ module _ (state host : List ℕ) (room : ℕ) (l : Lent state host room) where
       l.kept ∙ ap (λ (k : Station). k.store.held) (refused_returns lent host room (omega arith)) in
       answer (put_mid held_from 64 state l.held)
       (ap (put_mid held_from 64 state) same ∙ put_same held_from 64 state ∙ rw (le-ltb f.code 20 high) refl)
+
+  -- the code of a call that has an answer, and of one that is refused
+  pub low_code : false ≡ leb 20 fed.code → f.code < 20
+  low_code fails = rw (ap (λ (k : FedHeld). k.code) l.told) (leb-false 20 fed.code (sym fails))
+
+  pub high_code : true ≡ leb 20 fed.code → 20 ≤ f.code
+  high_code fails = rw (ap (λ (k : FedHeld). k.code) l.told) (leb-true 20 fed.code (sym fails))
 
   pub replied_whole : (reply after : List ℕ) → after ≡ sets reply 0 (feeding_of lent host room).bytes
       → after ≡ sets reply 0 (replied_over state host room)

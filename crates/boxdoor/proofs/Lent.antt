@@ -1,13 +1,14 @@
 -- A box over the door: its held bytes are lent where they lie; the rest is read out before a call, and written back after it,
 -- unless the call was refused.
 use Prim.Native.Nat.{ℕ}
-use mathlib.Core.Path.{◌≡◌, refl}
+use mathlib.Core.Path.{◌≡◌, refl, ap}
 use mathlib.Core.List.{List}
 use borrow.Rule.Slice.PartMut.{mid_of}
 use lib.ListN.{length}
 use Rattle.wire.specs.Number.{field}
 use Rattle.items.specs.declared.Settings.{Settings}
 use Rattle.station.specs.declared.Station.{Station}
+use Rattle.station.specs.declared.Parts.{Parts}
 use Rattle.station.specs.Station.{box_of}
 use Rattle.boxdoor.specs.States.{held_from, taken_from, station_size, settings_in, store_in, station_in}
 
@@ -18,6 +19,18 @@ pub record Read (state : List ℕ) : Type 0 where
   pub long : length state ≡ station_size
   pub read : settings ≡ settings_in state
   pub had : taken ≡ field taken_from 8 state
+
+-- as the parts of a box
+abbrev pub read_of : (state : List ℕ) (p : Parts) → length state ≡ station_size
+    → p ≡ record { settings = settings_in state; taken = field taken_from 8 state } → Read state
+read_of state p long is =
+    record {
+      settings = p.settings;
+      taken = p.taken;
+      long = long;
+      read = ap (λ (q : Parts). q.settings) is;
+      had = ap (λ (q : Parts). q.taken) is;
+    }
 
 -- the box that the call is about
 abbrev pub lent_box : (state : List ℕ) → Read state → Station

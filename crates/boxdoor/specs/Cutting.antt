@@ -2,7 +2,7 @@
 use Rattle.std.specs.Prelude.{ℕ, List, [], eqb, ltb, ℤ, length}
 use Rattle.wire.specs.Choice.{pick}
 use Rattle.wire.specs.Codes as Code
-use Rattle.cutting.specs.declared.Cut.{Cut}
+use Rattle.cutting.specs.Cutting.{Cut}
 use Rattle.cutting.specs.Cutting.{cutting_of}
 use Rattle.boxdoor.specs.States.{station_size, station_in, station_bytes}
 

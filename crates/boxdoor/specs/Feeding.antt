@@ -3,7 +3,7 @@ use Rattle.std.specs.Prelude.{ℕ, List, [], ◌∷◌, eqb, ltb, length}
 use Rattle.wire.specs.Choice.{pick}
 use Rattle.wire.specs.Codes as Code
 use Rattle.wire.specs.Told.{Told}
-use Rattle.station.specs.declared.Fed.{Fed}
+use Rattle.station.specs.Feeding.{Fed}
 use Rattle.station.specs.Station.{fresh_box, tuning_told}
 use Rattle.station.specs.Feeding.{feeding_of}
 use Rattle.boxdoor.specs.States.{station_size, station_in, station_bytes}

@@ -4,7 +4,8 @@ ghost use Rattle.std.proofs.lemmas.List.Edits.{sets};
 ghost use Rattle.boxdoor.specs.Cutting.{cut_over, packet_over};
 
 use crate::states::{HELD, TAKEN};
-use wire::codes;
+use station::Parts;
+use wire::{Refusal, codes};
 
 // Cuts the next packet from samples by a box in its bytes. Answers the code, and leaves how many bytes of packet were
 // written. Where the call is refused the box's bytes and the packet are as they came.
@@ -20,19 +21,23 @@ pub extern "C" fn skvornela_cut(
         × (packet.new
         ≡ sets packet.old 0 (packet_over state.old samples.now (length packet.old))) }
 {
-    if state.len() == crate::states::LENGTH {
-        let settings = crate::states::settings_of(state);
-        let taken = crate::states::taken_of(state);
-        // the held bytes are looked at where they lie
-        let cut = cutting::cut_held(settings, &state[HELD..TAKEN], taken, samples, packet);
-        *wrote = cut.wrote;
-        // "Codes from 20 consume nothing and return the state given."
-        if cut.code < codes::NO_ROOM {
-            let after = cut.settings;
-            crate::states::put_parts(state, after, taken);
-        }
-        return cut.code;
-    }
     *wrote = 0;
-    codes::BROKEN
+    if state.len() == crate::states::LENGTH {
+        let parts = crate::states::parts_of(state);
+        // the held bytes are looked at where they lie
+        return match cutting::cut_held(parts, &state[HELD..TAKEN], samples, packet) {
+            Ok(cut) => {
+                *wrote = cut.wrote;
+                let after = Parts {
+                    settings: cut.left,
+                    ..parts
+                };
+                crate::states::put_parts(state, after);
+                codes::DONE
+            }
+            // "Codes from 20 consume nothing and return the state given."
+            Err(refusal) => u8::from(refusal),
+        };
+    }
+    Refusal::Broken as u8
 }

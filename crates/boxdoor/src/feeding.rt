@@ -1,12 +1,10 @@
 // A fresh box, feeding it, and its tuning word.
 ghost use Rattle.std.specs.Prelude.{◌≡◌, length};
 ghost use Rattle.std.proofs.lemmas.List.Edits.{sets};
-ghost use Rattle.station.specs.Station.{tuning_says};
-ghost use Rattle.boxdoor.specs.Feeding.{feed_over, replied_over, fresh_over, tuned, tuned_over};
+ghost use Rattle.boxdoor.specs.Feeding.{feed_over, replied_over, fresh_over, tuned_over};
 
 use crate::states::{HELD, TAKEN};
-use station::Tuning;
-use wire::codes;
+use wire::{Refusal, codes};
 
 // A fresh box with a serial, in a box's bytes. Answers the code.
 #[unsafe(no_mangle)]
@@ -15,11 +13,10 @@ pub extern "C" fn skvornela_fresh(serial: &[u8], state: &mut [u8]) -> u8
 {
     if state.len() == crate::states::LENGTH {
         let began = station::fresh(serial);
-        let station = began.station;
-        crate::states::put_station(state, station);
-        return began.code;
+        crate::states::put_station(state, began.made);
+        return began.code();
     }
-    codes::BROKEN
+    Refusal::Broken as u8
 }
 
 // Feeds a box in its bytes. Answers the code, and leaves how many of the host's bytes were consumed and how many bytes of
@@ -37,49 +34,23 @@ pub extern "C" fn skvornela_feed(
         × (reply.new
         ≡ sets reply.old 0 (replied_over state.old host.now (length reply.old))) }
 {
-    if state.len() == crate::states::LENGTH {
-        let settings = crate::states::settings_of(state);
-        let taken = crate::states::taken_of(state);
-        // the held bytes are changed where they lie
-        let f = station::feed_held(settings, &mut state[HELD..TAKEN], taken, host, reply);
-        *consumed = f.consumed;
-        *wrote = f.wrote;
-        // "Codes from 20 consume nothing and return the state given."
-        if f.code < codes::NO_ROOM {
-            let after = f.settings;
-            crate::states::put_parts(state, after, f.taken);
-        }
-        return f.code;
-    }
     *consumed = 0;
     *wrote = 0;
-    codes::BROKEN
-}
-
-// A tuning word as numbers.
-#[derive(Clone, Copy)]
-struct Tuned {
-    code: u8,
-    word: u32,
-}
-
-fn tuned_by(t: Tuning) -> Tuned
-    ensures { record { code = result.code; word = result.word } ≡ tuned (tuning_says t) }
-{
-    match t {
-        Tuning::Word(w) => Tuned {
-            code: codes::DONE,
-            word: w,
-        },
-        Tuning::NotAllowed => Tuned {
-            code: codes::CHANNEL_NOT_ALLOWED,
-            word: 0,
-        },
-        Tuning::Broken => Tuned {
-            code: codes::BROKEN,
-            word: 0,
-        },
+    if state.len() == crate::states::LENGTH {
+        let parts = crate::states::parts_of(state);
+        // the held bytes are changed where they lie
+        return match station::feed_held(parts, &mut state[HELD..TAKEN], host, reply) {
+            Ok(f) => {
+                *consumed = f.consumed;
+                *wrote = f.wrote;
+                crate::states::put_parts(state, f.left);
+                f.code()
+            }
+            // "Codes from 20 consume nothing and return the state given."
+            Err(refusal) => u8::from(refusal),
+        };
     }
+    Refusal::Broken as u8
 }
 
 // The tuning word of a channel of a box in its bytes. Answers the code, and leaves the word, 0 where there is none.
@@ -87,14 +58,17 @@ fn tuned_by(t: Tuning) -> Tuned
 pub extern "C" fn skvornela_word(state: &[u8], channel: u8, word: &mut u32) -> u8
     ensures { record { code = result; word = word.new } ≡ tuned_over state.now channel }
 {
-    if state.len() == crate::states::LENGTH {
-        let settings = crate::states::settings_of(state);
-        let taken = crate::states::taken_of(state);
-        // the held bytes are looked at where they lie
-        let t = tuned_by(station::word_held(settings, &state[HELD..TAKEN], taken, channel));
-        *word = t.word;
-        return t.code;
-    }
     *word = 0;
-    codes::BROKEN
+    if state.len() == crate::states::LENGTH {
+        let parts = crate::states::parts_of(state);
+        // the held bytes are looked at where they lie
+        return match station::word_held(parts, &state[HELD..TAKEN], channel) {
+            Ok(kept) => {
+                *word = kept;
+                codes::DONE
+            }
+            Err(why) => u8::from(why),
+        };
+    }
+    Refusal::Broken as u8
 }

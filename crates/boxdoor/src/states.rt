@@ -6,7 +6,7 @@ ghost use Rattle.boxdoor.specs.States.{common_from, held_from, taken_from, stati
 ghost use Rattle.boxdoor.specs.States.{channel_bytes, common_bytes, settings_bytes, station_bytes};
 
 use items::{Channel, Settings};
-use station::Station;
+use station::{Parts, Station};
 
 // Where a channel's word and gain begin, counted from the channel's first byte; at that byte begins its frequency.
 const WORD: usize = 8;
@@ -54,7 +54,7 @@ fn channel_at(b: &[u8], at: usize) -> Channel
 }
 
 // The settings in a box's bytes.
-pub(crate) fn settings_of(b: &[u8]) -> Settings
+fn settings_of(b: &[u8]) -> Settings
     requires { length b.now ≡ station_size }
     ensures { result ≡ settings_in b.now }
 {
@@ -76,12 +76,15 @@ pub(crate) fn settings_of(b: &[u8]) -> Settings
     }
 }
 
-// How many bytes of its message are taken.
-pub(crate) fn taken_of(b: &[u8]) -> usize
+// All of a box but its held bytes.
+pub(crate) fn parts_of(b: &[u8]) -> Parts
     requires { length b.now ≡ station_size }
-    ensures { result ≡ field taken_from 8 b.now }
+    ensures { result ≡ record { settings = settings_in b.now; taken = field taken_from 8 b.now } }
 {
-    wire::number_at(b, TAKEN, 8) as usize
+    Parts {
+        settings: settings_of(b),
+        taken: wire::number_at(b, TAKEN, 8) as usize,
+    }
 }
 
 // Stores a channel from a place on.
@@ -121,13 +124,13 @@ fn put_settings(b: &mut [u8], s: Settings)
 }
 
 // Stores all of a box but its held bytes, which are left as they lie.
-pub(crate) fn put_parts(b: &mut [u8], s: Settings, taken: usize)
+pub(crate) fn put_parts(b: &mut [u8], parts: Parts)
     requires { length b.old ≡ station_size }
-    ensures { b.new ≡ sets (sets b.old 0 (settings_bytes s)) taken_from (bytes 8 taken) }
+    ensures { b.new ≡ sets (sets b.old 0 (settings_bytes parts.settings)) taken_from (bytes 8 parts.taken) }
 {
     // a part of a length that the compiler sees
-    put_settings(&mut b[..HELD], s);
-    wire::put(b, TAKEN, 8, taken as u64);
+    put_settings(&mut b[..HELD], parts.settings);
+    wire::put(b, TAKEN, 8, parts.taken as u64);
 }
 
 // Stores a box in its bytes.
@@ -135,9 +138,6 @@ pub(crate) fn put_station(b: &mut [u8], s: Station)
     requires { length b.old ≡ station_size }
     ensures { b.new ≡ station_bytes s }
 {
-    let settings = s.settings;
-    let store = s.store;
-    let held = store.held;
-    wire::copy(&held, b, HELD);
-    put_parts(b, settings, store.taken);
+    wire::copy(&s.store.held, b, HELD);
+    put_parts(b, s.parts());
 }

@@ -63,7 +63,7 @@ pub fn tuned(c: Channel, covered: bool, hz: u64, word: u32) -> Channel
         return Channel {
             frequency: hz,
             word,
-            gain: c.gain,
+            ..c
         };
     }
     c
@@ -74,11 +74,7 @@ pub fn gained(c: Channel, covered: bool, gain: u32) -> Channel
     ensures { result ≡ pick covered (gained_to gain c) c }
 {
     if covered {
-        return Channel {
-            frequency: c.frequency,
-            word: c.word,
-            gain,
-        };
+        return Channel { gain, ..c };
     }
     c
 }

@@ -7,10 +7,10 @@ use mathlib.Core.Bool.{true}
 use mathlib.Core.List.{List}
 use native.Mathlib.Omega.{arith}
 use borrow.Author.Tests.{eqb-true, eqb-false, le-leb, leb-false, not-false}
-use lib.Dec.{eqb}
+use lib.Dec.{eqb, ltb}
 use lib.IntN.{ℤ}
 use lib.ListN.{length}
-use Rattle.wire.proofs.Checks.{absent}
+use Rattle.wire.proofs.Checks.{absent, given_has}
 use Rattle.wire.proofs.Laws.{pick_keeps}
 use Rattle.packets.specs.Numbers.{most}
 use Rattle.packets.specs.Samples.{all_samples}
@@ -82,3 +82,9 @@ cutting_keeps s samples room v =
 -- what a box holds of a message cutting leaves alone
 pub cutting_holds : (s : Station) (samples : List ℤ) (room : ℕ) → (cutting_of s samples room).cut.station.store ≡ s.store
 cutting_holds s samples room = each_cut (λ (c : Cutting). c.cut.station.store ≡ s.store) s samples room (λ e. refl) (λ n. refl)
+
+-- a code under 20 is that of a packet that was cut
+pub cut_low : (s : Station) (samples : List ℤ) (room : ℕ) → ltb (cut_code s samples room) 20 ≡ eqb (cut_code s samples room) 1
+unfolding cut_code
+cut_low s samples room =
+    given_has (λ (code : ℕ). ltb code 20 ≡ eqb code 1) (cut_checks s samples room) 1 (refl, (refl, (refl, (refl, (refl, (refl, tt)))))) refl

@@ -1,6 +1,6 @@
 -- Cutting: a running box makes the next packet of its capture from whole-number samples, I and Q in turn, with two channels those of the
 -- first and of the second in turn (packets/specs/Channels).
-use Rattle.std.specs.Prelude.{ℕ, ◌+◌, ◌*◌, not, List, [], ◌∷◌, ◌++◌, eqb, leb, ltb, ℤ, length}
+use Rattle.std.specs.Prelude.{ℕ, Result, Ok, Err, ◌+◌, ◌*◌, not, List, [], ◌∷◌, ◌++◌, eqb, leb, ltb, ℤ, length}
 use Rattle.wire.specs.Choice.{pick, Check, check, first_of}
 use Rattle.wire.specs.Codes as Code
 use Rattle.wire.specs.Number.{bytes}
@@ -13,8 +13,21 @@ use Rattle.items.specs.declared.Settings.{Settings}
 use Rattle.items.specs.Settings.{with_count}
 use Rattle.station.specs.declared.Station.{Station}
 use Rattle.station.specs.Station.{valid}
-use Rattle.cutting.specs.declared.Cut.{Cut}
-use Rattle.cutting.specs.declared.CutHeld.{CutHeld}
+use Rattle.cutting.specs.declared.Cut as Made
+use Rattle.wire.specs.Refusal.{refusal_code}
+use Rattle.wire.specs.declared.refusal.Refusal.{Refusal}
+
+-- what one call of cutting did: its code, how many bytes of packet it wrote, and the box after it
+pub record Cut : Type 0 where
+  pub code : ℕ
+  pub wrote : ℕ
+  pub station : Station
+
+-- the same with a box whose held bytes were lent, and of the box its settings
+pub record CutHeld : Type 0 where
+  pub code : ℕ
+  pub wrote : ℕ
+  pub settings : Settings
 
 -- "Header, 16-bit packet number, then I and Q in turn": the packet of a form at a position
 abbrev pub packet_of : Form → ℕ → List ℤ → List ℕ
@@ -67,3 +80,13 @@ cutting_of s samples room =
 -- the same where the bytes held are lent: of the box there are left the settings
 abbrev pub parts_of : Cut → CutHeld
 parts_of c = record { code = c.code; wrote = c.wrote; settings = c.station.settings }
+
+-- ---- the same of what the code answers with
+
+abbrev pub cut_says : Station → Result (Made.Cut Station) Refusal → Cut
+cut_says s (Ok c) = record { code = Code.done; wrote = c.wrote; station = c.left }
+cut_says s (Err r) = (refused (refusal_code r) s).cut
+
+abbrev pub held_says : Settings → Result (Made.Cut Settings) Refusal → CutHeld
+held_says s (Ok c) = record { code = Code.done; wrote = c.wrote; settings = c.left }
+held_says s (Err r) = record { code = refusal_code r; wrote = 0; settings = s }

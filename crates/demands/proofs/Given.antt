@@ -17,7 +17,7 @@ use Rattle.wire.proofs.Checks.{differ, given_exactly, not_given, Each, given_has
 use Rattle.wire.proofs.Laws.{and_left, and_right, and_both, true_not_false}
 use Rattle.items.specs.Answer.{Message, checks, code_of}
 use Rattle.items.specs.declared.Settings.{Settings}
-use Rattle.items.specs.declared.FreshSettings.{FreshSettings}
+use Rattle.items.specs.Settings.{FreshSettings}
 use Rattle.items.specs.Settings.{is_serial, fresh_of}
 use Rattle.framing.specs.Framing.{call_takes, finished}
 use Rattle.framing.proofs.Cutting.{finished_taking}

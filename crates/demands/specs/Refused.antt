@@ -5,7 +5,7 @@ use Rattle.wire.specs.Choice.{pick}
 use Rattle.wire.specs.Codes as Code
 use Rattle.wire.specs.Header.{nak}
 use Rattle.framing.specs.Framing.{between, call_takes, announced}
-use Rattle.reader.specs.declared.Heard.{Heard}
+use Rattle.reader.specs.Answers.{Heard}
 use Rattle.reader.specs.declared.Reader.{Reader}
 use Rattle.reader.specs.Reading.{unheard}
 use Rattle.station.specs.declared.Station.{Station}

@@ -1,11 +1,12 @@
 // The box at edges that no message of the script reaches: packets cut, and little room for a reply.
 use crate::telling::{first, name, say, say_code, say_number, tell};
-use station::{Station, Tuning};
+use station::Station;
 use std::io::Stdout;
+use wire::{Refusal, code_of};
 
 // A box that runs or not, in a mode and a size, and has cut so many packets.
 fn made(running: bool, mode: u8, size: u8, count: u64) -> Station {
-    let mut settings = station::fresh(b"00000000").station.settings;
+    let mut settings = station::fresh(b"00000000").made.settings;
     settings.running = running;
     settings.mode = mode;
     settings.size = size as u32;
@@ -29,7 +30,11 @@ fn cut(out: Stdout, words: &[u8], s: Station, n: usize, v: i32, room: usize) {
     let part = &mut packet[..room];
     let cut = cutting::cut_packet(s, &samples[..n], part);
     name(out, words);
-    tell(out, cut.code, first(first(part, cut.wrote), 10));
+    let wrote = match cut {
+        Ok(c) => c.wrote,
+        Err(_) => 0,
+    };
+    tell(out, code_of(cut), first(first(part, wrote), 10));
 }
 
 // The four forms.
@@ -124,7 +129,10 @@ fn feed(out: Stdout, words: &[u8], s: Station, message: &[u8], room: usize) {
     let part = &mut reply[..room];
     let fed = station::feed(s, message, part);
     name(out, words);
-    tell(out, fed.code, first(part, fed.wrote));
+    match fed {
+        Ok(f) => tell(out, f.code(), first(part, f.wrote)),
+        Err(refusal) => tell(out, u8::from(refusal), b""),
+    }
 }
 
 // Little room: NAK has 2 bytes, and the reply with the name 11.
@@ -143,33 +151,30 @@ pub(crate) fn feeds(out: Stdout) {
     );
 }
 
-fn wide(word: u32) -> u64 {
-    word as u64
-}
-
 // What asking for the word of a channel answers.
 fn say_answer(out: Stdout, s: Station, channel: u8) {
     say(out, b"; ");
-    let t = station::tuning_word(s, channel);
-    match t {
-        Tuning::Word(w) => {
+    match station::tuning_word(s, channel) {
+        Ok(w) => {
             say(out, b"1");
-            say_number(out, wide(w));
+            say_number(out, u64::from(w));
         }
-        Tuning::NotAllowed => say(out, b"15"),
-        Tuning::Broken => say(out, b"21"),
+        Err(Refusal::ChannelNotAllowed) => say(out, b"15"),
+        Err(_) => say(out, b"21"),
     }
 }
 
 // Feeds a message to a box, and tells its code, the words that the box keeps then, and what asking for each answers.
 fn tuned(out: Stdout, words: &[u8], s: Station, message: &[u8]) -> Station {
     let mut reply = [0u8; 64];
-    let fed = station::feed(s, message, &mut reply);
-    let after = fed.station;
+    let (code, after) = match station::feed(s, message, &mut reply) {
+        Ok(f) => (f.code(), f.left),
+        Err(refusal) => (u8::from(refusal), s),
+    };
     name(out, words);
-    say_code(out, fed.code);
-    say_number(out, wide(after.settings.first.word));
-    say_number(out, wide(after.settings.second.word));
+    say_code(out, code);
+    say_number(out, u64::from(after.settings.first.word));
+    say_number(out, u64::from(after.settings.second.word));
     say_answer(out, after, 0x00);
     say_answer(out, after, 0x02);
     say(out, b"\n");

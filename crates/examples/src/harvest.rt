@@ -1,10 +1,9 @@
 // The harvester's calls at their edges: packets read and unpacked, wishes and heads written, replies read.
 use crate::telling::{first, name, say, say_code, say_number, tell};
-use heads::{Head, Moved, Opened};
+use heads::Head;
 use reader::Reader;
-use replies::Reply;
 use std::io::Stdout;
-use wire::codes;
+use wire::{Refusal, codes};
 use wishes::{StateFields, Wish};
 
 // The header of 24 bits, small, whose packets have 388 bytes, and that of 16 bits, small.
@@ -19,7 +18,7 @@ fn after(position: u64, total: u64) -> Reader {
         channels: 1,
         position,
         total,
-        form: packets::form_for(0x80, 1),
+        form: packets::SMALL_24,
     }
 }
 
@@ -33,13 +32,16 @@ fn read(out: Stdout, words: &[u8], r: Reader, header: u64, number: u64, n: usize
     let mut packet = [0u8; 1444];
     wire::put(&mut packet, 0, 2, header);
     wire::put(&mut packet, 2, 2, number);
-    let heard = reader::read(r, first(&packet, n));
     name(out, words);
-    say_code(out, heard.code);
-    say_number(out, heard.position);
-    say_number(out, heard.sample);
-    say_number(out, heard.missed);
-    say_number(out, heard.total);
+    let answer = reader::read(r, first(&packet, n));
+    say_code(out, wire::code_of(answer));
+    let numbers = match answer {
+        Ok(heard) => [heard.position, heard.sample, heard.missed, heard.total],
+        Err(_) => [0; 4],
+    };
+    for number in numbers {
+        say_number(out, number);
+    }
     say(out, b"\n");
 }
 
@@ -55,8 +57,8 @@ fn unpack(out: Stdout, words: &[u8], n: usize, room: usize) {
     let whole = first(&packet, n);
     let unpacked = reader::unpack(whole, &mut numbers[..room]);
     name(out, words);
-    say_code(out, unpacked.code);
-    say_number(out, unpacked.count as u64);
+    say_code(out, wire::code_of(unpacked));
+    say_number(out, unpacked.unwrap_or(0) as u64);
     say_number(out, reader::sample_bytes(whole).len() as u64);
     say(out, b"\n");
 }
@@ -155,10 +157,8 @@ fn write(out: Stdout, words: &[u8], w: Wish, room: usize) {
     let written = wishes::write(w, part);
     name(out, words);
     match written {
-        wishes::Written::Message(n) => tell(out, codes::DONE, first(part, n)),
-        wishes::Written::ChannelNotAllowed => tell(out, codes::CHANNEL_NOT_ALLOWED, b""),
-        wishes::Written::NotAllowed => tell(out, codes::VALUE_NOT_ALLOWED, b""),
-        wishes::Written::NoRoom => tell(out, codes::NO_ROOM, b""),
+        Ok(n) => tell(out, codes::DONE, first(part, n)),
+        Err(r) => tell(out, u8::from(r), b""),
     }
 }
 
@@ -211,12 +211,7 @@ fn channels_written(out: Stdout) {
 // Reads bytes as the reply to a wish.
 fn hear(out: Stdout, words: &[u8], w: Wish, bytes: &[u8]) {
     name(out, words);
-    match replies::read(w, bytes) {
-        Reply::ChannelNotAllowed => tell(out, codes::CHANNEL_NOT_ALLOWED, b""),
-        Reply::NotAllowed => tell(out, codes::VALUE_NOT_ALLOWED, b""),
-        Reply::NotAReply => tell(out, codes::NOT_A_REPLY, b""),
-        _ => tell(out, codes::DONE, b""),
-    }
+    tell(out, wire::code_of(replies::read(w, bytes)), b"");
 }
 
 pub(crate) fn replies_read(out: Stdout) {
@@ -314,6 +309,14 @@ fn naming(version: u32, serial: u64, clock: u32) -> Head {
     head_of(version, 100, serial, clock)
 }
 
+// The code of what was done, and its bytes.
+fn tell_done(out: Stdout, answer: Result<(), Refusal>, bytes: &[u8]) {
+    match answer {
+        Ok(()) => tell(out, codes::DONE, bytes),
+        Err(refusal) => tell(out, u8::from(refusal), b""),
+    }
+}
+
 // Writes a head to so many bytes.
 fn head(out: Stdout, words: &[u8], h: Head, room: usize) {
     let mut bytes = [0u8; 26];
@@ -323,11 +326,7 @@ fn head(out: Stdout, words: &[u8], h: Head, room: usize) {
     let part = &mut bytes[..room];
     let written = heads::write_head(h, part);
     name(out, words);
-    match written {
-        heads::Written::Whole => tell(out, codes::DONE, part),
-        heads::Written::NotAllowed => tell(out, codes::VALUE_NOT_ALLOWED, b""),
-        heads::Written::NoRoom => tell(out, codes::NO_ROOM, b""),
-    }
+    tell_done(out, written, part);
 }
 
 fn written_by_d(out: Stdout) {
@@ -410,9 +409,8 @@ fn open(out: Stdout, words: &[u8], h: Head, n: usize) {
     let bytes = head_bytes(h);
     name(out, words);
     match heads::read_head(first(&bytes, n)) {
-        Opened::Head(read) => tell_head(out, read),
-        Opened::NotAHead => tell(out, codes::NOT_A_HEAD, b""),
-        Opened::OtherVersion => tell(out, codes::OTHER_VERSION, b""),
+        Ok(read) => tell_head(out, read),
+        Err(refusal) => tell(out, u8::from(refusal), b""),
     }
 }
 
@@ -457,17 +455,7 @@ pub(crate) fn heads_read(out: Stdout) {
     read_of_version_2(out);
 }
 
-fn tell_moved(out: Stdout, m: Moved, bytes: &[u8]) {
-    match m {
-        Moved::Whole => tell(out, codes::DONE, bytes),
-        Moved::NotAHead => tell(out, codes::NOT_A_HEAD, b""),
-        Moved::OtherVersion => tell(out, codes::OTHER_VERSION, b""),
-        Moved::WouldLose => tell(out, codes::WOULD_LOSE, b""),
-        Moved::NoRoom => tell(out, codes::NO_ROOM, b""),
-    }
-}
-
-fn moved(back: bool, bytes: &[u8], out: &mut [u8]) -> Moved {
+fn moved(back: bool, bytes: &[u8], out: &mut [u8]) -> Result<(), Refusal> {
     if back {
         return heads::older(bytes, out);
     }
@@ -483,7 +471,7 @@ fn shift(out: Stdout, words: &[u8], back: bool, h: Head, room: usize) {
     let part = &mut bytes[..room];
     let m = moved(back, &head_bytes(h), part);
     name(out, words);
-    tell_moved(out, m, part);
+    tell_done(out, m, part);
 }
 
 fn moved_on(out: Stdout) {

@@ -14,13 +14,11 @@ use std::io::Stdout;
 
 // The value of a hexadecimal digit in capitals; of anything else 0.
 fn value_of(digit: u8) -> u8 {
-    if b'0' <= digit && digit <= b'9' {
-        return digit - b'0';
+    match digit {
+        b'0'..=b'9' => digit - b'0',
+        b'A'..=b'F' => digit - (b'A' - 10),
+        _ => 0,
     }
-    if b'A' <= digit && digit <= b'F' {
-        return digit - (b'A' - 10);
-    }
-    0
 }
 
 // Puts the bytes of a line, two digits each and a space between, at the start of out, and answers how many there are.
@@ -28,17 +26,12 @@ fn read_bytes(line: &[u8], out: &mut [u8]) -> usize
     ensures { result ≤ length out.old }
 {
     let mut n = 0;
-    let mut at = 0;
-    while at < line.len() && n < out.len() {
-        if line.len() - at < 2 {
-            return n;
+    for digits in line.chunks(3) {
+        if digits.len() < 2 || n == out.len() {
+            break;
         }
-        out[n] = (value_of(line[at]) << 4) | value_of(line[at + 1]);
+        out[n] = (value_of(digits[0]) << 4) | value_of(digits[1]);
         n += 1;
-        if line.len() - at < 3 {
-            return n;
-        }
-        at += 3;
     }
     n
 }
@@ -48,10 +41,8 @@ fn zeros_in(text: &[u8]) -> usize
     ensures { result < 10000 }
 {
     let mut n = 0;
-    let mut i = 0;
-    while i < text.len() {
-        n = (n * 10 + value_of(text[i]) as usize) % 10_000;
-        i += 1;
+    for digit in text {
+        n = (n * 10 + value_of(*digit) as usize) % 10_000;
     }
     n
 }
@@ -59,15 +50,22 @@ fn zeros_in(text: &[u8]) -> usize
 // Feeds a message in one call.
 fn feed_and_tell(out: Stdout, s: Station, message: &[u8]) -> Station {
     let mut reply = [0u8; 64];
-    let fed = station::feed(s, message, &mut reply);
-    tell(out, fed.code, first(&reply, fed.wrote));
-    fed.station
+    match station::feed(s, message, &mut reply) {
+        Ok(fed) => {
+            tell(out, fed.code(), first(&reply, fed.wrote));
+            fed.left
+        }
+        Err(refusal) => {
+            tell(out, u8::from(refusal), b"");
+            s
+        }
+    }
 }
 
 // A message of at most 8,200 bytes.
 fn run_message(out: Stdout, s: Station, line: &[u8]) -> Station {
     let mut message = [0u8; 8200];
-    let plus = find(line, 0, b'+');
+    let plus = find(line, b'+');
     let n = read_bytes(&line[..plus], &mut message);
     let more = zeros_in(&line[plus..]);
     feed_and_tell(out, s, first(&message, n + more))
@@ -75,7 +73,7 @@ fn run_message(out: Stdout, s: Station, line: &[u8]) -> Station {
 
 // A message, behind its name where it has one.
 fn run_named(out: Stdout, s: Station, line: &[u8]) -> Station {
-    let colon = find(line, 0, b':');
+    let colon = find(line, b':');
     if colon == line.len() {
         return run_message(out, s, line);
     }
@@ -87,8 +85,8 @@ fn run_named(out: Stdout, s: Station, line: &[u8]) -> Station {
 fn begin(out: Stdout, line: &[u8]) -> Station {
     let began = station::fresh(from(line, 4));
     name(out, line);
-    tell(out, began.code, b"");
-    began.station
+    tell(out, began.code(), b"");
+    began.made
 }
 
 // One line of the script, and the box after it.
@@ -106,14 +104,8 @@ fn run_line(out: Stdout, s: Station, line: &[u8]) -> Station {
 
 // One line after the other.
 pub(crate) fn run(out: Stdout, text: &[u8]) {
-    let mut now = station::fresh(b"00000000").station;
-    let mut at = 0;
-    while at < text.len() {
-        let end = find(text, at, b'\n');
-        now = run_line(out, now, &text[at..end]);
-        if end == text.len() {
-            return;
-        }
-        at = end + 1;
+    let mut now = station::fresh(b"00000000").made;
+    for line in text.split_inclusive(|b| *b == b'\n') {
+        now = run_line(out, now, line.strip_suffix(b"\n").unwrap_or(line));
     }
 }

@@ -16,45 +16,28 @@ pub(crate) fn name(out: Stdout, words: &[u8]) {
 
 // The first n bytes, or all where there are fewer.
 pub(crate) fn first(bytes: &[u8], n: usize) -> &[u8] {
-    if bytes.len() < n {
-        return bytes;
-    }
-    &bytes[..n]
+    &bytes[..n.min(bytes.len())]
 }
 
 // The bytes from a place on, or none where there are fewer.
 pub(crate) fn from(bytes: &[u8], at: usize) -> &[u8] {
-    if bytes.len() < at {
-        return &bytes[..0];
-    }
-    &bytes[at..]
+    &bytes[at.min(bytes.len())..]
 }
 
-// The first place from one on that has this byte, or the end.
-pub(crate) fn find(text: &[u8], from: usize, b: u8) -> usize
-    requires { from ≤ length text.now }
-    ensures lower_bound { from ≤ result }
-    ensures upper_bound { result ≤ length text.now }
+// The first place that has this byte, or the end.
+pub(crate) fn find(text: &[u8], b: u8) -> usize
+    ensures { result ≤ length text.now }
 {
-    let mut i = from;
-    while i < text.len() {
-        if text[i] == b {
-            return i;
-        }
-        i += 1;
-    }
-    i
+    text.iter().position(|c| *c == b).unwrap_or(text.len())
 }
 
 // The digit of a value below 16.
 fn digit_of(value: u8) -> u8 {
-    if value < 10 {
-        return b'0' + value;
+    match value {
+        0..=9 => b'0' + value,
+        10..=15 => value + (b'A' - 10),
+        _ => b'?',
     }
-    if value < 16 {
-        return value + (b'A' - 10);
-    }
-    b'?'
 }
 
 // A space and a byte.
@@ -68,21 +51,15 @@ pub(crate) fn say_number(out: Stdout, n: u64) {
     let _ = out.print(n);
 }
 
-fn wide(code: u8) -> u64 {
-    code as u64
-}
-
 pub(crate) fn say_code(out: Stdout, code: u8) {
-    let _ = out.print(wide(code));
+    let _ = out.print(u64::from(code));
 }
 
 // A code, the bytes, and the line's end.
 pub(crate) fn tell(out: Stdout, code: u8, bytes: &[u8]) {
     say_code(out, code);
-    let mut i = 0;
-    while i < bytes.len() {
-        say_byte(out, bytes[i]);
-        i += 1;
+    for b in bytes {
+        say_byte(out, *b);
     }
     say(out, b"\n");
 }

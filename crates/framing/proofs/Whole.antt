@@ -8,10 +8,11 @@ use native.Mathlib.Omega.{arith}
 use borrow.Author.Tests.{le-leb, lt-leb, eq-eqb, ne_eqb}
 use lib.ListN.{length, take, replicate}
 use lib.Seq.{sets, take-length}
+use Rattle.std.proofs.Common.{Some, None}
 use Rattle.framing.specs.declared.Store.{Store}
-use Rattle.framing.specs.declared.Took.{Took}
 use Rattle.framing.specs.Framing.{call_takes}
-use Rattle.framing.specs.Telling.{first_ten, lying, took_in, held_after}
+use Rattle.framing.specs.declared.Took as Made
+use Rattle.framing.specs.Telling.{Took, first_ten, lying, took_says, took_in, held_after}
 use Rattle.framing.specs.Inside.{total_ahead}
 use Rattle.framing.proofs.Runs.{taken_run, taken_ahead}
 use Rattle.framing.proofs.FirstTen.{joined_opening}
@@ -43,6 +44,15 @@ module _ (held host : List ℕ) (had : ℕ) where
     came_last ten count now left end sent e =
         let run : call_takes before host ≡ taken_run before host total count = taken_ahead before host total count is (omega arith) in
         rw (eq-eqb (length held) 64 long, run, le-leb total (had + count) (omega arith), e, end) (refl, refl)
+
+-- what the code's own says, by whether it has ten bytes
+module _ (r : Made.Took) where
+  pub says_open : r.opening ≡ None → took_says r ≡ record { opening = replicate 10 0; count = r.count; taken = r.taken; finished = false }
+  says_open e = rw e
+
+  pub says_ended : (ten : List ℕ) → r.opening ≡ Some ten
+      → took_says r ≡ record { opening = ten; count = r.count; taken = r.taken; finished = true }
+  says_ended ten e = rw e
 
 -- up to what was taken, the message reads as it lies
 pub lying_read : (s : Store) (host : List ℕ) → 10 ≤ length s.held

@@ -1,7 +1,7 @@
 -- "Unused places are zero", tested without an early return: the bytes are joined by `or`, which is zero where all of them are.
 use Prim.Native.Nat.{ℕ, zero, suc, ◌+◌, ◌-◌, ◌≤◌, ◌<◌, min}
-use mathlib.Core.Path.{◌≡◌, refl, sym, ap, ◌∙◌}
-use mathlib.Core.Bool.{Bool, true, false, ◌&&◌, and_assoc, and-true}
+use mathlib.Core.Path.{◌≡◌, refl, ap}
+use mathlib.Core.Bool.{Bool, true, false, ◌&&◌, and_assoc}
 use mathlib.Core.List.{List, [], ◌∷◌}
 use native.Mathlib.Decide.{dec_lt}
 use native.Mathlib.Numerals.{add-one}
@@ -27,16 +27,9 @@ or_zero a b =
     ]
 
 -- one byte more joined, one fewer to come
-pub zeros_turn : (l : List ℕ) (i to a : ℕ) (z : Bool) → i < to → i < length l → (eqb a 0 && zeros (take (to - i) (drop i l))) ≡ z
-    → (eqb (bit_or a (get_or l i 0)) 0 && zeros (take (to - (i + 1)) (drop (i + 1) l))) ≡ z
-zeros_turn l i to a z some more so =
-    let one : to - i ≡ suc (to - (i + 1)) = omega arith in
-    rw (or_zero a (get_or l i 0), and_assoc) (rw (add-one) (rw (one, drop-cons l i 0 more, add-one) at so))
-
-pub zeros_end : (l : List ℕ) (i to a : ℕ) (z : Bool) → to ≤ i → (eqb a 0 && zeros (take (to - i) (drop i l))) ≡ z → eqb a 0 ≡ z
-zeros_end l i to a z done so =
-    let none : to - i ≡ 0 = omega arith in
-    sym (and-true (eqb a 0)) ∙ rw none at so
+pub zeros_next : (l : List ℕ) (i a : ℕ) (z : Bool) → i < length l → (eqb a 0 && zeros (drop i l)) ≡ z
+    → (eqb (bit_or a (get_or l i 0)) 0 && zeros (drop (i + 1) l)) ≡ z
+zeros_next l i a z more so = rw (or_zero a (get_or l i 0), and_assoc) (rw add-one (rw (drop-cons l i 0 more) at so))
 
 -- ---- a list is zero where a window at its start is, and the rest from a place that the window reaches
 

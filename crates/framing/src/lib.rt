@@ -2,28 +2,28 @@
 // not finished.
 #![tactic(auto)]
 
-ghost use Rattle.std.specs.Prelude.{◌≡◌, true, false, ◌++◌, ◌+◌, ◌*◌, ◌-◌, ◌≤◌, ◌<◌, eqb, length, take, drop, get_or, replicate};
+ghost use Rattle.std.specs.Prelude.{◌≡◌, true, ◌++◌, ◌+◌, ◌*◌, ◌-◌, ◌≤◌, ◌<◌, eqb, length, take, drop};
 ghost use Rattle.framing.specs.Framing.{between, total_of, announced_by, finished, zeros, could_be_left};
-ghost use Rattle.framing.specs.Telling.{first_ten, took_in, held_after};
+ghost use Rattle.framing.specs.Telling.{first_ten, took_says, took_in, held_after};
 ghost use Rattle.framing.specs.Inside.{total_ahead};
 
 // What the box keeps of an unfinished message: its first 64 bytes and how many were taken. Unused places are zero, and
-// all is zero between messages.
+// all is zero between messages. The count stands beside the bytes, in memory of a fixed size: the doors' bytes may hold any count,
+// more than 64 of a long message, and `could_be_left` judges it.
 #[derive(Clone, Copy)]
 pub struct Store {
     pub held: [u8; 64],
     pub taken: usize,
 }
 
-// What one call took of the host's bytes: how many, how many of the message are taken with them, whether they finished it,
-// and the ten bytes from the beginning of a finished message as they lie, zero where there are fewer. No message that the
-// box obeys is longer, and what lies behind one does not decide.
+// What one call took of the host's bytes: how many, how many of the message are taken with them, and, where they finished it,
+// the ten bytes from its beginning as they lie, zero where there are fewer. No message that the box obeys is longer, and what
+// lies behind one does not decide.
 #[derive(Clone, Copy)]
 pub struct Took {
-    pub opening: [u8; 10],
     pub count: usize,
     pub taken: usize,
-    pub finished: bool,
+    pub opening: Option<[u8; 10]>,
 }
 
 // The store between messages.
@@ -69,46 +69,38 @@ pub fn could_be_left(held: &[u8], taken: usize) -> bool
 // nothing more of it is kept. Of any other those bytes are kept that belong to its first 64. Where there are not 64 places
 // nothing is taken.
 pub fn take_in(held: &mut [u8], had: usize, host: &[u8]) -> Took
-    ensures { (result ≡ took_in (record { held = held.old; taken = had }) host.now)
+    ensures { (took_says result ≡ took_in (record { held = held.old; taken = had }) host.now)
         × (held.new ≡ held_after (record { held = held.old; taken = had }) host.now) }
 {
     if held.len() != 64 {
-        return open(0, had);
+        return Took {
+            count: 0,
+            taken: had,
+            opening: None,
+        };
     }
     let total = total_ahead(held, had, host);
-    let missing = wire::left(total, had);
+    let missing = total.saturating_sub(had);
     if host.len() < missing {
         wire::copy(host, held, had);
-        return open(host.len(), had + host.len());
+        return Took {
+            count: host.len(),
+            taken: had + host.len(),
+            opening: None,
+        };
     }
     // a message that comes whole is the usual one, and none of its bytes is looked for among those held
     if had == 0 {
-        return ended(first_ten(host), total, total);
+        return Took {
+            count: total,
+            taken: total,
+            opening: Some(first_ten(host)),
+        };
     }
-    ended(opening(held, had, host), missing, had + missing)
-}
-
-// What was taken of a message that is not finished.
-fn open(count: usize, taken: usize) -> Took
-    ensures { result ≡ record { opening = replicate 10 0; count = count; taken = taken; finished = false } }
-{
     Took {
-        opening: [0; 10],
-        count,
-        taken,
-        finished: false,
-    }
-}
-
-// What was taken of one that is.
-fn ended(opening: [u8; 10], count: usize, taken: usize) -> Took
-    ensures { result ≡ record { opening = opening; count = count; taken = taken; finished = true } }
-{
-    Took {
-        opening,
-        count,
-        taken,
-        finished: true,
+        count: missing,
+        taken: had + missing,
+        opening: Some(opening(held, had, host)),
     }
 }
 
@@ -128,32 +120,10 @@ fn opening(held: &[u8], had: usize, host: &[u8]) -> [u8; 10]
     requires { length held.now ≡ 64 }
     ensures { result ≡ first_ten (take had held.now ++ host.now) }
 {
-    [
-        byte_of(held, had, host, 0),
-        byte_of(held, had, host, 1),
-        byte_of(held, had, host, 2),
-        byte_of(held, had, host, 3),
-        byte_of(held, had, host, 4),
-        byte_of(held, had, host, 5),
-        byte_of(held, had, host, 6),
-        byte_of(held, had, host, 7),
-        byte_of(held, had, host, 8),
-        byte_of(held, had, host, 9),
-    ]
-}
-
-// One of them, zero past their end.
-fn byte_of(held: &[u8], had: usize, host: &[u8], i: usize) -> u8
-    requires { (length held.now ≡ 64) × (i < 64) }
-    ensures { result ≡ get_or (take had held.now ++ host.now) i 0 }
-{
-    if i < had {
-        return held[i];
-    }
-    if host.len() <= i - had {
-        return 0;
-    }
-    host[i - had]
+    let mut ten = [0u8; 10];
+    wire::copy(&held[..had.min(10)], &mut ten, 0);
+    wire::copy(host, &mut ten, had);
+    ten
 }
 
 // The header that two bytes make.
@@ -186,7 +156,7 @@ fn total_ahead(held: &[u8], had: usize, host: &[u8]) -> usize
     requires { length held.now ≡ 64 }
     ensures { result ≡ total_ahead held.now had host.now }
 {
-    if host.len() < wire::left(2, had) {
+    if host.len() < 2usize.saturating_sub(had) {
         return 2;
     }
     match had {
@@ -207,10 +177,10 @@ fn unused(held: &[u8], from: usize) -> bool
         return (window(held, 0) | window(held, 16) | window(held, 32) | window(held, 48)) == 0;
     }
     if 48 < from {
-        return any_in(held, from, 64) == 0;
+        return any_of(&held[from.min(64)..]) == 0;
     }
-    let second = wire::lesser(from + 16, 48);
-    let third = wire::lesser(from + 32, 48);
+    let second = (from + 16).min(48);
+    let third = (from + 32).min(48);
     (window(held, from) | window(held, second) | window(held, third) | window(held, 48)) == 0
 }
 
@@ -219,19 +189,16 @@ fn window(held: &[u8], at: usize) -> u8
     requires { at + 16 ≤ length held.now }
     ensures { eqb result 0 ≡ zeros (take 16 (drop at held.now)) }
 {
-    any_in(held, at, at + 16)
+    any_of(&held[at..at + 16])
 }
 
-// The bytes from one place up to another, joined by `or`: zero where all of them are.
-fn any_in(held: &[u8], from: usize, to: usize) -> u8
-    requires { to ≤ length held.now }
-    ensures { eqb result 0 ≡ zeros (take (to - from) (drop from held.now)) }
+// These bytes joined by `or`: zero where all of them are.
+fn any_of(bytes: &[u8]) -> u8
+    ensures { eqb result 0 ≡ zeros bytes.now }
 {
-    let mut any: u8 = 0;
-    let mut i = from;
-    while i < to {
-        any = any | held[i];
-        i += 1;
+    let mut any = 0;
+    for b in bytes {
+        any |= *b;
     }
     any
 }

@@ -13,7 +13,7 @@ use Rattle.wire.specs.Choice.{pick}
 use Rattle.wire.specs.Number.{bytes, field}
 use Rattle.wire.proofs.Numbers.{field_step}
 use Rattle.wire.proofs.Stores.{sets_out, sets_whole}
-use Rattle.reader.specs.declared.Heard.{Heard}
+use Rattle.reader.specs.Answers.{Heard}
 use Rattle.reader.specs.Reading.{reading_of}
 use Rattle.reader.proofs.Going.{gone_on, gone_on_lem}
 use Rattle.harvestdoor.specs.States.{reader_in, reader_bytes}

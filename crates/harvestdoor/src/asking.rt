@@ -1,17 +1,21 @@
 // Wishes and replies.
 ghost use Rattle.std.specs.Prelude.{◌≡◌, length};
 ghost use Rattle.wire.specs.Choice.{pick};
+ghost use Rattle.wire.specs.Codes as Code;
+ghost use Rattle.wire.specs.Refusal.{code_of};
 ghost use Rattle.std.proofs.lemmas.List.Edits.{sets};
-ghost use Rattle.replies.specs.Reading.{reply_says, reply_reader_says};
-ghost use Rattle.wishes.specs.Writing.{written_says, writing_of, bytes_written};
-ghost use Rattle.harvestdoor.specs.Asking.{wish_of, shown as shown_of, as_shown, said_of, refused_by};
+ghost use Rattle.replies.specs.Reading.{reply_says, read_says, reply_reader_says};
+ghost use Rattle.wishes.specs.Writing.{writing_of, bytes_written};
+ghost use Rattle.harvestdoor.specs.Asking.{wish_of, shown as shown_of, as_shown, said_of};
 
 use items::{table, values};
 use replies::Reply;
-use wire::codes;
-use wishes::{StateFields, Wish, Written};
+use wire::Refusal;
+use wishes::{StateFields, Wish};
 
 // The wish of a number, with the fields of every case; a wish that no box grants where the number names none.
+// (The fields go one by one, as the two calls from C have them.)
+#[tactic(auto, unfolding(crate::specs::Asking::wish_table))]
 fn wish_of(which: u8, byte: u8, mode: u8, gain: i8, word: u32, hertz: u64, channel: u8) -> Wish
     ensures { result ≡ wish_of which byte mode gain word hertz channel }
 {
@@ -21,10 +25,7 @@ fn wish_of(which: u8, byte: u8, mode: u8, gain: i8, word: u32, hertz: u64, chann
         2 => Wish::AskInterface,
         3 => Wish::AskVersion(byte),
         4 => Wish::AskStatus,
-        5 => Wish::SetState(StateFields {
-            run: byte,
-            mode: mode,
-        }),
+        5 => Wish::SetState(StateFields { run: byte, mode }),
         6 => Wish::AskState,
         7 => Wish::SetChannelSetup(byte),
         8 => Wish::AskChannelSetup,
@@ -40,36 +41,6 @@ fn wish_of(which: u8, byte: u8, mode: u8, gain: i8, word: u32, hertz: u64, chann
         18 => Wish::SetPacketSize(byte),
         19 => Wish::AskPacketSize,
         _ => Wish::AskVersion(255),
-    }
-}
-
-// What the writer answered: its code, and how many bytes it wrote.
-#[derive(Clone, Copy)]
-struct Wrote {
-    code: u8,
-    wrote: usize,
-}
-
-fn wrote_by(w: Written) -> Wrote
-    ensures { record { code = result.code; wrote = result.wrote } ≡ written_says w }
-{
-    match w {
-        Written::Message(n) => Wrote {
-            code: codes::DONE,
-            wrote: n,
-        },
-        Written::ChannelNotAllowed => Wrote {
-            code: codes::CHANNEL_NOT_ALLOWED,
-            wrote: 0,
-        },
-        Written::NotAllowed => Wrote {
-            code: codes::VALUE_NOT_ALLOWED,
-            wrote: 0,
-        },
-        Written::NoRoom => Wrote {
-            code: codes::NO_ROOM,
-            wrote: 0,
-        },
     }
 }
 
@@ -91,18 +62,17 @@ pub extern "C" fn skvornela_wish(
         × (buffer.new
         ≡ sets buffer.old 0 (bytes_written (wish_of which byte mode gain word hertz channel) (length buffer.old))) }
 {
-    let answer = wrote_by(wishes::write(
+    let written = wishes::write(
         wish_of(which, byte, mode, gain, word, hertz, channel),
         buffer,
-    ));
-    *wrote = answer.wrote;
-    answer.code
+    );
+    *wrote = written.unwrap_or(0);
+    wire::code_of(written)
 }
 
-// What a reply says, as numbers: the code, the item's code, how many values there are, the first two of them, and a gain.
+// What a reply says, as numbers: the item's code, how many values there are, the first two of them, and a gain.
 #[derive(Clone, Copy)]
 struct Shown {
-    code: u8,
     item: u16,
     count: usize,
     first: u64,
@@ -112,28 +82,14 @@ struct Shown {
 
 // A reply of up to two values.
 fn saying(item: u16, count: usize, first: u64, second: u64) -> Shown
-    ensures { as_shown result.code result.item result.count result.first result.second result.gain
+    ensures { as_shown Code.done result.item result.count result.first result.second result.gain
         ≡ said_of item count first second }
 {
     Shown {
-        code: codes::DONE,
-        item: item,
-        count: count,
-        first: first,
-        second: second,
-        gain: 0,
-    }
-}
-
-fn refusing(code: u8) -> Shown
-    ensures { as_shown result.code result.item result.count result.first result.second result.gain ≡ refused_by code }
-{
-    Shown {
-        code: code,
-        item: 0,
-        count: 0,
-        first: 0,
-        second: 0,
+        item,
+        count,
+        first,
+        second,
         gain: 0,
     }
 }
@@ -148,8 +104,9 @@ fn status_byte(running: bool) -> u64
     }
 }
 
-fn shown_by(reply: Reply) -> Shown
-    ensures { as_shown result.code result.item result.count result.first result.second result.gain
+#[tactic(auto, unfolding(crate::specs::Asking::shown))]
+fn shown_reply(reply: Reply) -> Shown
+    ensures { as_shown Code.done result.item result.count result.first result.second result.gain
         ≡ shown_of (reply_says reply) }
 {
     match reply {
@@ -171,19 +128,24 @@ fn shown_by(reply: Reply) -> Shown
             tuning::FIRST_MAXIMUM,
         ),
         Reply::Gain(g) => Shown {
-            code: codes::DONE,
-            item: table::GAIN,
-            count: 1,
-            first: 0,
-            second: 0,
             gain: g,
+            ..saying(table::GAIN, 1, 0, 0)
         },
         Reply::Clock(hz) => saying(table::CLOCK, 1, hz as u64, 0),
         Reply::Rate(hz) => saying(table::RATE, 1, hz as u64, 0),
         Reply::PacketSize(n) => saying(table::PACKET_SIZE, 1, n as u64, 0),
-        Reply::ChannelNotAllowed => refusing(codes::CHANNEL_NOT_ALLOWED),
-        Reply::NotAllowed => refusing(codes::VALUE_NOT_ALLOWED),
-        Reply::NotAReply => refusing(codes::NOT_A_REPLY),
+    }
+}
+
+// A refusal has no item and no values.
+#[tactic(auto, unfolding(crate::specs::Asking::shown))]
+fn shown_by(answer: Result<Reply, Refusal>) -> Shown
+    ensures { as_shown (code_of answer) result.item result.count result.first result.second result.gain
+        ≡ shown_of (read_says answer) }
+{
+    match answer {
+        Ok(reply) => shown_reply(reply),
+        Err(_) => saying(0, 0, 0, 0),
     }
 }
 
@@ -207,15 +169,15 @@ pub extern "C" fn skvornela_reply(
     ensures { as_shown result item.new count.new first.new second.new level.new
         ≡ shown_of (reply_reader_says (wish_of which byte mode gain word hertz channel) bytes.now) }
 {
-    let s = shown_by(replies::read(
+    let answer = replies::read(
         wish_of(which, byte, mode, gain, word, hertz, channel),
         bytes,
-    ));
+    );
+    let s = shown_by(answer);
     *item = s.item;
     *count = s.count;
     *first = s.first;
     *second = s.second;
-    let g = s.gain;
-    *level = g;
-    s.code
+    *level = s.gain;
+    wire::code_of(answer)
 }

@@ -1,29 +1,22 @@
 // Capture heads.
 ghost use Rattle.std.specs.Prelude.{◌≡◌, length};
 ghost use Rattle.std.proofs.lemmas.List.Edits.{sets};
-ghost use Rattle.heads.specs.Head.{opened_says, head_write_code, written_bytes, written_code};
-ghost use Rattle.heads.specs.Moving.{moved_code, moving_code, move_writes};
-ghost use Rattle.harvestdoor.specs.Heads.{head_with, found, found_in, no_head};
+ghost use Rattle.heads.specs.Head.{head_write_code, written_bytes};
+ghost use Rattle.heads.specs.Moving.{moving_code, move_writes};
+ghost use Rattle.harvestdoor.specs.Heads.{head_with, found_in};
 
-use heads::{Head, Moved, Opened, Written};
-use wire::codes;
+use heads::Head;
 
-// What reading a head found: its code, and the head, or zeros in the place of one that was not found.
-#[derive(Clone, Copy)]
-struct Found {
-    code: u8,
-    head: Head,
-}
-
-fn code_of(w: Written) -> u8
-    ensures { result ≡ written_code w }
-{
-    match w {
-        Written::Whole => codes::DONE,
-        Written::NotAllowed => codes::VALUE_NOT_ALLOWED,
-        Written::NoRoom => codes::NO_ROOM,
-    }
-}
+// What stands in the place of a head that was not found.
+const NO_HEAD: Head = Head {
+    version: 0,
+    divisor: 0,
+    frequency: 0,
+    mode: 0,
+    size: 0,
+    serial: 0,
+    clock: 0,
+};
 
 // Writes a capture head at the start of a slice: of version 1 the serial is 0 and the clock 80,000,000. Answers the code.
 #[unsafe(no_mangle)]
@@ -51,37 +44,7 @@ pub extern "C" fn skvornela_head_write(
         serial: serial,
         clock: clock,
     };
-    code_of(heads::write_head(h, out))
-}
-
-fn no_head(code: u8) -> Found
-    ensures { (result.code ≡ code) × (result.head ≡ no_head) }
-{
-    Found {
-        code: code,
-        head: Head {
-            version: 0,
-            divisor: 0,
-            frequency: 0,
-            mode: 0,
-            size: 0,
-            serial: 0,
-            clock: 0,
-        },
-    }
-}
-
-fn found_by(o: Opened) -> Found
-    ensures { record { code = result.code; head = result.head } ≡ found (opened_says o) }
-{
-    match o {
-        Opened::Head(h) => Found {
-            code: codes::DONE,
-            head: h,
-        },
-        Opened::NotAHead => no_head(codes::NOT_A_HEAD),
-        Opened::OtherVersion => no_head(codes::OTHER_VERSION),
-    }
+    wire::code_of(heads::write_head(h, out))
 }
 
 // Reads a capture head from the first 14 or 26 bytes of a slice. Answers the code, and leaves the head's values, or zeros where it
@@ -104,8 +67,8 @@ pub extern "C" fn skvornela_head_read(
     }
         ≡ found_in bytes.now }
 {
-    let f = found_by(heads::read_head(bytes));
-    let head = f.head;
+    let answer = heads::read_head(bytes);
+    let head = answer.unwrap_or(NO_HEAD);
     *version = head.version;
     *divisor = head.divisor;
     *frequency = head.frequency;
@@ -113,19 +76,7 @@ pub extern "C" fn skvornela_head_read(
     *size = head.size;
     *serial = head.serial;
     *clock = head.clock;
-    f.code
-}
-
-fn moved_code(m: Moved) -> u8
-    ensures { result ≡ moved_code m }
-{
-    match m {
-        Moved::Whole => codes::DONE,
-        Moved::NotAHead => codes::NOT_A_HEAD,
-        Moved::OtherVersion => codes::OTHER_VERSION,
-        Moved::WouldLose => codes::WOULD_LOSE,
-        Moved::NoRoom => codes::NO_ROOM,
-    }
+    wire::code_of(answer)
 }
 
 // Moves the capture head that a slice begins with to version 2, at the start of another. Answers the code.
@@ -134,7 +85,7 @@ pub extern "C" fn skvornela_head_newer(bytes: &[u8], out: &mut [u8]) -> u8
     ensures { (result ≡ moving_code 2 bytes.now (length out.old))
         × (out.new ≡ sets out.old 0 (move_writes 2 bytes.now (length out.old))) }
 {
-    moved_code(heads::newer(bytes, out))
+    wire::code_of(heads::newer(bytes, out))
 }
 
 // The same to version 1.
@@ -143,5 +94,5 @@ pub extern "C" fn skvornela_head_older(bytes: &[u8], out: &mut [u8]) -> u8
     ensures { (result ≡ moving_code 1 bytes.now (length out.old))
         × (out.new ≡ sets out.old 0 (move_writes 1 bytes.now (length out.old))) }
 {
-    moved_code(heads::older(bytes, out))
+    wire::code_of(heads::older(bytes, out))
 }

@@ -1,12 +1,13 @@
 // Making a reader, and reading packets.
 ghost use Rattle.std.specs.Prelude.{◌≡◌, length};
 ghost use Rattle.std.proofs.lemmas.List.Edits.{sets};
-ghost use Rattle.reader.specs.Reading.{sample_bytes_of, unpacking_of, numbers_written};
+ghost use Rattle.reader.specs.Reading.{heard_says, reading_says, sample_bytes_of, unpacking_of, numbers_written};
+ghost use Rattle.harvestdoor.specs.States.{reader_in};
 ghost use Rattle.harvestdoor.specs.Reading.{silent_over, read_over, sample_byte_at};
-ghost use Rattle.harvestdoor.specs.Inside.{heard_bytes};
+ghost use Rattle.harvestdoor.specs.Inside.{heard_bytes, reading_in};
 
 use reader::Heard;
-use wire::codes;
+use wire::{Refusal, codes};
 
 // Makes a reader that has heard nothing, of packets of so many channels, in 34 bytes. Answers 1; or 21, and leaves the bytes as they
 // came, where they are not 34 or the count is neither 1 nor 2.
@@ -15,10 +16,10 @@ pub extern "C" fn skvornela_silent(channels: u8, state: &mut [u8]) -> u8
     ensures { record { code = result; state = state.new } ≡ silent_over channels state.old }
 {
     if state.len() != crate::states::LENGTH {
-        return codes::BROKEN;
+        return Refusal::Broken as u8;
     }
     if !packets::is_count(channels) {
-        return codes::BROKEN;
+        return Refusal::Broken as u8;
     }
     crate::states::put_reader(state, reader::silent(channels));
     codes::DONE
@@ -28,7 +29,7 @@ pub extern "C" fn skvornela_silent(channels: u8, state: &mut [u8]) -> u8
 // packet that goes on changes.
 fn put_heard(state: &mut [u8], h: Heard)
     requires { length state.old ≡ 34 }
-    ensures { state.new ≡ heard_bytes h state.old }
+    ensures { state.new ≡ heard_bytes (heard_says h) state.old }
 {
     if h.position == 0 {
         let after = h.reader;
@@ -36,6 +37,17 @@ fn put_heard(state: &mut [u8], h: Heard)
         return;
     }
     crate::states::put_next(state, h.position, h.total);
+}
+
+// Reads one packet with a reader in lent bytes, which is broken where they are not 34.
+#[tactic(auto, unfolding(crate::specs::Inside::reading_in))]
+fn read(state: &[u8], packet: &[u8]) -> Result<Heard, Refusal>
+    ensures { reading_says (reader_in state.now) result ≡ reading_in state.now packet.now }
+{
+    if state.len() != crate::states::LENGTH {
+        return Err(Refusal::Broken);
+    }
+    reader::read(crate::states::reader_in(state), packet)
 }
 
 // Reads one packet with a reader of 34 bytes. Answers the code, and leaves the packet's position, in each channel that of its first
@@ -60,22 +72,23 @@ pub extern "C" fn skvornela_read(
     }
         ≡ read_over state.old packet.now }
 {
-    if state.len() == crate::states::LENGTH {
-        let h = reader::read(crate::states::reader_in(state), packet);
-        *position = h.position;
-        *sample = h.sample;
-        *missed = h.missed;
-        *total = h.total;
-        if h.code == codes::DONE {
+    match read(state, packet) {
+        Ok(h) => {
+            *position = h.position;
+            *sample = h.sample;
+            *missed = h.missed;
+            *total = h.total;
             put_heard(state, h);
+            codes::DONE
         }
-        return h.code;
+        Err(refusal) => {
+            *position = 0;
+            *sample = 0;
+            *missed = 0;
+            *total = 0;
+            u8::from(refusal)
+        }
     }
-    *position = 0;
-    *sample = 0;
-    *missed = 0;
-    *total = 0;
-    codes::BROKEN
 }
 
 // How many sample bytes a packet has; leaves the one at a place, 0 past their end.
@@ -98,7 +111,7 @@ pub extern "C" fn skvornela_unpack(packet: &[u8], out: &mut [i32], count: &mut u
     ensures { (record { code = result; count = count.new } ≡ unpacking_of packet.now (length out.old))
         × (out.new ≡ sets out.old 0 (numbers_written packet.now (length out.old))) }
 {
-    let u = reader::unpack(packet, out);
-    *count = u.count;
-    u.code
+    let written = reader::unpack(packet, out);
+    *count = written.unwrap_or(0);
+    wire::code_of(written)
 }

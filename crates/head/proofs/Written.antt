@@ -8,8 +8,14 @@ use mathlib.Core.List.{List}
 use lib.ListN.{length, take}
 use lib.Seq.{sets, length-sets, length-take-le}
 use borrow.Author.Tests.{le-ltb}
+use borrow.Author.Rules.{rules}
 use Rattle.wire.specs.Codes.{others_write}
 use Rattle.wire.proofs.Stores.{sets_whole, sets_taken}
+use Rattle.std.proofs.Common.{Result, Ok, Err}
+use Rattle.std.specs.Result.{IsOk}
+use Rattle.wire.specs.Refusal.{code_of}
+use Rattle.wire.specs.declared.refusal.Refusal.{Refusal}
+use Rattle.wire.proofs.Refusals.{done_no_refusal}
 use Rattle.heads.specs.declared.Head.{Head}
 use Rattle.heads.specs.Head.{head_length, head_bytes, allowed_head, head_write_code, written_bytes}
 use Rattle.heads.proofs.Codes.{write_by, most_long, by_version, bytes_old, bytes_new}
@@ -35,3 +41,8 @@ module _ (h : Head) (ok : allowed_head h ≡ true) where
 
     pub fourteen : 14 ≡ length (take 14 array)
     fourteen = sym (length-take-le 14 array (rw (stands, length-sets) (omega (arith, long))))
+
+-- what has the code of what was done was done
+pub done : {A : Type 0} (r : Result A Refusal) → code_of r ≡ 1 → IsOk r
+done (Ok a) e = search rules
+done (Err r) e = done_no_refusal r (sym e)

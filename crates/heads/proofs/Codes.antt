@@ -3,6 +3,7 @@ use Prim.Native.Nat.{ℕ, ◌/◌, ◌%◌, ◌≤◌, ◌<◌}
 use mathlib.Core.Path.{◌≡◌, refl, sym, ap, ◌∙◌}
 use mathlib.Core.Bool.{Bool, true, false, ◌&&◌, not}
 use mathlib.Core.List.{List, [], ◌∷◌, ◌++◌}
+use Rattle.std.proofs.Common.{Result, Ok, Err}
 use native.Mathlib.Omega.{arith}
 use lib.Dec.{eqb, ltb}
 use lib.ListN.{length}
@@ -12,7 +13,14 @@ use borrow.Rule.Slice.PartMut.{mid_of, put_mid}
 use Rattle.wire.specs.Choice.{pick, check, first_of}
 use Rattle.wire.specs.Codes.{others_write}
 use Rattle.wire.specs.Number.{number, bytes, field}
-use Rattle.wire.proofs.Checks.{first_stops, first_goes_on}
+use Rattle.wire.specs.Refusal.{refusal_code, code_of}
+use Rattle.wire.specs.declared.refusal.Refusal.{Refusal}
+use Rattle.wire.proofs.Refusals.{done_no_refusal}
+use Rattle.wire.specs.declared.refusal.Refusal.TheVariants.{BadHeader, TooLong, NotListed, NotOffered, WrongLength, ChannelNotAllowed}
+use Rattle.wire.specs.declared.refusal.Refusal.TheVariants.{ValueNotAllowed, NotWhileRunning, NoRoom, Broken, WhileIdle, WrongCount}
+use Rattle.wire.specs.declared.refusal.Refusal.TheVariants.{NotASample, CaptureFull, NotASerial, NotAReply, NotAPacket, NoFirstPacket}
+use Rattle.wire.specs.declared.refusal.Refusal.TheVariants.{FormChanged, PastLast, NotAHead, OtherVersion, WouldLose}
+use Rattle.wire.proofs.Checks.{differ, not_given, first_stops, first_goes_on}
 use Rattle.wire.proofs.Laws.{never, pick_keeps}
 use Rattle.wire.proofs.Stores.{sets_then, part_whole}
 use Rattle.rates.specs.Rate.{is_d}
@@ -22,11 +30,35 @@ use Rattle.packets.specs.Forms.{listed_form}
 use Rattle.heads.specs.declared.Head.{Head}
 use Rattle.heads.specs.Head.{mark, is_head_version, fields_of, field_bytes, head_bytes, head_length, head_length_in, version_in, head_in}
 use Rattle.heads.specs.Head.{form_in, head_serial, bare, naming_ok, allowed_head}
-use Rattle.heads.specs.declared.Opened.{Opened}
-use Rattle.heads.specs.declared.Opened.TheVariants.{Head as Found}
 use Rattle.heads.specs.Head.{head_write_code, head_read_checks, head_read_code, HeadReading, opened_says, head_reading_of}
-use Rattle.heads.specs.Moving.{loses, moved_to, moved_checks, moving_code, moved_bytes, move_writes}
+use Rattle.heads.specs.Moving.{loses, moved_to, moved_checks, moving_checks, moving_code, moved_bytes, move_writes}
 use Rattle.heads.specs.Inside.{first_allowed, put_code, put_bytes}
+
+-- with a refusal nothing is written
+none_with : {A : Type 0} (r : Refusal) (due : List A) → others_write (refusal_code r) due ≡ []
+none_with BadHeader due = refl
+none_with TooLong due = refl
+none_with NotListed due = refl
+none_with NotOffered due = refl
+none_with WrongLength due = refl
+none_with ChannelNotAllowed due = refl
+none_with ValueNotAllowed due = refl
+none_with NotWhileRunning due = refl
+none_with NoRoom due = refl
+none_with Broken due = refl
+none_with WhileIdle due = refl
+none_with WrongCount due = refl
+none_with NotASample due = refl
+none_with CaptureFull due = refl
+none_with NotASerial due = refl
+none_with NotAReply due = refl
+none_with NotAPacket due = refl
+none_with NoFirstPacket due = refl
+none_with FormChanged due = refl
+none_with PastLast due = refl
+none_with NotAHead due = refl
+none_with OtherVersion due = refl
+none_with WouldLose due = refl
 
 -- heads of the same values
 pub head_by : {v w d e f g m n z y a b c k : ℕ} → v ≡ w → d ≡ e → f ≡ g → m ≡ n → z ≡ y → a ≡ b → c ≡ k
@@ -82,13 +114,17 @@ unfolding head_reading_of
 reading_by s e = ap (λ (n : ℕ). record { code = n; heads = pick (eqb n 1) (head_in s ∷ []) [] }) e
 
 -- what reading answers: its number is the code
-pub code_said : (o : Opened) (s : List ℕ) → opened_says o ≡ head_reading_of s → (opened_says o).code ≡ head_read_code s
+pub code_said : (o : Result Head Refusal) (s : List ℕ) → opened_says o ≡ head_reading_of s → (opened_says o).code ≡ head_read_code s
 unfolding head_reading_of
 code_said o s e = ap (λ (r : HeadReading). r.code) e
 
+pub said_code : (o : Result Head Refusal) → code_of o ≡ (opened_says o).code
+said_code (Ok h) = refl
+said_code (Err r) = refl
+
 -- and its head the one that stands there
-pub head_said : (h : Head) (s : List ℕ) → opened_says (Found h) ≡ head_reading_of s → head_in s ≡ h
-head_said h s e = sym (ap (λ (r : HeadReading). first_or (head_in s) r.heads) (e ∙ reading_by s (sym (code_said (Found h) s e))))
+pub head_said : (h : Head) (s : List ℕ) → opened_says (Ok h) ≡ head_reading_of s → head_in s ≡ h
+head_said h s e = sym (ap (λ (r : HeadReading). first_or (head_in s) r.heads) (e ∙ reading_by s (sym (code_said (Ok h) s e))))
   where
     first_or : Head → List Head → Head
     first_or d [] = d
@@ -118,8 +154,11 @@ module _ (v : ℕ) (s : List ℕ) (room : ℕ) where
       let bytes' = ap (λ (x : Head). others_write (put_code v h room) (head_bytes (moved_to v x))) is in
       (code, ap (λ (n : ℕ). others_write n (moved_bytes v s)) code ∙ bytes')
 
-  pub stays_with : (n : ℕ) → n ≡ head_read_code s → (n ≡ 1 → ⊥) → moving_code v s room ≡ n
-  stays_with n is other = moving_stops v s room (λ e. other (is ∙ e)) ∙ sym is
+  -- and where they are refused nothing is
+  pub stays : (r : Refusal) → refusal_code r ≡ head_read_code s → (moving_code v s room ≡ refusal_code r) × (move_writes v s room ≡ [])
+  stays r is =
+      let code = moving_stops v s room (λ e. done_no_refusal r (sym (is ∙ e))) ∙ sym is in
+      (code, ap (λ (n : ℕ). others_write n (moved_bytes v s)) code ∙ none_with r (moved_bytes v s))
 
 -- four stores, one behind the other, are the store of what both versions have
 pub first_stored : (h : Head) (l a b c d : List ℕ)
@@ -185,3 +224,38 @@ module _ (h : Head) (l : List ℕ) {a : List ℕ} (first : a ≡ sets (mid_of 0 
       let m : List ℕ = put_mid 0 14 l a in
       let rest = ap (put_mid 14 12 m) second ∙ part_whole 14 12 m (more h) refl (omega (arith, first_long, long)) in
       sets_then l 0 (field_bytes 1 (fields_of h)) (more h) first_in rest ∙ ap (sets l 0) (sym (bytes_new h is))
+
+-- moving is refused for four reasons
+pub refused_for : (v : ℕ) (s : List ℕ) (room : ℕ) (r : Refusal) → refusal_code r ≡ moving_code v s room
+    → (r ≡ NotAHead → ⊥) → (r ≡ OtherVersion → ⊥) → (r ≡ WouldLose → ⊥) → r ≡ NoRoom
+unfolding moving_code
+refused_for v s room r is a b c = by r is a b c
+  where
+    none : {A : Type 0} (n : ℕ) → differ n (moving_checks v s room) ≡ true → (1 ≡ n → ⊥) → n ≡ moving_code v s room → A
+    none n d other is = absurd (not_given (moving_checks v s room) 1 n d other (sym is))
+
+    by : (r : Refusal) → refusal_code r ≡ moving_code v s room → (r ≡ NotAHead → ⊥) → (r ≡ OtherVersion → ⊥) → (r ≡ WouldLose → ⊥)
+        → r ≡ NoRoom
+    by NoRoom is a b c = refl
+    by NotAHead is a b c = absurd (a refl)
+    by OtherVersion is a b c = absurd (b refl)
+    by WouldLose is a b c = absurd (c refl)
+    by BadHeader is a b c = none 11 refl (λ z. omega arith) is
+    by TooLong is a b c = none 10 refl (λ z. omega arith) is
+    by NotListed is a b c = none 12 refl (λ z. omega arith) is
+    by NotOffered is a b c = none 14 refl (λ z. omega arith) is
+    by WrongLength is a b c = none 13 refl (λ z. omega arith) is
+    by ChannelNotAllowed is a b c = none 15 refl (λ z. omega arith) is
+    by ValueNotAllowed is a b c = none 16 refl (λ z. omega arith) is
+    by NotWhileRunning is a b c = none 17 refl (λ z. omega arith) is
+    by Broken is a b c = none 21 refl (λ z. omega arith) is
+    by WhileIdle is a b c = none 22 refl (λ z. omega arith) is
+    by WrongCount is a b c = none 23 refl (λ z. omega arith) is
+    by NotASample is a b c = none 24 refl (λ z. omega arith) is
+    by CaptureFull is a b c = none 25 refl (λ z. omega arith) is
+    by NotASerial is a b c = none 26 refl (λ z. omega arith) is
+    by NotAReply is a b c = none 28 refl (λ z. omega arith) is
+    by NotAPacket is a b c = none 30 refl (λ z. omega arith) is
+    by NoFirstPacket is a b c = none 31 refl (λ z. omega arith) is
+    by FormChanged is a b c = none 32 refl (λ z. omega arith) is
+    by PastLast is a b c = none 33 refl (λ z. omega arith) is

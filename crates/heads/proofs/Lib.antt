@@ -4,6 +4,7 @@ pub mod Examples
 pub mod Fronts
 pub mod Moves
 pub mod Listed
+pub mod Opening
 pub mod Rounds
 pub mod Values
 pub mod Words

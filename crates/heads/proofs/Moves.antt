@@ -13,7 +13,7 @@ use Rattle.wire.specs.Codes.{others_write}
 use Rattle.wire.proofs.Laws.{and_rest, and_not_right, never, true_not_false, by_test}
 use Rattle.wire.proofs.Checks.{differ, not_given, given_exactly}
 use Rattle.heads.specs.declared.Head.{Head}
-use Rattle.heads.specs.declared.Opened.TheVariants.{Head as Found}
+use Rattle.std.proofs.Common.{Ok}
 use Rattle.heads.specs.Head.{is_head_version, unknown, nominal, head_length, version_in, head_in, bare, naming_ok, allowed_head, head_bytes}
 use Rattle.heads.specs.Head.{opened_says, head_read_checks, head_read_code, head_reading_of}
 use Rattle.heads.specs.Moving.{moved_to, loses, moving_code, moved_bytes, IsHead, MovesInto, ThereAndBack, OldNewOld, NewOldNew}
@@ -64,17 +64,17 @@ there_and_back v w s known is kept = record { there = moves w s is.read kept; re
     a : allowed_head h ≡ true
     a = (passed s is.read).ok
 
-    reads : (rest : List ℕ) → head_reading_of (moved_bytes w s ++ rest) ≡ opened_says (Found (moved_to w h))
+    reads : (rest : List ℕ) → head_reading_of (moved_bytes w s ++ rest) ≡ opened_says (Ok (moved_to w h))
     reads rest = read_written (moved_to w h) rest (moved_allowed w h known a kept)
 
     back : (rest : List ℕ) → MovesInto v (moved_bytes w s ++ rest) (take (head_length v) s)
     back rest =
         let t : List ℕ = moved_bytes w s ++ rest in
-        let said : opened_says (Found (moved_to w h)) ≡ head_reading_of t = sym (reads rest) in
+        let said : opened_says (Ok (moved_to w h)) ≡ head_reading_of t = sym (reads rest) in
         let there : head_in t ≡ moved_to w h = head_said (moved_to w h) t said in
         let nothing : loses v (head_in t) ≡ false = ap (loses v) there ∙ own_kept v s is in
         let same : moved_bytes v t ≡ take (head_length v) s = ap (λ (x : Head). head_bytes (moved_to v x)) there ∙ own_bytes v s is in
-        rw (← same) (moves v t (sym (code_said (Found (moved_to w h)) t said)) nothing)
+        rw (← same) (moves v t (sym (code_said (Ok (moved_to w h)) t said)) nothing)
 
 pub old_new_old : OldNewOld
 old_new_old s is =

@@ -2,10 +2,13 @@
 -- 2 of the head adds the serial (eight bytes, all zero for unknown) and the clock (four bytes, the 01 range) after the size byte, 26
 -- bytes in all." No. 7: "the capture head (mode byte bit 6 set for two channels)".
 use Rattle.std.specs.Prelude.{ℕ, ◌+◌, ◌*◌, ◌/◌, ◌%◌, ◌≡◌, Bool, true, ◌&&◌, ◌||◌, not, List, [], ◌∷◌, ◌++◌, eqb, leb, ltb, length, take}
+use Rattle.std.specs.Prelude.{Result, Ok, Err}
 use Rattle.wire.specs.Choice.{pick, one_of, Check, check, first_of}
 use Rattle.wire.specs.Codes.{others_write}
 use Rattle.wire.specs.Codes as Code
 use Rattle.wire.specs.Number.{number, bytes, field}
+use Rattle.wire.specs.Refusal.{refusal_code}
+use Rattle.wire.specs.declared.refusal.Refusal.{Refusal}
 use Rattle.wire.specs.Lists.{all_bytes}
 use Rattle.rates.specs.Rate.{is_d}
 use Rattle.tuning.specs.Bands.{in_bands}
@@ -15,10 +18,6 @@ use Rattle.packets.specs.Forms.{form_for, listed_form}
 use Rattle.packets.specs.Channels.{is_count, each_of}
 use Rattle.items.specs.Settings.{is_mode, is_size, holds_serial}
 use Rattle.heads.specs.declared.Head.{Head}
-use Rattle.heads.specs.declared.Written.{Written}
-use Rattle.heads.specs.declared.Written.TheVariants.{Whole, NotAllowed, NoRoom}
-use Rattle.heads.specs.declared.Opened.{Opened}
-use Rattle.heads.specs.declared.Opened.TheVariants.{Head as Found, NotAHead, OtherVersion}
 
 -- SPN
 abbrev pub mark : List ℕ
@@ -148,12 +147,6 @@ head_write_checks h room =
 unfoldable pub head_write_code : Head → ℕ → ℕ
 head_write_code h room = first_of (head_write_checks h room) Code.done
 
--- the number of each answer of writing
-abbrev pub written_code : Written → ℕ
-written_code Whole = Code.done
-written_code NotAllowed = Code.value_not_allowed
-written_code NoRoom = Code.no_room
-
 -- what is written at the start of the lent slice: the head or nothing, by the column "Written" of the table of codes
 abbrev pub written_bytes : Head → ℕ → List ℕ
 written_bytes h room = others_write (head_write_code h room) (head_bytes h)
@@ -180,10 +173,9 @@ pub record HeadReading : Type 0 where
   pub code : ℕ
   pub heads : List Head
 
-abbrev pub opened_says : Opened → HeadReading
-opened_says (Found h) = record { code = Code.done; heads = h ∷ [] }
-opened_says NotAHead = record { code = Code.not_a_head; heads = [] }
-opened_says OtherVersion = record { code = Code.other_version; heads = [] }
+abbrev pub opened_says : Result Head Refusal → HeadReading
+opened_says (Ok h) = record { code = Code.done; heads = h ∷ [] }
+opened_says (Err r) = record { code = refusal_code r; heads = [] }
 
 unfoldable pub head_reading_of : List ℕ → HeadReading
 head_reading_of s = record { code = head_read_code s; heads = pick (eqb (head_read_code s) Code.done) (head_in s ∷ []) [] }

@@ -5,8 +5,6 @@ use Rattle.wire.specs.Codes.{others_write}
 use Rattle.wire.specs.Codes as Code
 use Rattle.wire.specs.Lists.{all_bytes}
 use Rattle.heads.specs.declared.Head.{Head}
-use Rattle.heads.specs.declared.Moved.{Moved}
-use Rattle.heads.specs.declared.Moved.TheVariants.{Whole, NotAHead, OtherVersion, WouldLose, NoRoom}
 use Rattle.heads.specs.Head.{unknown, nominal, head_length, version_in, head_in, bare, head_bytes}
 use Rattle.heads.specs.Head.{head_read_checks, head_read_code, head_reading_of}
 
@@ -39,14 +37,6 @@ moving_checks v s room = head_read_checks s ++ moved_checks v (head_in s) room
 
 unfoldable pub moving_code : ℕ → List ℕ → ℕ → ℕ
 moving_code v s room = first_of (moving_checks v s room) Code.done
-
--- the number of each answer of moving
-abbrev pub moved_code : Moved → ℕ
-moved_code Whole = Code.done
-moved_code NotAHead = Code.not_a_head
-moved_code OtherVersion = Code.other_version
-moved_code WouldLose = Code.would_lose
-moved_code NoRoom = Code.no_room
 
 -- the bytes of the head that bytes begin with, in another version
 abbrev pub moved_bytes : ℕ → List ℕ → List ℕ

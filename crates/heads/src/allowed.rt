@@ -1,6 +1,7 @@
 // The values that a head may have.
 ghost use Rattle.std.specs.Prelude.{◌≡◌, ◌&&◌};
 ghost use Rattle.tuning.specs.Word.{is_clock};
+ghost use Rattle.packets.specs.Forms.{found};
 ghost use Rattle.heads.specs.Head.{is_head_version, head_length, channels_in, box_mode, mode_with, form_in};
 ghost use Rattle.heads.specs.Head.{head_serial, bare, allowed_head};
 ghost use Rattle.heads.specs.Inside.{first_allowed};
@@ -52,9 +53,9 @@ pub fn mode_with(mode: u8, channels: u8) -> u8
     box_mode(mode)
 }
 
-// The packet form that a head announces; no form where its mode or its size is none of the table's.
-pub fn form_in(h: Head) -> Form
-    ensures { result ≡ form_in h }
+// The packet form that a head announces; none where its mode or its size is none of the table's.
+pub fn form_in(h: Head) -> Option<Form>
+    ensures { result ≡ found (form_in h) }
 {
     packets::form_for(box_mode(h.mode), h.size)
 }
@@ -73,16 +74,15 @@ pub(crate) fn is_bare(h: Head) -> bool
     (h.serial == 0) & (h.clock == NOMINAL)
 }
 
-// Whether the values are allowed that both versions have: mode and size are those of a listed form, whatever bit 6 is. They come one by
-// one, and not as a head, since a struct goes through memory.
-pub(crate) fn first_allowed(version: u32, divisor: u32, frequency: u64, mode: u8, size: u8) -> bool
-    ensures { result ≡ first_allowed version divisor frequency mode size }
+// Whether the values are allowed that both versions have: mode and size are those of a listed form, whatever bit 6 is.
+pub(crate) fn first_allowed(h: Head) -> bool
+    ensures { result ≡ first_allowed h.version h.divisor h.frequency h.mode h.size }
 {
-    is_head_version(version)
-        & rates::is_d(divisor)
-        & tuning::in_bands(frequency)
-        & items::ranges::is_mode(box_mode(mode))
-        & items::ranges::is_size(size as u32)
+    is_head_version(h.version)
+        & rates::is_d(h.divisor)
+        & tuning::in_bands(h.frequency)
+        & items::ranges::is_mode(box_mode(h.mode))
+        & items::ranges::is_size(h.size as u32)
 }
 
 // Whether serial and clock are such as version 2 may have.
@@ -96,7 +96,7 @@ pub(crate) fn names_well(serial: u64, clock: u32) -> bool
 pub fn is_allowed(h: Head) -> bool
     ensures { result ≡ allowed_head h }
 {
-    if !first_allowed(h.version, h.divisor, h.frequency, h.mode, h.size) {
+    if !first_allowed(h) {
         return false;
     }
     if h.version == 2 {

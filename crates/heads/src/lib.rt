@@ -25,45 +25,13 @@ pub const LONGEST: usize = 26;
 // clock in Hz. Version 1 has no serial and no clock: of such a head they are 0 and 80,000,000.
 #[derive(Clone, Copy)]
 pub struct Head {
+    // a number and no enum: `write_head` promises 16 for every other version, and the edit version-nought and outside/ try 0 and 3
     pub version: u32,
     pub divisor: u32,
     pub frequency: u64,
+    // numbers likewise: it promises 16 for each other mode, size and serial
     pub mode: u8,
     pub size: u8,
     pub serial: u64,
     pub clock: u32,
-}
-
-// What writing a head did.
-#[derive(Clone, Copy)]
-pub enum Written {
-    // the 14 or 26 bytes stand at the start of the lent slice
-    Whole,
-    // a value of the head is not allowed
-    NotAllowed,
-    // the lent slice is shorter than the head
-    NoRoom,
-}
-
-// What reading a head found.
-#[derive(Clone, Copy)]
-pub enum Opened {
-    Head(Head),
-    NotAHead,
-    OtherVersion,
-}
-
-// What moving a head to another version did.
-#[derive(Clone, Copy)]
-pub enum Moved {
-    // the head stands at the start of the lent slice, in that version
-    Whole,
-    // the bytes are no head
-    NotAHead,
-    // they are one of a version that there is not
-    OtherVersion,
-    // going back would lose the serial or the clock
-    WouldLose,
-    // the lent slice is shorter than a head of that version
-    NoRoom,
 }

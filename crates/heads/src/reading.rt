@@ -7,7 +7,8 @@ ghost use Rattle.heads.specs.Inside.{head_by_words};
 
 use crate::allowed::{NOMINAL, first_allowed, head_length, names_well};
 use crate::writing::MARK;
-use crate::{Head, LONGEST, Opened, SHORTEST};
+use crate::{Head, LONGEST, SHORTEST};
+use wire::Refusal;
 
 fn version_in(s: &[u8]) -> u32
     ensures { result ≡ version_in s.now }
@@ -66,17 +67,6 @@ struct Words {
     high: u64,
 }
 
-fn words_in(s: &[u8]) -> Words
-    requires { 14 ≤ length s.now }
-    ensures { (result.low ≡ field 0 8 s.now) × (result.high ≡ field 6 8 s.now) }
-{
-    let first = &s[..14];
-    Words {
-        low: wire::number_at(first, 0, 8),
-        high: wire::number_at(first, 6, 8),
-    }
-}
-
 // What version 2 adds, likewise.
 #[derive(Clone, Copy)]
 struct Names {
@@ -84,75 +74,97 @@ struct Names {
     clock: u32,
 }
 
-fn names_in(s: &[u8]) -> Names
-    requires { 26 ≤ length s.now }
-    ensures { (result.serial ≡ field 14 8 s.now) × (result.clock ≡ field 22 4 s.now) }
-{
-    let all = &s[..26];
-    Names {
-        serial: wire::number_at(all, 14, 8),
-        clock: wire::number_at(all, 22, 4) as u32,
+// What a head of version 1 has in its place.
+const UNNAMED: Names = Names {
+    serial: 0,
+    clock: NOMINAL,
+};
+
+impl Names {
+    fn of(s: &[u8]) -> Names
+        requires { 26 ≤ length s.now }
+        ensures serial { result.serial ≡ field 14 8 s.now }
+        ensures clock { result.clock ≡ field 22 4 s.now }
+    {
+        let all = &s[..26];
+        Names {
+            serial: wire::number_at(all, 14, 8),
+            clock: wire::number_at(all, 22, 4) as u32,
+        }
     }
 }
 
-fn head_of(low: u64, high: u64, serial: u64, clock: u32) -> Head
-    ensures { result ≡ head_by_words low high serial clock }
-{
-    Head {
-        version: (low / 16_777_216 % 65_536) as u32,
-        divisor: (low / 1_099_511_627_776 % 65_536) as u32,
-        frequency: high / 256 % 1_099_511_627_776,
-        mode: (high / 281_474_976_710_656 % 256) as u8,
-        size: (high / 72_057_594_037_927_936) as u8,
-        serial,
-        clock,
+impl Words {
+    fn of(s: &[u8]) -> Words
+        requires { 14 ≤ length s.now }
+        ensures low { result.low ≡ field 0 8 s.now }
+        ensures high { result.high ≡ field 6 8 s.now }
+    {
+        let first = &s[..14];
+        Words {
+            low: wire::number_at(first, 0, 8),
+            high: wire::number_at(first, 6, 8),
+        }
+    }
+
+    // The head that stands in them, with its serial and its clock.
+    fn head(self, names: Names) -> Head
+        ensures { result ≡ head_by_words self.low self.high names.serial names.clock }
+    {
+        Head {
+            version: (self.low / 16_777_216 % 65_536) as u32,
+            divisor: (self.low / 1_099_511_627_776 % 65_536) as u32,
+            frequency: self.high / 256 % 1_099_511_627_776,
+            mode: (self.high / 281_474_976_710_656 % 256) as u8,
+            size: (self.high / 72_057_594_037_927_936) as u8,
+            serial: names.serial,
+            clock: names.clock,
+        }
     }
 }
 
-// Reads a head of version 2 from bytes that begin as one; the two numbers are its first 14 bytes, as `Words` has them.
-fn read_second(low: u64, high: u64, s: &[u8]) -> Opened
+// Reads a head of version 2 from bytes that begin as one.
+fn read_second(w: Words, s: &[u8]) -> Result<Head, Refusal>
     requires { (14 ≤ length s.now)
-        × (low ≡ field 0 8 s.now)
-        × (high ≡ field 6 8 s.now)
+        × (w.low ≡ field 0 8 s.now)
+        × (w.high ≡ field 6 8 s.now)
         × (field 0 3 s.now ≡ number mark)
         × (version_in s.now ≡ 2) }
     ensures { opened_says result ≡ head_reading_of s.now }
 {
     if s.len() < LONGEST {
-        return Opened::NotAHead;
+        return Err(Refusal::NotAHead);
     }
-    let n = names_in(s);
-    let h = head_of(low, high, n.serial, n.clock);
-    if !first_allowed(h.version, h.divisor, h.frequency, h.mode, h.size) {
-        return Opened::NotAHead;
+    let n = Names::of(s);
+    let h = w.head(n);
+    let fine = first_allowed(h) & names_well(n.serial, n.clock);
+    if !fine {
+        return Err(Refusal::NotAHead);
     }
-    if !names_well(n.serial, n.clock) {
-        return Opened::NotAHead;
-    }
-    Opened::Head(h)
+    Ok(h)
 }
 
 // Reads a head from the first 14 or 26 bytes of a slice.
-pub fn read_head(s: &[u8]) -> Opened
+pub fn read_head(s: &[u8]) -> Result<Head, Refusal>
     ensures { opened_says result ≡ head_reading_of s.now }
 {
     if s.len() < SHORTEST {
-        return Opened::NotAHead;
+        return Err(Refusal::NotAHead);
     }
-    let w = words_in(s);
+    let w = Words::of(s);
     if w.low % 16_777_216 != MARK {
-        return Opened::NotAHead;
+        return Err(Refusal::NotAHead);
     }
-    let h = head_of(w.low, w.high, 0, NOMINAL);
+    let h = w.head(UNNAMED);
     if h.version == 2 {
-        return read_second(w.low, w.high, s);
+        return read_second(w, s);
     }
     if h.version != 1 {
-        return Opened::OtherVersion;
+        return Err(Refusal::OtherVersion);
     }
     // serial and clock are what they have to be
-    if !first_allowed(h.version, h.divisor, h.frequency, h.mode, h.size) {
-        return Opened::NotAHead;
+    if !first_allowed(h) {
+        return Err(Refusal::NotAHead);
     }
-    Opened::Head(h)
+    Ok(h)
 }

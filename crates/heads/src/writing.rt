@@ -2,11 +2,13 @@
 ghost use Rattle.std.specs.Prelude.{◌≡◌, true, ◌++◌, ◌≤◌, length};
 ghost use Rattle.std.proofs.lemmas.List.Edits.{sets};
 ghost use Rattle.wire.specs.Number.{bytes};
+ghost use Rattle.wire.specs.Refusal.{code_of};
 ghost use Rattle.heads.specs.Head.{fields_of, field_bytes, head_length, is_head_version, head_bytes};
-ghost use Rattle.heads.specs.Head.{head_write_code, written_code, written_bytes};
+ghost use Rattle.heads.specs.Head.{head_write_code, written_bytes};
 
+use crate::Head;
 use crate::allowed::{head_length, is_allowed};
-use crate::{Head, Written};
+use wire::Refusal;
 
 // SPN, the first character in the low byte.
 pub(crate) const MARK: u64 = 0x4E_50_53;
@@ -44,16 +46,16 @@ pub(crate) fn put_head(h: Head, out: &mut [u8])
 }
 
 // Writes a head at the start of a slice. It refuses a value that is not allowed, and then a slice that is shorter than the head.
-pub fn write_head(h: Head, out: &mut [u8]) -> Written
-    ensures { (written_code result ≡ head_write_code h (length out.old))
-        × (out.new ≡ sets out.old 0 (written_bytes h (length out.old))) }
+pub fn write_head(h: Head, out: &mut [u8]) -> Result<(), Refusal>
+    ensures code { code_of result ≡ head_write_code h (length out.old) }
+    ensures bytes { out.new ≡ sets out.old 0 (written_bytes h (length out.old)) }
 {
     if !is_allowed(h) {
-        return Written::NotAllowed;
+        return Err(Refusal::ValueNotAllowed);
     }
     if out.len() < head_length(h.version) {
-        return Written::NoRoom;
+        return Err(Refusal::NoRoom);
     }
     put_head(h, out);
-    Written::Whole
+    Ok(())
 }

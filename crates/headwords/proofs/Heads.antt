@@ -19,10 +19,9 @@ use Rattle.items.specs.Settings.{is_serial, all_serial, holds_serial}
 use Rattle.heads.specs.declared.Head.{Head}
 use Rattle.heads.specs.Head.{unknown, nominal, is_head_version, head_serial, naming_ok, box_mode, form_in, allowed_head}
 use Rattle.heads.proofs.Codes.{allowed_by}
-use Rattle.headwords.specs.declared.Worded.{Worded}
-use Rattle.headwords.specs.declared.Worded.TheVariants.{Head as Found, BadDivisor, BadFrequency, BadBits, BadSize}
-use Rattle.headwords.specs.declared.Worded.TheVariants.{BadSerial, BadClock}
-use Rattle.headwords.specs.Words.{number_of, word24, word16, twice24, bits_word, mode_of, large, small, size_of}
+use Rattle.std.proofs.Common.{Ok, Err}
+use Rattle.headwords.specs.declared.BadWord.TheVariants as Bad
+use Rattle.headwords.specs.Words.{Worded, number_of, word24, word16, twice24, bits_word, mode_of, large, size_word, size_of}
 use Rattle.headwords.specs.Words.{dash, serial_word, serial_of}
 use Rattle.headwords.specs.Words.{plain_of, names_of, Fit}
 use Rattle.headwords.proofs.Words.{holds_there}
@@ -37,11 +36,12 @@ plain_head d hz bits size = old (number_of d) (number_of hz) (mode_of bits) (siz
 
 abbrev plain_by : Bool → Bool → Bool → Bool → Head → Worded
 plain_by d hz bits size h =
-    pick (not d) BadDivisor (pick (not hz) BadFrequency (pick (not bits) BadBits (pick (not size) BadSize (Found h))))
+    pick (not d) (Err Bad.Divisor)
+    (pick (not hz) (Err Bad.Frequency) (pick (not bits) (Err Bad.Bits) (pick (not size) (Err Bad.Size) (Ok h))))
 
 module _ (d hz bits size : List ℕ) where
   pub plain_by_lem : {p q s t : Bool} → is_d (number_of d) ≡ p → in_bands (number_of hz) ≡ q → bits_word bits ≡ s
-      → (same size large || same size small) ≡ t → plain_of d hz bits size ≡ plain_by p q s t (plain_head d hz bits size)
+      → size_word size ≡ t → plain_of d hz bits size ≡ plain_by p q s t (plain_head d hz bits size)
   unfolding plain_of
   plain_by_lem e f g h = rw (e, f, g, h)
 
@@ -61,9 +61,8 @@ module _ (d hz bits size : List ℕ) where
 
   pub plain_fit : Fit (plain_of d hz bits size)
   plain_fit =
-      let bits_ok : Bool = bits_word bits in
-      let size_ok : Bool = same size large || same size small in
-      subst Fit (sym (plain_by_lem refl refl refl refl)) (go (is_d (number_of d)) (in_bands (number_of hz)) bits_ok size_ok refl refl)
+      subst Fit (sym (plain_by_lem refl refl refl refl))
+      (go (is_d (number_of d)) (in_bands (number_of hz)) (bits_word bits) (size_word size) refl refl)
     where
       go : (p q s t : Bool) → is_d (number_of d) ≡ p → in_bands (number_of hz) ≡ q → Fit (plain_by p q s t (plain_head d hz bits size))
       go false q s t e f = tt
@@ -71,12 +70,6 @@ module _ (d hz bits size : List ℕ) where
       go true true false t e f = tt
       go true true true false e f = tt
       go true true true true e f = allowed_by (plain_head d hz bits size) refl e f formed refl
-
-  -- the head, as the code makes it
-  pub plain_is : {n f m z : ℕ} → n ≡ number_of d → f ≡ number_of hz → m ≡ mode_of bits → z ≡ size_of size
-      → plain_of d hz bits size ≡ Found (plain_head d hz bits size)
-      → (Found (old n f m z) ≡ plain_of d hz bits size) × Fit (Found (old n f m z))
-  plain_is a b c e whole = rw (a, b, c, e) (sym whole, subst Fit whole plain_fit)
 
 -- ---- two more
 
@@ -101,7 +94,7 @@ others true false b f all = all
 others false d b f all = never all
 
 abbrev names_by : Bool → Bool → Head → Worded
-names_by serial clock h = pick (not serial) BadSerial (pick (not clock) BadClock (Found h))
+names_by serial clock h = pick (not serial) (Err Bad.Serial) (pick (not clock) (Err Bad.Clock) (Ok h))
 
 module _ (h : Head) (serial clock : List ℕ) where
   pub names_by_lem : {p q : Bool} → serial_word serial ≡ p → is_clock (number_of clock) ≡ q

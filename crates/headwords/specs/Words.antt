@@ -1,6 +1,7 @@
 -- The words of the program head: `D HZ BITS SIZE`, of a head of version 1, and `SERIAL CLOCK` more, of version 2 (02, No. 9). BITS also
 -- says how many channels there are (02, No. 7).
 use Rattle.std.specs.Prelude.{ℕ, ◌+◌, ◌-◌, ◌*◌, ◌≡◌, Bool, true, ◌&&◌, ◌||◌, not, List, [], ◌∷◌, leb, length}
+use Rattle.std.specs.Prelude.{Option, Some, None, Result, Ok, Err}
 use Rattle.wire.specs.Choice.{pick, within}
 use Rattle.wire.specs.Lists.{same}
 use Rattle.wire.specs.Number.{field}
@@ -10,11 +11,14 @@ use Rattle.tuning.specs.Word.{is_clock}
 use Rattle.items.specs.Settings.{is_serial}
 use Rattle.heads.specs.declared.Head.{Head}
 use Rattle.heads.specs.Head.{unknown, nominal, allowed_head}
-use Rattle.headwords.specs.declared.Worded.{Worded}
-use Rattle.headwords.specs.declared.Worded.TheVariants.{Head as Found, BadDivisor, BadFrequency, BadBits, BadSize}
-use Rattle.headwords.specs.declared.Worded.TheVariants.{BadSerial, BadClock}
+use Rattle.headwords.specs.declared.BadWord.{BadWord}
+use Rattle.headwords.specs.declared.BadWord.TheVariants as Bad
 
 -- ---- words
+
+-- a value where a test holds, and none where it does not
+abbrev pub only : {A : Type 0} → Bool → A → Option A
+only holds value = pick holds (Some value) None
 
 -- 0 to 9
 abbrev pub is_digit : ℕ → Bool
@@ -29,9 +33,13 @@ abbrev pub value_behind : ℕ → List ℕ → ℕ
 value_behind n [] = n
 value_behind n (b ∷ bs) = value_behind (n * 10 + (b - 0x30)) bs
 
--- a number of at most nine decimal digits; any other word counts as 0, which is none of a head's values
+-- at most nine decimal digits
+unfoldable pub is_number : List ℕ → Bool
+is_number word = leb (length word) 9 && all_digits word
+
+-- their number; any other word counts as 0, which is none of a head's values
 unfoldable pub number_of : List ℕ → ℕ
-number_of word = pick (leb (length word) 9 && all_digits word) (value_behind 0 word) 0
+number_of word = pick (is_number word) (value_behind 0 word) 0
 
 -- `24` and `16`, of one channel
 abbrev pub word24 : List ℕ
@@ -62,6 +70,9 @@ large = 0x6C ∷ 0x61 ∷ 0x72 ∷ 0x67 ∷ 0x65 ∷ []
 abbrev pub small : List ℕ
 small = 0x73 ∷ 0x6D ∷ 0x61 ∷ 0x6C ∷ 0x6C ∷ []
 
+abbrev pub size_word : List ℕ → Bool
+size_word word = same word large || same word small
+
 abbrev pub size_of : List ℕ → ℕ
 size_of size = pick (same size large) 0 1
 
@@ -78,13 +89,16 @@ serial_of word = pick (same word dash) unknown (field 0 8 word)
 
 -- ---- what they come to: the first that is none of those allowed, in the order of the words, or the head
 
+abbrev pub Worded : Type 0
+Worded = Result Head BadWord
+
 unfoldable pub plain_of : List ℕ → List ℕ → List ℕ → List ℕ → Worded
 plain_of d hz bits size =
-    pick (not (is_d (number_of d))) BadDivisor
-    (pick (not (in_bands (number_of hz))) BadFrequency
-    (pick (not (bits_word bits)) BadBits
-    (pick (not (same size large || same size small)) BadSize
-    (Found
+    pick (not (is_d (number_of d))) (Err Bad.Divisor)
+    (pick (not (in_bands (number_of hz))) (Err Bad.Frequency)
+    (pick (not (bits_word bits)) (Err Bad.Bits)
+    (pick (not (size_word size)) (Err Bad.Size)
+    (Ok
     (record {
       version = 1;
       divisor = number_of d;
@@ -98,9 +112,9 @@ plain_of d hz bits size =
 -- the same head in version 2, with a serial and a clock
 unfoldable pub names_of : Head → List ℕ → List ℕ → Worded
 names_of h serial clock =
-    pick (not (serial_word serial)) BadSerial
-    (pick (not (is_clock (number_of clock))) BadClock
-    (Found
+    pick (not (serial_word serial)) (Err Bad.Serial)
+    (pick (not (is_clock (number_of clock))) (Err Bad.Clock)
+    (Ok
     (record {
       version = 2;
       divisor = h.divisor;
@@ -112,23 +126,13 @@ names_of h serial clock =
     })))
 
 abbrev pub behind : Worded → List ℕ → List ℕ → Worded
-behind (Found h) serial clock = names_of h serial clock
-behind BadDivisor serial clock = BadDivisor
-behind BadFrequency serial clock = BadFrequency
-behind BadBits serial clock = BadBits
-behind BadSize serial clock = BadSize
-behind BadSerial serial clock = BadSerial
-behind BadClock serial clock = BadClock
+behind (Ok h) serial clock = names_of h serial clock
+behind (Err bad) serial clock = Err bad
 
 abbrev pub named_of : List ℕ → List ℕ → List ℕ → List ℕ → List ℕ → List ℕ → Worded
 named_of d hz bits size serial clock = behind (plain_of d hz bits size) serial clock
 
 -- the head that words come to is one that may be written
 abbrev pub Fit : Worded → Type 0
-Fit (Found h) = allowed_head h ≡ true
-Fit BadDivisor = Unit {0}
-Fit BadFrequency = Unit {0}
-Fit BadBits = Unit {0}
-Fit BadSize = Unit {0}
-Fit BadSerial = Unit {0}
-Fit BadClock = Unit {0}
+Fit (Ok h) = allowed_head h ≡ true
+Fit (Err bad) = Unit {0}

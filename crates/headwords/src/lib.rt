@@ -1,11 +1,13 @@
 // A capture head's values as a user writes them, for the program head.
 #![tactic(auto)]
 
-ghost use Rattle.std.specs.Prelude.{◌≡◌, ◌||◌};
+ghost use Rattle.std.specs.Prelude.{◌≡◌};
 ghost use Rattle.wire.specs.Lists.{same};
-ghost use Rattle.wire.specs.Choice.{pick};
-ghost use Rattle.headwords.specs.Words.{is_digit, number_of, bits_word, mode_of, serial_word, serial_of};
-ghost use Rattle.headwords.specs.Words.{plain_of, names_of, named_of, Fit};
+ghost use Rattle.rates.specs.Rate.{is_d};
+ghost use Rattle.tuning.specs.Bands.{in_bands};
+ghost use Rattle.tuning.specs.Word.{is_clock};
+ghost use Rattle.headwords.specs.Words.{only, is_number, value_behind, number_of, bits_word, mode_of, size_word, size_of};
+ghost use Rattle.headwords.specs.Words.{serial_word, serial_of, plain_of, names_of, named_of, Fit};
 
 use heads::Head;
 
@@ -14,178 +16,150 @@ const TWICE_24: u8 = 0xC0;
 
 const TWICE_16: u8 = 0x40;
 
-// What words come to: a head, or the first of them that is none of those allowed.
-#[derive(Clone, Copy)]
-pub enum Worded {
-    Head(Head),
-    BadDivisor,
-    BadFrequency,
-    BadBits,
-    BadSize,
-    BadSerial,
-    BadClock,
+// The first word that is none of those allowed.
+#[derive(Clone, Copy, Debug, PartialEq, Eq)]
+pub enum BadWord {
+    Divisor,
+    Frequency,
+    Bits,
+    Size,
+    Serial,
+    Clock,
 }
 
-fn is_digit(byte: u8) -> bool
-    ensures { result ≡ is_digit byte }
-{
-    (b'0' <= byte) & (byte <= b'9')
-}
-
-// The number that a word of at most nine digits stands for, and 0, which no value of a head is, for any other word.
-fn number_of(word: &[u8]) -> u32
-    ensures { result ≡ number_of word.now }
+// The number that a word of at most nine digits stands for; `str::parse` takes more digits, and a sign.
+fn number_of(word: &[u8]) -> Option<u32>
+    ensures { result ≡ only (is_number word.now) (value_behind 0 word.now) }
 {
     if 9 < word.len() {
-        return 0;
+        return None;
     }
     let mut n: u32 = 0;
-    let mut i = 0;
-    while i < word.len() {
-        let byte = word[i];
-        if !is_digit(byte) {
-            return 0;
+    for &byte in word {
+        if !byte.is_ascii_digit() {
+            return None;
         }
         n = n * 10 + (byte - b'0') as u32;
-        i += 1;
     }
-    n
+    Some(n)
 }
 
 fn is_same(word: &[u8], other: &[u8]) -> bool
     ensures { result ≡ same word.now other.now }
 {
-    check::same(word, other)
+    word == other
 }
 
-// The word is one of two.
-fn is_either(word: &[u8], first: &[u8], second: &[u8]) -> bool
-    ensures { result ≡ (same word.now first.now || same word.now second.now) }
+fn divisor_of(word: &[u8]) -> Option<u32>
+    ensures { result ≡ only (is_d (number_of word.now)) (number_of word.now) }
 {
-    if is_same(word, first) {
-        return true;
-    }
-    is_same(word, second)
+    let d = number_of(word)?;
+    rates::is_d(d).then_some(d)
 }
 
-// One byte for a word, and another for any other word.
-fn chosen(word: &[u8], first: &[u8], one: u8, other: u8) -> u8
-    ensures { result ≡ pick (same word.now first.now) one other }
+fn frequency_of(word: &[u8]) -> Option<u64>
+    ensures { result ≡ only (in_bands (number_of word.now)) (number_of word.now) }
 {
-    if is_same(word, first) {
-        return one;
-    }
-    other
+    let hz = number_of(word)? as u64;
+    tuning::in_bands(hz).then_some(hz)
 }
 
-// The bits of a sample, with `2x` before them where there are two channels.
-fn is_bits_word(word: &[u8]) -> bool
-    ensures { result ≡ bits_word word.now }
+fn clock_of(word: &[u8]) -> Option<u32>
+    ensures { result ≡ only (is_clock (number_of word.now)) (number_of word.now) }
 {
-    if is_either(word, b"24", b"16") {
-        return true;
-    }
-    is_either(word, b"2x24", b"2x16")
+    let hz = number_of(word)?;
+    tuning::is_clock(hz).then_some(hz)
 }
 
-// The mode byte that such a word stands for.
-fn mode_of(word: &[u8]) -> u8
-    ensures { result ≡ mode_of word.now }
+// The mode byte that the bits of a sample stand for, with `2x` before them where there are two channels.
+fn mode_of(word: &[u8]) -> Option<u8>
+    ensures { result ≡ only (bits_word word.now) (mode_of word.now) }
 {
-    if is_either(word, b"24", b"16") {
-        return chosen(word, b"24", packets::MODE_24, packets::MODE_16);
+    if is_same(word, b"24") {
+        Some(packets::MODE_24)
+    } else if is_same(word, b"16") {
+        Some(packets::MODE_16)
+    } else if is_same(word, b"2x24") {
+        Some(TWICE_24)
+    } else if is_same(word, b"2x16") {
+        Some(TWICE_16)
+    } else {
+        None
     }
-    chosen(word, b"2x24", TWICE_24, TWICE_16)
 }
 
-// Eight of A-Z, 0-9, or a dash.
-fn is_serial_word(word: &[u8]) -> bool
-    ensures { result ≡ serial_word word.now }
+fn size_of(word: &[u8]) -> Option<u8>
+    ensures { result ≡ only (size_word word.now) (size_of word.now) }
+{
+    if is_same(word, b"large") {
+        Some(packets::LARGE)
+    } else if is_same(word, b"small") {
+        Some(packets::SMALL)
+    } else {
+        None
+    }
+}
+
+// The number of the eight bytes of a word of A-Z, 0-9, or 0 for a dash.
+fn serial_of(word: &[u8]) -> Option<u64>
+    ensures { result ≡ only (serial_word word.now) (serial_of word.now) }
 {
     if is_same(word, b"-") {
-        return true;
+        return Some(0);
     }
     if word.len() != 8 {
-        return false;
+        return None;
     }
-    items::ranges::is_serial(wire::number_at(word, 0, 8))
+    let n = wire::number_at(word, 0, 8);
+    items::ranges::is_serial(n).then_some(n)
 }
 
-// The number of its eight bytes, or 0 for a dash.
-fn serial_of(word: &[u8]) -> u64
-    ensures { result ≡ serial_of word.now }
-{
-    if is_same(word, b"-") {
-        return 0;
-    }
-    wire::number_at(word, 0, 8)
-}
-
-// A head of version 1 from four words.
-pub fn plain(d: &[u8], hz: &[u8], bits: &[u8], size: &[u8]) -> Worded
+// A head of version 1 from four words. They come one by one: a struct of slices would be made for this call and taken apart here.
+pub fn plain(d: &[u8], hz: &[u8], bits: &[u8], size: &[u8]) -> Result<Head, BadWord>
     ensures { (result ≡ plain_of d.now hz.now bits.now size.now) × Fit result }
 {
-    let divisor = number_of(d);
-    if !rates::is_d(divisor) {
-        return Worded::BadDivisor;
-    }
-    let frequency = number_of(hz) as u64;
-    if !tuning::in_bands(frequency) {
-        return Worded::BadFrequency;
-    }
-    if !is_bits_word(bits) {
-        return Worded::BadBits;
-    }
-    if !is_either(size, b"large", b"small") {
-        return Worded::BadSize;
-    }
-    Worded::Head(Head {
+    let divisor = divisor_of(d).ok_or(BadWord::Divisor)?;
+    let frequency = frequency_of(hz).ok_or(BadWord::Frequency)?;
+    let mode = mode_of(bits).ok_or(BadWord::Bits)?;
+    let size = size_of(size).ok_or(BadWord::Size)?;
+    Ok(Head {
         version: 1,
         divisor,
         frequency,
-        mode: mode_of(bits),
-        size: chosen(size, b"large", packets::LARGE, packets::SMALL),
+        mode,
+        size,
         serial: 0,
         clock: heads::NOMINAL,
     })
 }
 
 // The head of version 2 that two words more make of it.
-fn with_names(h: Head, serial: &[u8], clock: &[u8]) -> Worded
+fn with_names(h: Head, serial: &[u8], clock: &[u8]) -> Result<Head, BadWord>
     ensures { result ≡ names_of h serial.now clock.now }
 {
-    if !is_serial_word(serial) {
-        return Worded::BadSerial;
-    }
-    let hz = number_of(clock);
-    if !tuning::is_clock(hz) {
-        return Worded::BadClock;
-    }
-    Worded::Head(Head {
+    let serial = serial_of(serial).ok_or(BadWord::Serial)?;
+    let clock = clock_of(clock).ok_or(BadWord::Clock)?;
+    Ok(Head {
         version: 2,
-        divisor: h.divisor,
-        frequency: h.frequency,
-        mode: h.mode,
-        size: h.size,
-        serial: serial_of(serial),
-        clock: hz,
+        serial,
+        clock,
+        ..h
     })
 }
 
 // A head of version 2 from six words.
-pub fn named(d: &[u8], hz: &[u8], bits: &[u8], size: &[u8], serial: &[u8], clock: &[u8]) -> Worded
+pub fn named(
+    d: &[u8],
+    hz: &[u8],
+    bits: &[u8],
+    size: &[u8],
+    serial: &[u8],
+    clock: &[u8],
+) -> Result<Head, BadWord>
     ensures { (result ≡ named_of d.now hz.now bits.now size.now
         serial.now clock.now)
         × Fit result }
 {
-    let worded = plain(d, hz, bits, size);
-    match worded {
-        Worded::Head(h) => with_names(h, serial, clock),
-        Worded::BadDivisor => Worded::BadDivisor,
-        Worded::BadFrequency => Worded::BadFrequency,
-        Worded::BadBits => Worded::BadBits,
-        Worded::BadSize => Worded::BadSize,
-        Worded::BadSerial => Worded::BadSerial,
-        Worded::BadClock => Worded::BadClock,
-    }
+    let h = plain(d, hz, bits, size)?;
+    with_names(h, serial, clock)
 }

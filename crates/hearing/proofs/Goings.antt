@@ -10,7 +10,7 @@ use lib.Seq.{drop-drop, length-take-le}
 use borrow.Author.Tests.{ne_eqb, eqb-false}
 use Rattle.packets.specs.declared.Form.{Form}
 use Rattle.hearing.specs.declared.Tally.{Tally}
-use Rattle.hearing.specs.declared.Reach.{Reach}
+use Rattle.hearing.specs.Hearing.{Reach}
 use Rattle.hearing.specs.Hearing.{taking_byte, heard_code, closes, settled, reaching}
 use Rattle.hearing.specs.Inside.{goes_on, Counted, Sane, Goes, Samples, skipped}
 use Rattle.hearing.proofs.Heard.{sane_taking, sane_settled}

@@ -1,21 +1,23 @@
 -- What a byte of a packet comes to, from what the tests came to.
-use Prim.Native.Nat.{ℕ, zero, suc, ◌+◌, ◌/◌, ◌%◌, ◌≤◌, ◌<◌}
-use mathlib.Core.Path.{◌≡◌, refl, sym, ap, ◌∙◌}
+use Prim.Native.Nat.{ℕ, ◌+◌, ◌/◌, ◌%◌, ◌≤◌, ◌<◌}
+use mathlib.Core.Path.{◌≡◌, refl, ap, ◌∙◌}
 use mathlib.Core.Bool.{Bool, true, false, ◌&&◌, not}
 use mathlib.Core.List.{List, [], ◌∷◌}
 use native.Mathlib.Omega.{arith}
 use lib.Dec.{eqb, ltb}
 use lib.ListN.{get_or}
 use borrow.Author.Tests.{ltb-false, eqb-true, eqb-false}
-use Rattle.wire.proofs.Laws.{true_not_false, and_left, pick_keeps}
+use Rattle.wire.proofs.Laws.{and_left, pick_keeps}
 use Rattle.wire.proofs.Checks.{absent, given_below}
 use Rattle.wire.specs.Choice.{pick, check, first_of}
 use Rattle.packets.specs.declared.Form.{Form}
+use Rattle.std.specs.Prelude.{Some, None}
 use Rattle.packets.specs.Forms.{same_form, total_of, listed_form}
+use Rattle.packets.proofs.Forms.{picked_some}
 use Rattle.packets.specs.Numbers.{last}
 use Rattle.packets.proofs.Missed.{step_from}
 use Rattle.hearing.specs.declared.Tally.{Tally}
-use Rattle.hearing.specs.declared.Reach.{Reach}
+use Rattle.hearing.specs.Hearing.{Reach}
 use Rattle.hearing.specs.Hearing.{low_high, field_with, form_coming, position_now, lacks_first, heard_checks, heard_code}
 use Rattle.hearing.specs.Hearing.{taking_byte, accepting, closes, settled}
 use Rattle.hearing.specs.Inside.{Counted, Sane, word_at, two_at}
@@ -49,33 +51,16 @@ unfolding heard_code
 heard_small f t = given_below 34 (heard_checks f t) 1 refl (omega arith)
 
 -- what `total_of` answers for a listed form
-pub total_is : (f g : Form) (n : ℕ) → n ≡ pick (listed_form g) (total_of g) 0 → g ≡ f → listed_form f ≡ true → n ≡ total_of f
-total_is f g n is same ok = is ∙ ap (λ (x : Form). pick (listed_form x) (total_of x) 0) same ∙ rw ok
-
-pub not_none : (n : ℕ) → not (eqb n 0) ≡ true → 0 < n
-not_none zero e = absurd (true_not_false (sym e))
-not_none (suc n) e = omega arith
+pub total_is : (f g : Form) (n : ℕ) → Some n ≡ pick (listed_form g) (Some (total_of g)) None → g ≡ f → n ≡ total_of f
+total_is f g n is same = (picked_some (listed_form g) (total_of g) n is).1 ∙ ap total_of same
 
 -- ---- the four bytes at a place
 
 module _ (piece : List ℕ) (at : ℕ) (small : (k : ℕ) → get_or piece k 0 < 256) where
-  pub word_header : word_at piece at % 65536 ≡ two_at piece at
-  word_header = omega (arith, small at, small (at + 1), small (at + 2), small (at + 3))
-
   pub word_number : word_at piece at / 65536 ≡ two_at piece (at + 2)
   word_number =
       let next : at + 2 + 1 ≡ at + 3 = omega arith in
       rw next (omega (arith, small at, small (at + 1), small (at + 2), small (at + 3)))
-
--- what a form with some total has
-pub total_some : (g : Form) (n : ℕ) → n ≡ pick (listed_form g) (total_of g) 0 → 0 < n → (listed_form g ≡ true) × (n ≡ total_of g)
-total_some g n is some = by (listed_form g) refl
-  where
-    by : (l : Bool) → listed_form g ≡ l → (listed_form g ≡ true) × (n ≡ total_of g)
-    by true e = (e, is ∙ rw e)
-    by false e =
-        let none : n ≡ 0 = is ∙ rw e in
-        absurd (omega arith)
 
 -- the position of an accepted packet is one that there is
 pub accepted_fits : (f : Form) (t : Tally) → heard_code f t ≡ 1 → position_now t ≤ last

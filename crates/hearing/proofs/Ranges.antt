@@ -1,12 +1,12 @@
 -- A tally in range, and what is reached from it.
 use Prim.Native.Nat.{ℕ, zero, suc, ◌+◌, ◌*◌, ◌-◌, ◌≤◌, ◌<◌}
-use mathlib.Core.Path.{◌≡◌, refl}
-use mathlib.Core.Bool.{Bool, true, false, ◌&&◌, and-false}
+use mathlib.Core.Path.{◌≡◌}
+use mathlib.Core.Bool.{Bool, true, false, ◌&&◌}
 use mathlib.Core.List.{List, [], ◌∷◌}
 use native.Mathlib.Omega.{arith}
 use lib.Dec.{eqb, leb}
 use lib.ListN.{length}
-use borrow.Author.Tests.{lt-leb, le-leb, leb-true, eq-eqb, ne_eqb, eqb-true}
+use borrow.Author.Tests.{le-leb, leb-true, eq-eqb, ne_eqb, eqb-true}
 use Rattle.wire.proofs.Laws.{and_left, and_right, and_both, pick_keeps}
 use Rattle.packets.specs.declared.Form.{Form}
 use Rattle.packets.specs.Forms.{listed_form}
@@ -14,7 +14,7 @@ use Rattle.packets.specs.Numbers.{last}
 use Rattle.packets.specs.Missed.{missed_of, StepsGive, steps_give}
 use Rattle.packets.proofs.Missed.{steps_give_by, steps_give_within, tested_steps}
 use Rattle.hearing.specs.declared.Tally.{Tally}
-use Rattle.hearing.specs.declared.Reach.{Reach}
+use Rattle.hearing.specs.Hearing.{Reach}
 use Rattle.hearing.specs.Hearing.{farthest, heard_by_steps, tally_in_range, taking_byte, settled, reaching, outcome, hearing_of}
 use Rattle.hearing.specs.Inside.{Counted, Sane}
 use Rattle.hearing.proofs.Heard.{sane_taking, sane_settled, sane_less}
@@ -49,27 +49,6 @@ steps_given (suc n) position least most =
     rw (ne_eqb (suc n) 0 (λ z. omega arith))
     (and_both (leb (suc n) (position + 1)) (steps_give position missed) (le-leb (suc n) (position + 1) least)
     (steps_give_by position missed (omega arith) (rw (steps_between_lem n position least) (omega arith))))
-
--- the tests of `is_heard`, and what it answers then
-module _ (heard position : ℕ) where
-  abbrev Answer : Bool
-  Answer = leb position last && heard_by_steps heard position
-
-  pub none_heard : heard ≡ 0 → eqb position 0 ≡ Answer
-  none_heard z = by (eqb position 0) refl
-    where
-      by : (nowhere : Bool) → eqb position 0 ≡ nowhere → eqb position 0 ≡ Answer
-      by true e = let none : position ≡ 0 = eqb-true position 0 e in rw (z, none)
-      by false e = rw (z, e, and-false)
-
-  module _ (some : heard ≡ 0 → ⊥) where
-    pub too_few : position < heard - 1 → false ≡ Answer
-    too_few l = rw (ne_eqb heard 0 some, lt-leb heard (position + 1) (omega arith), and-false)
-
-    pub by_steps : heard - 1 ≤ position → (leb position last && steps_give position (position - (heard - 1))) ≡ Answer
-    by_steps few =
-        let missed : position - (heard - 1) ≡ missed_of heard position = omega arith in
-        rw (missed, ne_eqb heard 0 some, le-leb heard (position + 1) (omega arith))
 
 -- "whose total no steps give", of a tally
 pub heard_has_steps : (heard position : ℕ) → heard_by_steps heard position ≡ true → 0 < heard

@@ -17,7 +17,7 @@ use Rattle.packets.specs.Forms.{same_form, total_of, listed_form, form_with_head
 use Rattle.packets.specs.Numbers.{number_at, step_of, last}
 use Rattle.packets.proofs.Forms.{of_listed, same_self, same_is}
 use Rattle.hearing.specs.declared.Tally.{Tally}
-use Rattle.hearing.specs.declared.Reach.{Reach}
+use Rattle.hearing.specs.Hearing.{Reach}
 use Rattle.hearing.specs.Hearing.{low_high, taking_byte, form_coming, position_now, heard_code, accepting, closes, settled, reaching}
 use Rattle.hearing.specs.Inside.{goes_on, Follows, Samples, skipped, two_at}
 use Rattle.hearing.proofs.Heard.{heard_by, settled_by}

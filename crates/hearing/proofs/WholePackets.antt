@@ -12,7 +12,7 @@ use Rattle.packets.specs.Numbers.{number_at, step_of, last}
 use Rattle.packets.proofs.Numbers.{number_step}
 use Rattle.packets.proofs.Missed.{step_from}
 use Rattle.hearing.specs.declared.Tally.{Tally}
-use Rattle.hearing.specs.declared.Reach.{Reach}
+use Rattle.hearing.specs.Hearing.{Reach}
 use Rattle.hearing.specs.Hearing.{reaching}
 use Rattle.hearing.specs.Inside.{goes_on, Sane, Goes, Between, Follows, two_at}
 use Rattle.hearing.proofs.Reaches.{followed, reach_follows, form_with_own, total_least}
@@ -34,8 +34,22 @@ same_tally : (t : Tally) {a b c d : ℕ} → a ≡ t.begins → b ≡ t.came →
     → record { begins = a; came = b; header = c; number = d; captures = t.captures; heard = t.heard; position = t.position } ≡ t
 same_tally t p q r s = rw (p, q, r, s)
 
+-- which is the one that was given, but for three fields
+pub tally_there : (t : Tally) (from at heard position : ℕ) → Between t
+    → tally_at t from at heard position
+    ≡ record {
+      begins = t.begins + (at - from);
+      came = t.came;
+      header = t.header;
+      number = t.number;
+      captures = t.captures;
+      heard = heard;
+      position = position;
+    }
+tally_there t from at heard position b = rw (b.came, b.header, b.number)
+
 -- What holds between two of them. The form is known by the header.
-pub record Onward (t : Tally) (piece : List ℕ) (from total front at heard position number next : ℕ) : Type 0 where
+pub record Onward (t : Tally) (piece : List ℕ) (from front at heard position number : ℕ) : Type 0 where
   pub low : from ≤ at
   pub inside : at ≤ length piece
   pub some : 0 < heard
@@ -44,7 +58,6 @@ pub record Onward (t : Tally) (piece : List ℕ) (from total front at heard posi
   pub least : heard ≤ position + 1
   pub most : position ≤ 65_535 * (heard - 1)
   pub numbered : number ≡ number_at position
-  pub follows : 0 < next → Follows piece at front total number position next
   pub same :
       reaching at (form_with_header front) (tally_at t from at heard position) (drop at piece)
       ≡ reaching from (form_with_header front) t (drop from piece)
@@ -55,32 +68,11 @@ module _
   pub form_is : form_with_header front ≡ f
   form_is = ap form_with_header is_front ∙ form_with_own f ok
 
-  pub onward_start : (number next : ℕ) → Between t → Sane (length piece - from) t → from ≤ length piece → number ≡ number_at t.position
-      → (0 < next → Follows piece from front total number t.position next)
-      → Onward t piece from total front from t.heard t.position number next
-  onward_start number next b s inside numbered follows =
-      let none : t.begins + (from - from) ≡ t.begins = omega arith in
-      record {
-        low = omega arith;
-        inside = inside;
-        some = b.heard;
-        few = omega (arith, s.counted.heard);
-        allowed = s.counted.position;
-        least = s.counted.least;
-        most = s.counted.most;
-        numbered = numbered;
-        follows = follows;
-        same =
-            ap (λ (u : Tally). reaching from (form_with_header front) u (drop from piece))
-            (same_tally t none (sym b.came) (sym b.header) (sym b.number));
-      }
-
-  pub onward_turn : (at heard position number next after last' : ℕ)
-      → Onward t piece from total front at heard position number next → 0 < next
-      → after ≡ two_at piece (at + 2) → after ≤ 65_535 → (0 < last' → Follows piece (at + total) front total after next last')
-      → Onward t piece from total front (at + total) (heard + 1) next after last'
-  onward_turn at heard position number next after last' r some is small follows =
-      let x = r.follows some in
+  pub onward_turn : (at heard position number next after : ℕ)
+      → Onward t piece from front at heard position number → Follows piece at front total number position next
+      → after ≡ two_at piece (at + 2) → after ≤ 65_535
+      → Onward t piece from front (at + total) (heard + 1) next after
+  onward_turn at heard position number next after r x is small =
       let least = total_least f ok in
       let go : next ≡ position + step_of (number_at position) after = x.here ∙ rw (r.numbered, is) in
       let packet : Follows piece at (header_of type_data (total_of f)) total (number_at position) position next
@@ -100,15 +92,14 @@ module _
         least = omega (arith, r.least, go, stepped.0);
         most = omega (arith, r.most, r.some, go, stepped.1);
         numbered = sym (ap number_at go ∙ number_step position after (omega (arith, is, x.above)) small);
-        follows = follows;
         same = ap ahead (same_tally (followed now total next) (sym on) refl refl refl) ∙ sym step ∙ r.same;
       }
 
-  pub onward_end : (at heard position number next : ℕ)
-      → Onward t piece from total front at heard position number next → Sane (length piece - from) t
+  pub onward_end : (at heard position number : ℕ)
+      → Onward t piece from front at heard position number → Sane (length piece - from) t
       → Goes f t piece from (record { at = at; code = 0; tally = tally_at t from at heard position })
   unfolding goes_on
-  onward_end at heard position number next r s =
+  onward_end at heard position number r s =
       record {
         same = rw form_is at r.same;
         inside = r.inside;

@@ -1,17 +1,21 @@
 -- A capture's packets as they come, byte by byte: what the code keeps between two bytes, and what a byte makes of it. A reader
 -- of 01 needs only spans/specs/Report, which says what is printed of the whole input; `report_is` (spans/proofs/Inputs)
 -- proves that the two agree.
-use Rattle.std.specs.Prelude.{ℕ, ◌+◌, ◌*◌, ◌%◌, Bool, ◌&&◌, not, List, [], ◌∷◌, eqb, leb, ltb}
+use Rattle.std.specs.Prelude.{ℕ, ◌+◌, ◌*◌, ◌%◌, Bool, ◌&&◌, not, List, [], ◌∷◌, eqb, leb, ltb, Option, Some, None, Result, Ok, Err}
 use Rattle.wire.specs.Choice.{pick, Check, check, first_of}
 use Rattle.wire.specs.Codes as Code
+use Rattle.wire.specs.declared.refusal.Refusal.{Refusal}
+use Rattle.wire.specs.Refusal.{refusal_code}
 use Rattle.packets.specs.declared.Form.{Form}
 use Rattle.packets.specs.Forms.{same_form, total_of, listed_form, form_with_header}
 use Rattle.packets.specs.Numbers.{last}
 use Rattle.packets.specs.Missed.{missed_of, steps_give}
 use Rattle.reader.specs.Reading.{position_from}
 use Rattle.hearing.specs.declared.Tally.{Tally}
-use Rattle.hearing.specs.declared.Reach.{Reach}
-use Rattle.hearing.specs.declared.Outcome.{Outcome}
+use Rattle.hearing.specs.declared.Stop.{Stop}
+use Rattle.hearing.specs.declared.Stop.TheVariants.{CaptureEnds, Refused}
+use Rattle.hearing.specs.declared.Reach as Reached
+use Rattle.hearing.specs.declared.Outcome as Came
 
 -- ---- a tally
 
@@ -101,6 +105,13 @@ accepting t =
 abbrev pub closes : Tally → Bool
 closes t = eqb t.number 0 && not (eqb t.heard 0)
 
+-- How far hearing got in a piece: how many bytes it took, its code (0 where the piece is used up), and the tally then. A packet
+-- with a code is counted as taken, and has had no effect yet.
+pub record Reach : Type 0 where
+  pub at : ℕ
+  pub code : ℕ
+  pub tally : Tally
+
 -- What the bytes of a packet come to, with n bytes taken in all: more are waited for, or the packet is accepted, or a code
 -- other than 0 says that a line is due, and the tally is then left before the packet's effect.
 unfoldable pub settled : ℕ → Form → Tally → Reach
@@ -122,6 +133,11 @@ reaching n f t (b ∷ bs) =
 abbrev pub next_tally : Reach → Tally
 next_tally r = pick (eqb r.code Code.done) (accepting r.tally) r.tally
 
+-- what hearing a piece came to: how far it got, and the tally with which hearing goes on
+pub record Outcome : Type 0 where
+  pub reach : Reach
+  pub next : Tally
+
 abbrev pub outcome : Reach → Outcome
 outcome r = record { reach = r; next = next_tally r }
 
@@ -129,3 +145,32 @@ outcome r = record { reach = r; next = next_tally r }
 unfoldable pub hearing_of : Form → Tally → List ℕ → Outcome
 hearing_of f t piece =
     pick (tally_in_range t && listed_form f) (outcome (reaching 0 f t piece)) (outcome (record { at = 0; code = Code.broken; tally = t }))
+
+-- ---- what answers say of it
+
+-- of a packet: more is waited for, it is accepted, or it is refused
+abbrev pub whole_told : Result Bool Refusal → ℕ
+whole_told (Ok whole) = pick whole Code.done Code.waiting
+whole_told (Err r) = refusal_code r
+
+-- 1 where the open capture ends
+abbrev pub stop_told : Stop → ℕ
+stop_told CaptureEnds = Code.done
+stop_told (Refused r) = refusal_code r
+
+-- 0 where the piece is used up
+abbrev pub stops_told : Option Stop → ℕ
+stops_told None = Code.waiting
+stops_told (Some s) = stop_told s
+
+abbrev pub reach_told : Reached.Reach → Reach
+reach_told r = record { at = r.at; code = stops_told r.stop; tally = r.tally }
+
+-- where hearing refuses a tally, that is the one it goes on with
+abbrev pub hearing_told : Tally → Result Came.Outcome Refusal → Outcome
+hearing_told t (Ok o) = record { reach = reach_told o.reach; next = o.next }
+hearing_told t (Err r) = outcome (record { at = 0; code = refusal_code r; tally = t })
+
+-- it refuses a broken tally and a form that is not listed, and nothing else
+abbrev pub hearing_code : Form → Tally → ℕ
+hearing_code f t = pick (tally_in_range t && listed_form f) Code.done Code.broken

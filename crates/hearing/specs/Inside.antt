@@ -7,8 +7,7 @@ use Rattle.packets.specs.declared.Form.{Form}
 use Rattle.packets.specs.Forms.{total_of, listed_form}
 use Rattle.packets.specs.Numbers.{step_of, last}
 use Rattle.hearing.specs.declared.Tally.{Tally}
-use Rattle.hearing.specs.declared.Reach.{Reach}
-use Rattle.hearing.specs.Hearing.{low_high, form_coming, reaching}
+use Rattle.hearing.specs.Hearing.{Reach, low_high, form_coming, reaching}
 
 -- going on from what was reached, with the bytes that are left
 unfoldable pub goes_on : Form → Reach → List ℕ → Reach

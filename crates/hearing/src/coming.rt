@@ -2,12 +2,12 @@
 ghost use Rattle.std.specs.Prelude.{◌≡◌, ◌+◌, ◌≤◌, ◌<◌, ◌&&◌, leb};
 ghost use Rattle.packets.specs.Numbers.{last};
 ghost use Rattle.hearing.specs.Hearing.{heard_by_steps, tally_in_range, field_with, taking_byte, position_now};
-ghost use Rattle.hearing.specs.Hearing.{lacks_first, heard_code, accepting, closes, settled};
+ghost use Rattle.hearing.specs.Hearing.{lacks_first, heard_code, accepting, closes, settled, whole_told, reach_told};
 ghost use Rattle.hearing.specs.Inside.{Sane};
 
-use crate::{FARTHEST, Reach, Tally};
+use crate::{FARTHEST, Reach, Stop, Tally};
 use packets::Form;
-use wire::codes;
+use wire::Refusal;
 
 // Whether a position is one that a capture can have, and steps lead there from the first of so many packets heard, one to each
 // other; where none is heard, whether it is 0.
@@ -62,11 +62,12 @@ pub(crate) fn take_byte(t: Tally, b: u8) -> Tally
     requires { t.came + 1 < 0x1_0000_0000_0000_0000 }
     ensures { result ≡ taking_byte t b }
 {
-    let mut next = t;
-    next.came = t.came + 1;
-    next.header = field_with(0, t.came, t.header, b);
-    next.number = field_with(2, t.came, t.number, b);
-    next
+    Tally {
+        came: t.came + 1,
+        header: field_with(0, t.came, t.header, b),
+        number: field_with(2, t.came, t.number, b),
+        ..t
+    }
 }
 
 // The position that the packet has.
@@ -90,31 +91,31 @@ fn lacks_first(t: Tally) -> bool
     t.heard == 0
 }
 
-// What the bytes taken come to, in a capture of a form: 0 waits for more.
-fn code_of(f: Form, t: Tally) -> u8
+// Whether the packet is whole and accepted, in a capture of a form, or more bytes are waited for; a refusal where it is
+// neither.
+fn is_whole(f: Form, t: Tally) -> Result<bool, Refusal>
     requires { t.position ≤ last }
-    ensures { result ≡ heard_code f t }
+    ensures { whole_told result ≡ heard_code f t }
 {
     if t.came < 2 {
-        return codes::WAITING;
+        return Ok(false);
     }
-    let now = packets::form_of_header(t.header);
-    if !packets::is_listed(now) {
-        return codes::NOT_A_PACKET;
+    let Some(now) = packets::form_of_header(t.header) else {
+        return Err(Refusal::NotAPacket);
+    };
+    if t.came < packets::total_of(now).unwrap() {
+        return Ok(false);
     }
-    if t.came < packets::total_of(now) {
-        return codes::WAITING;
-    }
-    if !packets::same_form(now, f) {
-        return codes::FORM_CHANGED;
+    if now != f {
+        return Err(Refusal::FormChanged);
     }
     if lacks_first(t) {
-        return codes::NO_FIRST_PACKET;
+        return Err(Refusal::NoFirstPacket);
     }
     if packets::LAST < position_now(t) {
-        return codes::PAST_LAST;
+        return Err(Refusal::PastLast);
     }
-    codes::DONE
+    Ok(true)
 }
 
 // The tally after an accepted packet.
@@ -122,27 +123,24 @@ pub(crate) fn accept(t: Tally) -> Tally
     requires { Sane 0 t × (0 < t.came) }
     ensures { result ≡ accepting t }
 {
-    let position = position_now(t);
-    let begins = t.begins + t.came;
-    if t.number == 0 {
-        return Tally {
-            begins,
-            came: 0,
-            header: 0,
-            number: 0,
-            captures: t.captures + 1,
-            heard: 1,
-            position,
-        };
-    }
-    Tally {
-        begins,
+    let next = Tally {
+        begins: t.begins + t.came,
         came: 0,
         header: 0,
         number: 0,
-        captures: t.captures,
+        position: position_now(t),
+        ..t
+    };
+    if t.number == 0 {
+        return Tally {
+            captures: t.captures + 1,
+            heard: 1,
+            ..next
+        };
+    }
+    Tally {
         heard: t.heard + 1,
-        position,
+        ..next
     }
 }
 
@@ -160,33 +158,34 @@ fn closes(t: Tally) -> bool
 // a line is due.
 pub(crate) fn settle(n: usize, f: Form, t: Tally) -> Reach
     requires { Sane 0 t × (0 < t.came) }
-    ensures { result ≡ settled n f t }
+    ensures { reach_told result ≡ settled n f t }
 {
-    let code = code_of(f, t);
-    if code == codes::WAITING {
-        return Reach {
-            at: n,
-            code: codes::WAITING,
-            tally: t,
-        };
-    }
-    if code == codes::DONE {
-        if closes(t) {
-            return Reach {
+    match is_whole(f, t) {
+        Ok(whole) => {
+            if !whole {
+                return Reach {
+                    at: n,
+                    stop: None,
+                    tally: t,
+                };
+            }
+            if closes(t) {
+                return Reach {
+                    at: n,
+                    stop: Some(Stop::CaptureEnds),
+                    tally: t,
+                };
+            }
+            Reach {
                 at: n,
-                code: codes::DONE,
-                tally: t,
-            };
+                stop: None,
+                tally: accept(t),
+            }
         }
-        return Reach {
+        Err(r) => Reach {
             at: n,
-            code: codes::WAITING,
-            tally: accept(t),
-        };
-    }
-    Reach {
-        at: n,
-        code,
-        tally: t,
+            stop: Some(Stop::Refused(r)),
+            tally: t,
+        },
     }
 }

@@ -1,15 +1,16 @@
 // A piece of the input at once: whole packets are taken in one go, and samples are skipped by count.
-ghost use Rattle.std.specs.Prelude.{◌≡◌, ◌+◌, ◌-◌, ◌≤◌, ◌<◌, true, length};
+ghost use Rattle.std.specs.Prelude.{◌≡◌, ◌+◌, ◌-◌, ◌≤◌, ◌<◌, true, length, IfSome};
+ghost use Rattle.wire.specs.Refusal.{code_of};
 ghost use Rattle.wire.specs.Codes as Code;
 ghost use Rattle.packets.specs.Forms.{listed_form};
 ghost use Rattle.packets.specs.Numbers.{last};
-ghost use Rattle.hearing.specs.Hearing.{next_tally, outcome, hearing_of};
+ghost use Rattle.hearing.specs.Hearing.{next_tally, hearing_of, hearing_code, reach_told, hearing_told};
 ghost use Rattle.hearing.specs.Inside.{Sane, Goes, Between, Follows, Samples, Hears, skipped, word_at};
 
 use crate::coming::{accept, in_range, settle, take_byte};
-use crate::{Outcome, Reach, Tally};
+use crate::{Outcome, Reach, Stop, Tally};
 use packets::Form;
-use wire::{codes, types};
+use wire::{Refusal, types};
 
 // ---- whole packets in one go
 
@@ -38,66 +39,68 @@ fn word_at(s: &[u8], at: usize) -> u32
 }
 
 // The position of the packet that begins at a place of the piece, where it is whole, has this header and a number above
-// 0, and its position is allowed; else 0.
-fn follow(piece: &[u8], at: usize, header: u32, total: usize, before: u16, position: u64) -> u64
+// 0, and its position is allowed.
+fn follow(
+    piece: &[u8],
+    at: usize,
+    header: u32,
+    total: usize,
+    before: u16,
+    position: u64,
+) -> Option<u64>
     requires { (at ≤ length piece.now) × (4 ≤ total) × (position ≤ last) }
-    ensures { 0 < result → Follows piece.now at header total before position result }
+    ensures { IfSome result (λ q. Follows piece.now at header total before position q) }
 {
     if piece.len() - at < total {
-        return 0;
+        return None;
     }
     let front = word_at(piece, at);
     if front % 65536 != header {
-        return 0;
+        return None;
     }
     let number = (front / 65536) as u16;
     if number == 0 {
-        return 0;
+        return None;
     }
     let next = position + packets::step(before, number);
     if packets::LAST < next {
-        return 0;
+        return None;
     }
-    next
+    Some(next)
 }
 
 // Takes whole packets of the capture's form, as long as they follow in the open capture and no line is due.
 fn whole_packets(f: Form, t: Tally, piece: &[u8], from: usize) -> Reach
     requires { (listed_form f ≡ true) × (from ≤ length piece.now) × Sane (length piece.now - from) t }
-    ensures { Goes f t piece.now from result × (from ≤ result.at) }
+    ensures { Goes f t piece.now from (reach_told result) × (from ≤ result.at) }
 {
     if !is_between(t) {
         return Reach {
             at: from,
-            code: codes::WAITING,
+            stop: None,
             tally: t,
         };
     }
-    let total = packets::total_of(f) as usize;
+    let total = packets::total_of(f).unwrap() as usize;
     let header = wire::header_of(types::DATA, total as u16) as u32;
     let mut at = from;
     let mut heard = t.heard;
     let mut position = t.position;
     let mut before = packets::number_at_position(position);
-    let mut next = follow(piece, at, header, total, before, position);
-    while 0 < next {
+    while let Some(next) = follow(piece, at, header, total, before, position) {
         position = next;
         before = (word_at(piece, at) / 65536) as u16;
         heard += 1;
         at += total;
-        next = follow(piece, at, header, total, before, position);
     }
     Reach {
         at,
-        code: codes::WAITING,
+        stop: None,
         tally: Tally {
             begins: t.begins + (at - from) as u64,
-            came: 0,
-            header: 0,
-            number: 0,
-            captures: t.captures,
             heard,
             position,
+            ..t
         },
     }
 }
@@ -111,30 +114,30 @@ fn skippable(t: Tally, rest: usize) -> usize
     if t.came < 4 {
         return 0;
     }
-    let total = packets::total_of(packets::form_of_header(t.header));
+    let Some(form) = packets::form_of_header(t.header) else {
+        return 0;
+    };
+    let total = packets::total_of(form).unwrap();
     if total <= t.came {
         return 0;
     }
-    let left = (total - 1 - t.came) as usize;
-    if rest < left {
-        return rest;
-    }
-    left
+    rest.min((total - 1 - t.came) as usize)
 }
 
 fn skip(t: Tally, k: usize) -> Tally
     requires { t.came + k < 0x1_0000_0000_0000_0000 }
     ensures { result ≡ skipped t k }
 {
-    let mut next = t;
-    next.came = t.came + k as u64;
-    next
+    Tally {
+        came: t.came + k as u64,
+        ..t
+    }
 }
 
 // Takes some of a piece from a place on: whole packets, or samples, or one byte.
 fn hear_some(f: Form, t: Tally, piece: &[u8], at: usize) -> Reach
     requires { (listed_form f ≡ true) × (at < length piece.now) × Sane (length piece.now - at) t }
-    ensures { Goes f t piece.now at result × (at < result.at) }
+    ensures { Goes f t piece.now at (reach_told result) × (at < result.at) }
 {
     let r = whole_packets(f, t, piece, at);
     if at < r.at {
@@ -144,23 +147,23 @@ fn hear_some(f: Form, t: Tally, piece: &[u8], at: usize) -> Reach
     if 0 < k {
         return Reach {
             at: at + k,
-            code: codes::WAITING,
+            stop: None,
             tally: skip(t, k),
         };
     }
     settle(at + 1, f, take_byte(t, piece[at]))
 }
 
-// Takes a piece, until a line is due or the piece is used up.
+// Takes a piece, until a line is due or the piece is used up. The place moves by what was taken, and is told in the end (`Hears`).
 fn hear_all(f: Form, t: Tally, piece: &[u8]) -> Reach
     requires { (listed_form f ≡ true) × Sane (length piece.now) t }
-    ensures { Hears f t piece.now result }
+    ensures { Hears f t piece.now (reach_told result) }
 {
     let mut at = 0;
     let mut now = t;
     while at < piece.len() {
         let r = hear_some(f, now, piece, at);
-        if r.code != codes::WAITING {
+        if r.stop.is_some() {
             return r;
         }
         at = r.at;
@@ -169,51 +172,41 @@ fn hear_all(f: Form, t: Tally, piece: &[u8]) -> Reach
     }
     Reach {
         at,
-        code: codes::WAITING,
+        stop: None,
         tally: now,
     }
 }
 
 // The tally with which hearing goes on from what was reached.
 fn next_tally(r: Reach) -> Tally
-    requires { r.code ≡ Code.done → Sane 0 r.tally × (0 < r.tally.came) }
-    ensures { result ≡ next_tally r }
+    requires { (reach_told r).code ≡ Code.done → Sane 0 r.tally × (0 < r.tally.came) }
+    ensures { result ≡ next_tally (reach_told r) }
 {
-    if r.code == codes::DONE {
-        return accept(r.tally);
-    }
-    r.tally
-}
-
-// What a broken tally or a form that is not listed answers.
-fn broken(t: Tally) -> Outcome
-    ensures { result ≡ outcome (record { at = 0; code = Code.broken; tally = t }) }
-{
-    Outcome {
-        reach: Reach {
-            at: 0,
-            code: codes::BROKEN,
-            tally: t,
-        },
-        next: t,
+    let Some(stop) = r.stop else {
+        return r.tally;
+    };
+    match stop {
+        Stop::CaptureEnds => accept(r.tally),
+        Stop::Refused(_) => r.tally,
     }
 }
 
-// Takes a piece of a capture of a form, until a line is due or the piece is used up. Code 0: the piece is used up; 1: the
-// open capture ends with a packet numbered 0; 30, 32, 31, 33: a packet is refused. Nothing happens with 21, where the
-// tally is broken or the form is not listed.
-pub fn hear(f: Form, t: Tally, piece: &[u8]) -> Outcome
-    ensures { result ≡ hearing_of f t piece.now }
+// Takes a piece of a capture of a form, until a line is due or the piece is used up. It stops where the open capture ends with a
+// packet numbered 0, and where a packet is refused, with 30, 32, 31 or 33. It refuses with 21 a tally that is broken and a form that
+// is not listed; nothing happens then.
+pub fn hear(f: Form, t: Tally, piece: &[u8]) -> Result<Outcome, Refusal>
+    ensures heard { hearing_told t result ≡ hearing_of f t piece.now }
+    ensures code { code_of result ≡ hearing_code f t }
 {
     if !in_range(t) {
-        return broken(t);
+        return Err(Refusal::Broken);
     }
     if !packets::is_listed(f) {
-        return broken(t);
+        return Err(Refusal::Broken);
     }
     let reach = hear_all(f, t, piece);
-    Outcome {
+    Ok(Outcome {
         reach,
         next: next_tally(reach),
-    }
+    })
 }

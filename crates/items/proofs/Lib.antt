@@ -11,3 +11,4 @@ pub mod Behind
 pub mod Channels
 pub mod Touching
 pub mod EitherOrder
+pub mod Says

@@ -1,17 +1,18 @@
 -- The lines of the table of items: what is no line's code or kind is refused, and the enum's cases stay apart.
 use Prim.Native.Nat.{ℕ}
-use mathlib.Core.Path.{◌≡◌, refl}
+use mathlib.Core.Path.{◌≡◌, refl, ap}
 use mathlib.Core.Bool.{Bool, true, false, not}
-use mathlib.Core.List.{[]}
+use mathlib.Core.List.{List, [], ◌∷◌}
 use lib.Dec.{eqb}
 use lib.ListN.{get_or}
 use borrow.Author.Tests.{ne_eqb}
 use Rattle.wire.specs.Choice.{pick, first_of}
 use Rattle.wire.specs.Told.{Told, tells}
 use Rattle.wire.proofs.Laws.{pick_same}
-use Rattle.wire.proofs.Firm.{one_by}
-use Rattle.items.specs.declared.Expected.{Expected}
-use Rattle.items.specs.declared.Expected.TheVariants.{Total, Unlisted, NotOffered}
+use Rattle.std.proofs.Common.{Result}
+use Rattle.wire.specs.declared.refusal.Refusal.{Refusal}
+use Rattle.wire.proofs.Firm.{OneEach}
+use Rattle.wire.proofs.Refusals.{told_one as wire_told_one}
 use Rattle.items.specs.Items.{Offer, total, dash, listed_item, row_of}
 use Rattle.items.specs.Table.{expected_says, offer_told, table_told, table_checks, offered, offer_for, is_dash, is_total}
 
@@ -47,16 +48,9 @@ code_by_lem item kind size = go (listed_item item) (offered (row_of item) kind)
     go true (total n) = by (eqb size n)
     go true dash = refl
 
--- the case that tells so
-back : Told → Expected
-back t = pick (eqb t.code 1) (Total (get_or t.values 0 0)) (pick (eqb t.code 12) Unlisted NotOffered)
-
-back_told : (e : Expected) → back (expected_says e) ≡ e
-unfolding back
-back_told (Total n) = refl
-back_told Unlisted = refl
-back_told NotOffered = refl
-
--- two cases of the enum that tell the same are the same
-pub told_one : (e f : Expected) → expected_says e ≡ expected_says f → e ≡ f
-told_one = one_by expected_says back back_told
+-- two answers that tell the same are the same
+pub told_one : (e f : Result ℕ Refusal) → expected_says e ≡ expected_says f → e ≡ f
+told_one = wire_told_one (λ n. n ∷ []) length_one
+  where
+    length_one : OneEach (λ (n : ℕ). n ∷ [])
+    length_one m n e = ap (λ (l : List ℕ). get_or l 0 0) e

@@ -7,6 +7,9 @@ use native.Mathlib.Omega.{arith}
 use native.Mathlib.Numerals.{add-one}
 use lib.ListN.{length, get_or, drop, drop_of_length-le}
 use lib.Seq.{drop-cons}
+use native.Mathlib.Nat.{div-div-eq-div-mul}
+use Rattle.std.specs.Int.{to_le_bytes, w64}
+use Rattle.wire.specs.Number.{bytes}
 use Rattle.items.specs.Settings.{is_serial_byte, all_serial}
 
 -- one byte more is tested
@@ -36,3 +39,7 @@ eight l h =
       at 7 (omega arith),
       drop_of_length-le l {i = 8} (omega arith),
     ) refl)
+
+-- the library's eight bytes of a number
+pub le_bytes : (n : ℕ) → to_le_bytes w64 n ≡ bytes 8 n
+le_bytes n = simp div-div-eq-div-mul

@@ -7,7 +7,6 @@ use Rattle.wire.specs.Number.{bytes, field}
 use Rattle.wire.specs.Header.{header_of, type_set, type_range, type_reply, type_range_reply}
 use Rattle.tuning.specs.Bands.{bands, range_bytes}
 use Rattle.items.specs.declared.Settings.{Settings}
-use Rattle.items.specs.declared.Judged.{Judged}
 use Rattle.items.specs.Settings.{open_channels, covers, channel_shown}
 use Rattle.items.specs.Items.{Echoed, no_byte, an_id, any_channel, a_channel, echoes, Item, row_of}
 use Rattle.items.specs.Header.{header_checks}
@@ -80,6 +79,11 @@ code_of s m = first_of (checks s m) Code.done
 -- the settings after it: an accepted set stores, everything else leaves every setting
 unfoldable pub settings_after : Settings → Message → Settings
 settings_after s m = pick (eqb (code_of s m) Code.done && eqb m.type type_set) ((row m).rule.stored s (parameters m)) s
+
+-- what becomes of one message: its code, and the settings after it
+pub record Judged : Type 0 where
+  pub code : ℕ
+  pub settings : Settings
 
 -- both
 abbrev pub judged_of : Settings → Message → Judged

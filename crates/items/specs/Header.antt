@@ -1,8 +1,10 @@
 -- What the header of a finished message decides: its type, its length as the header has it, and, in an acknowledgement,
 -- the item that its third byte names.
-use Rattle.std.specs.Prelude.{ℕ, Bool, ◌&&◌, ◌||◌, not, List, [], ◌∷◌, eqb, leb, ltb}
+use Rattle.std.specs.Prelude.{ℕ, Bool, true, false, Result, Ok, Err, ◌&&◌, ◌||◌, not, List, [], ◌∷◌, eqb, leb, ltb}
 use Rattle.wire.specs.Choice.{Check, check}
 use Rattle.wire.specs.Codes as Code
+use Rattle.wire.specs.Refusal.{refusal_code}
+use Rattle.wire.specs.declared.refusal.Refusal.{Refusal}
 use Rattle.wire.specs.Header.{type_set, type_acknowledgement, type_data}
 
 -- "acknowledgements of length 3 naming item 0 to 3"
@@ -34,3 +36,9 @@ header_checks type size named =
     ∷ check Code.no_reply_due (unanswered type size named)
     ∷ check Code.too_long (too_long type size)
     ∷ []
+
+-- What the header decides, in the numbers of "What comes back": 1 and 2, a reply is due or is not, or its refusal.
+abbrev pub due_says : Result Bool Refusal → ℕ
+due_says (Ok true) = Code.done
+due_says (Ok false) = Code.no_reply_due
+due_says (Err r) = refusal_code r

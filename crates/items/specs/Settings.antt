@@ -1,7 +1,9 @@
 -- The settings of a box: their ranges, a fresh box, and one setting changed.
-use Rattle.std.specs.Prelude.{ℕ, ◌^◌, Bool, true, false, ◌&&◌, ◌||◌, List, [], ◌∷◌, map, leb, ltb, eqb, length, replicate, ℤ, pos}
+use Rattle.std.specs.Prelude.{ℕ, ◌^◌, Bool, true, false, ◌&&◌, ◌||◌, List, [], ◌∷◌, map, leb, ltb, eqb, length, replicate, ℤ, pos, Option, None, Some}
 use Rattle.wire.specs.Choice.{pick, one_of, within}
 use Rattle.wire.specs.Codes as Code
+use Rattle.wire.specs.Refusal.{refusal_code}
+use Rattle.wire.specs.declared.refusal.Refusal.{Refusal}
 use Rattle.wire.specs.Number.{bytes}
 use Rattle.wire.specs.Signed.{coded, minus}
 use Rattle.rates.specs.Rate.{is_d}
@@ -10,7 +12,7 @@ use Rattle.tuning.specs.Word.{is_clock, word_of, word_kept}
 use Rattle.packets.specs.Numbers.{most}
 use Rattle.items.specs.declared.Channel.{Channel}
 use Rattle.items.specs.declared.Settings.{Settings}
-use Rattle.items.specs.declared.FreshSettings.{FreshSettings}
+use Rattle.items.specs.declared.Begun.{Begun}
 
 -- RF gain: "signed byte 0, -10, -20 or -30"
 abbrev pub gains : List ℤ
@@ -91,11 +93,24 @@ fresh_of serial =
       serial = serial;
     }
 
+-- a fresh box: the code of starting it, and its settings
+pub record FreshSettings : Type 0 where
+  pub code : ℕ
+  pub settings : Settings
+
 -- "serial not eight of A-Z, 0-9": 26, and "the fresh box has serial 00000000"
 abbrev pub fresh_answer : List ℕ → FreshSettings
 fresh_answer serial =
     pick (is_serial serial) (record { code = Code.done; settings = fresh_of serial })
     (record { code = Code.not_a_serial; settings = fresh_of (replicate 8 0x30) })
+
+-- The same of what the code answers with: 1, or the number of the serial's refusal.
+abbrev pub serial_code : Option Refusal → ℕ
+serial_code None = Code.done
+serial_code (Some r) = refusal_code r
+
+abbrev pub fresh_says : Begun Settings → FreshSettings
+fresh_says f = record { code = serial_code f.refused; settings = f.made }
 
 -- ---- one setting changed
 

@@ -1,11 +1,11 @@
 -- What the table of items says of an item and a kind. "Lengths are totals; a dash means not offered (14)."
-use Rattle.std.specs.Prelude.{ℕ, Bool, true, false, not, List, [], ◌∷◌, eqb}
+use Rattle.std.specs.Prelude.{ℕ, Bool, true, false, not, Result, List, [], ◌∷◌, eqb}
 use Rattle.wire.specs.Choice.{pick, Check, check}
 use Rattle.wire.specs.Codes as Code
 use Rattle.wire.specs.Told.{Told, tells}
+use Rattle.wire.specs.Refusal.{told}
+use Rattle.wire.specs.declared.refusal.Refusal.{Refusal}
 use Rattle.wire.specs.Header.{type_set, type_request, type_range}
-use Rattle.items.specs.declared.Expected.{Expected}
-use Rattle.items.specs.declared.Expected.TheVariants.{Total, Unlisted, NotOffered}
 use Rattle.items.specs.Items.{Offer, total, dash, Item, listed_item, row_of}
 
 -- of a line's set, request and range the one for a kind; no other kind is offered
@@ -26,11 +26,9 @@ offer_told dash = tells Code.not_offered []
 abbrev pub table_told : ℕ → ℕ → Told
 table_told item kind = pick (listed_item item) (offer_told (offered (row_of item) kind)) (tells Code.not_listed [])
 
--- The same of the enum that the code answers with: the number and the value of each of its cases.
-abbrev pub expected_says : Expected → Told
-expected_says (Total n) = tells Code.done (n ∷ [])
-expected_says Unlisted = tells Code.not_listed []
-expected_says NotOffered = tells Code.not_offered []
+-- The same of what the code answers with: its number, and the length where it has one.
+abbrev pub expected_says : Result ℕ Refusal → Told
+expected_says = told (λ n. n ∷ [])
 
 abbrev pub is_dash : Offer → Bool
 is_dash (total n) = false

@@ -1,6 +1,9 @@
 // Items of document 01: the settings of a box, the table of items, and what a header alone decides.
 #![tactic(auto)]
 
+ghost use Rattle.std.specs.Prelude.{◌≡◌};
+ghost use Rattle.items.specs.Settings.{serial_code};
+
 pub mod header; // header.rt: what the header of a message decides
 mod range_reply; // range_reply.rt: the range reply
 pub mod ranges; // ranges.rt: a fresh box, and which settings are within their ranges
@@ -9,6 +12,7 @@ pub mod values; // values.rt: the values that the table gives
 
 pub use range_reply::put_range_reply;
 pub use ranges::{fresh, in_range};
+use wire::{Refusal, codes};
 
 // A tuning channel. Gain and packet size have 32 bits where eight would do, and 0019's value 16: so no odd number of bytes is
 // left over in a box, which the compiler would copy one by one with each message (docs/BENCHMARKS.md).
@@ -45,26 +49,21 @@ pub struct Settings {
     pub serial: [u8; 8],
 }
 
-// A fresh box: the code of starting it, and its settings.
+// What was made of a serial, the settings of a fresh box or the box, and why the serial was refused, where it was.
 #[derive(Clone, Copy)]
-pub struct FreshSettings {
-    pub code: u8,
-    pub settings: Settings,
+pub struct Begun<T: Copy> {
+    pub refused: Option<Refusal>,
+    pub made: T,
 }
 
-// What becomes of one message: its code, and the settings after it.
-#[derive(Clone, Copy)]
-pub struct Judged {
-    pub code: u8,
-    pub settings: Settings,
-}
-
-// The total length that the table of items gives for an item and a kind, or the refusal.
-#[derive(Clone, Copy)]
-pub enum Expected {
-    Total(u16),
-    // the item is not in the list
-    Unlisted,
-    // item known, this kind not offered
-    NotOffered,
+impl<T: Copy> Begun<T> {
+    // The code of what was made.
+    pub fn code(&self) -> u8
+        ensures { result ≡ serial_code self.now.refused }
+    {
+        match self.refused {
+            None => codes::DONE,
+            Some(refusal) => u8::from(refusal),
+        }
+    }
 }

@@ -12,16 +12,16 @@ use wire::types;
 // Header and item code of two bytes each, the channel byte, the count of bands, and the bands.
 const LENGTH: usize = 36;
 
-// Writes the range reply for a channel byte at the start of the slice, and says how long it is; or nothing and 0, where it
-// does not fit. "The range reply gives channel, 02, then minimum, maximum, oscillator of each in five bytes."
-pub fn put_range_reply(dst: &mut [u8], channel: u8) -> usize
-    ensures { (result ≡ pick (ltb (length dst.old) 36) 0 36)
+// Writes the range reply for a channel byte at the start of the slice, and says how long it is; or nothing, where it does
+// not fit. "The range reply gives channel, 02, then minimum, maximum, oscillator of each in five bytes."
+pub fn put_range_reply(dst: &mut [u8], channel: u8) -> Option<usize>
+    ensures { (result ≡ pick (ltb (length dst.old) 36) None (Some 36))
         × (dst.new
         ≡ sets dst.old 0
         (pick (ltb (length dst.old) 36) [] (framed type_range_reply (range_body frequency (channel ∷ []))))) }
 {
     if dst.len() < LENGTH {
-        return 0;
+        return None;
     }
     let header = wire::header_of(types::RANGE_REPLY, LENGTH as u16);
     wire::put(dst, 0, 2, header as u64);
@@ -29,5 +29,5 @@ pub fn put_range_reply(dst: &mut [u8], channel: u8) -> usize
     dst[4] = channel;
     dst[5] = 0x02;
     tuning::put_range(dst, 6);
-    LENGTH
+    Some(LENGTH)
 }

@@ -1,10 +1,10 @@
 // The settings' ranges: "A box with a field outside these rules is broken (21)."
 ghost use Rattle.std.specs.Prelude.{◌≡◌, length};
-ghost use Rattle.items.specs.Settings.{in_range, fresh_of, fresh_answer, is_mode, is_gain, is_size, is_setup};
+ghost use Rattle.items.specs.Settings.{in_range, fresh_of, fresh_answer, fresh_says, is_mode, is_gain, is_size, is_setup};
 ghost use Rattle.items.specs.Settings.{is_serial_byte, all_serial, holds_serial};
 
-use crate::{Channel, FreshSettings, Settings};
-use wire::codes;
+use crate::{Begun, Channel, Settings};
+use wire::Refusal;
 
 // 0019: "values 0 (single, the fresh value) and 4 (two channels, one converter)".
 pub const SINGLE: u16 = 0;
@@ -33,28 +33,19 @@ pub fn in_range(s: Settings) -> bool
         & is_mode(s.mode)
 }
 
-// A fresh box with a serial: 1, or 26 and the serial 00000000 where these are not eight of A-Z, 0-9.
-pub fn fresh(serial: &[u8]) -> FreshSettings
-    ensures { result ≡ fresh_answer serial.now }
+// A fresh box with a serial; with serial 00000000 where the serial is refused, which is not eight of A-Z, 0-9.
+pub fn fresh(serial: &[u8]) -> Begun<Settings>
+    ensures { fresh_says result ≡ fresh_answer serial.now }
 {
-    if serial.len() != 8 {
-        return FreshSettings {
-            code: codes::NOT_A_SERIAL,
-            settings: started([b'0'; 8]),
-        };
-    }
-    let own = [
-        serial[0], serial[1], serial[2], serial[3], serial[4], serial[5], serial[6], serial[7],
-    ];
-    if !all_serial(&own) {
-        return FreshSettings {
-            code: codes::NOT_A_SERIAL,
-            settings: started([b'0'; 8]),
-        };
-    }
-    FreshSettings {
-        code: codes::DONE,
-        settings: started(own),
+    match <[u8; 8]>::try_from(serial) {
+        Ok(own) if all_serial(&own) => Begun {
+            refused: None,
+            made: started(own),
+        },
+        _ => Begun {
+            refused: Some(Refusal::NotASerial),
+            made: started([b'0'; 8]),
+        },
     }
 }
 
@@ -88,10 +79,8 @@ fn all_serial(serial: &[u8; 8]) -> bool
     ensures { result ≡ all_serial serial.now }
 {
     let mut all = true;
-    let mut i = 0;
-    while i < 8 {
-        all = all & is_serial_byte(serial[i]);
-        i += 1;
+    for byte in serial {
+        all &= is_serial_byte(*byte);
     }
     all
 }
@@ -134,21 +123,7 @@ pub fn is_setup(byte: u16) -> bool
 pub fn is_serial(n: u64) -> bool
     ensures { result ≡ holds_serial n }
 {
-    let second = n / 256;
-    let third = second / 256;
-    let fourth = third / 256;
-    let fifth = fourth / 256;
-    let sixth = fifth / 256;
-    let seventh = sixth / 256;
-    let eighth = seventh / 256;
-    is_serial_byte((n % 256) as u8)
-        & is_serial_byte((second % 256) as u8)
-        & is_serial_byte((third % 256) as u8)
-        & is_serial_byte((fourth % 256) as u8)
-        & is_serial_byte((fifth % 256) as u8)
-        & is_serial_byte((sixth % 256) as u8)
-        & is_serial_byte((seventh % 256) as u8)
-        & is_serial_byte((eighth % 256) as u8)
+    all_serial(&n.to_le_bytes())
 }
 
 // A character of a serial: A-Z, 0-9.

@@ -2,13 +2,13 @@
 ghost use Rattle.std.specs.Prelude.{◌≡◌};
 ghost use Rattle.wire.specs.Choice.{first_of};
 ghost use Rattle.wire.specs.Codes as Code;
+ghost use Rattle.wire.specs.Refusal.{code_of};
 ghost use Rattle.items.specs.Items.{total, dash};
 ghost use Rattle.items.specs.Table.{expected_says, offer_told, table_told, table_checks, offer_for};
 
-use crate::Expected;
-use wire::{codes, types};
+use wire::{Refusal, types};
 
-// The item codes, in the table's order.
+// The item codes, in the table's order. They stay numbers: `expected`, `judge` and `item_in` promise an answer for each of 16 bits.
 pub const NAME: u16 = 0x0001;
 
 pub const SERIAL: u16 = 0x0002;
@@ -33,8 +33,9 @@ pub const RATE: u16 = 0x00B8;
 
 pub const PACKET_SIZE: u16 = 0x00C4;
 
-// The length that an item has for a kind, or the refusal: 12 for an item not in the list, 14 for a dash.
-pub fn expected(item: u16, kind: u8) -> Expected
+// The length that an item has for a kind; or that the item is not in the list, or the kind not offered.
+#[tactic(auto, unfolding(crate::specs::Items::listed_item, crate::specs::Items::row_of))]
+pub fn expected(item: u16, kind: u8) -> Result<u16, Refusal>
     ensures { expected_says result ≡ table_told item kind }
 {
     match item {
@@ -46,52 +47,46 @@ pub fn expected(item: u16, kind: u8) -> Expected
         STATE => set_or_asked(kind, 8, 4),
         CHANNEL_SETUP => set_or_asked(kind, 5, 4),
         FREQUENCY => match kind {
-            types::SET => Expected::Total(10),
-            types::REQUEST => Expected::Total(5),
-            types::RANGE => Expected::Total(5),
-            _ => Expected::NotOffered,
+            types::SET => Ok(10),
+            types::REQUEST => Ok(5),
+            types::RANGE => Ok(5),
+            _ => Err(Refusal::NotOffered),
         },
         GAIN => set_or_asked(kind, 6, 5),
         CLOCK => set_or_asked(kind, 9, 5),
         RATE => set_or_asked(kind, 9, 5),
         PACKET_SIZE => set_or_asked(kind, 5, 4),
-        _ => Expected::Unlisted,
+        _ => Err(Refusal::NotListed),
     }
 }
 
 // The line of an item that can only be requested.
-fn asked(kind: u8, request: u16) -> Expected
+fn asked(kind: u8, request: u16) -> Result<u16, Refusal>
     ensures { expected_says result ≡ offer_told (offer_for dash (total request) dash kind) }
 {
     match kind {
-        types::REQUEST => Expected::Total(request),
-        _ => Expected::NotOffered,
+        types::REQUEST => Ok(request),
+        _ => Err(Refusal::NotOffered),
     }
 }
 
 // The line of an item that can be set and requested.
-fn set_or_asked(kind: u8, setting: u16, request: u16) -> Expected
+fn set_or_asked(kind: u8, setting: u16, request: u16) -> Result<u16, Refusal>
     ensures { expected_says result ≡ offer_told (offer_for (total setting) (total request) dash kind) }
 {
     match kind {
-        types::SET => Expected::Total(setting),
-        types::REQUEST => Expected::Total(request),
-        _ => Expected::NotOffered,
+        types::SET => Ok(setting),
+        types::REQUEST => Ok(request),
+        _ => Err(Refusal::NotOffered),
     }
 }
 
-// The code of a message whose item, kind and length the table is asked for: 12, 14, 13, or 1 where it has them.
-pub fn listed_code(item: u16, kind: u8, size: u16) -> u8
-    ensures { result ≡ first_of (table_checks item kind size) Code.done }
+// A message whose item, kind and length the table has; or why not.
+pub fn listed(item: u16, kind: u8, size: u16) -> Result<(), Refusal>
+    ensures { code_of result ≡ first_of (table_checks item kind size) Code.done }
 {
-    match expected(item, kind) {
-        Expected::Unlisted => codes::NOT_LISTED,
-        Expected::NotOffered => codes::NOT_OFFERED,
-        Expected::Total(length) => {
-            if size == length {
-                return codes::DONE;
-            }
-            codes::WRONG_LENGTH
-        }
+    if size != expected(item, kind)? {
+        return Err(Refusal::WrongLength);
     }
+    Ok(())
 }

@@ -4,15 +4,12 @@ use items::values;
 use replies::Reply;
 use station::Station;
 use std::io::Stdout;
-use wishes::{StateFields, Wish, Written};
-
-fn wide(gain: i8) -> i32 {
-    gain as i32
-}
+use wire::Refusal;
+use wishes::{StateFields, Wish};
 
 fn say_gain(out: Stdout, gain: i8) {
     say(out, b"Gain");
-    say_signed(out, wide(gain));
+    say_signed(out, i32::from(gain));
 }
 
 // Run byte and mode: idle keeps the mode.
@@ -38,30 +35,38 @@ fn say_reply(out: Stdout, reply: Reply) {
         Reply::Clock(hz) => say_number(out, b"Clock", hz as u64),
         Reply::Rate(hz) => say_number(out, b"Rate", hz as u64),
         Reply::PacketSize(n) => say_number(out, b"PacketSize", n as u64),
-        Reply::ChannelNotAllowed => say(out, b"channel not allowed"),
-        Reply::NotAllowed => say(out, b"not allowed"),
-        Reply::NotAReply => say(out, b"not a reply"),
     }
 }
 
 // Reads the n bytes that came as the reply to a wish.
 fn hear(out: Stdout, w: Wish, came: &[u8], n: usize) {
-    say_reply(out, replies::read(w, first(came, n)));
+    match replies::read(w, first(came, n)) {
+        Ok(reply) => say_reply(out, reply),
+        Err(Refusal::ChannelNotAllowed) => say(out, b"channel not allowed"),
+        Err(Refusal::ValueNotAllowed) => say(out, b"not allowed"),
+        Err(_) => say(out, b"not a reply"),
+    }
 }
 
 // Feeds the first n bytes of a message to the box, and reads what comes back.
 fn send(out: Stdout, s: Station, w: Wish, message: &[u8], n: usize) -> Station {
     let mut reply = [0u8; 64];
-    let fed = station::feed(s, first(message, n), &mut reply);
-    hear(out, w, &reply, fed.wrote);
-    fed.station
+    match station::feed(s, first(message, n), &mut reply) {
+        Ok(fed) => {
+            hear(out, w, &reply, fed.wrote);
+            fed.left
+        }
+        Err(_) => {
+            hear(out, w, &reply, 0);
+            s
+        }
+    }
 }
 
 // Writes a wish, or tells that the writer refuses it, and sends it.
 fn write_and_send(out: Stdout, s: Station, w: Wish) -> Station {
     let mut message = [0u8; 16];
-    let written = wishes::write(w, &mut message);
-    if let Written::Message(n) = written {
+    if let Ok(n) = wishes::write(w, &mut message) {
         return send(out, s, w, &message, n);
     }
     say(out, b"not sent");

@@ -5,11 +5,11 @@ use crate::saying::{first, say, say_number, say_signed};
 use cutting::Cut;
 use heads::Head;
 use items::Settings;
-use reader::Reader;
+use reader::{Heard, Reader};
 use spans::Span;
 use station::Station;
 use std::io::Stdout;
-use wire::codes;
+use wire::Refusal;
 use wishes::Wish;
 
 // The box, and the harvester's two readers of what it sends.
@@ -41,38 +41,27 @@ fn size_byte(settings: Settings) -> u8 {
 
 // How many numbers a packet of the box holds, I and Q in turn.
 fn numbers_of(settings: Settings) -> usize {
-    let form = packets::form_for(settings.mode, size_byte(settings));
-    if 256 < form.pairs {
-        return 0;
+    match packets::form_for(settings.mode, size_byte(settings)) {
+        Some(form) if form.pairs <= 256 => 2 * form.pairs as usize,
+        _ => 0,
     }
-    2 * form.pairs as usize
 }
 
 // The signal of the packet at position p.
 fn fill(samples: &mut [i32; 512], p: u32) {
-    let mut i = 0;
-    while i < 512 {
+    for i in 0..512 {
         samples[i] = signal(p, i as u32);
-        i += 1;
     }
-}
-
-// The first n samples, or all where there are fewer.
-fn first_samples(samples: &[i32], n: usize) -> &[i32] {
-    if samples.len() < n {
-        return samples;
-    }
-    &samples[..n]
 }
 
 // Cuts the next packet, from as many samples as it holds.
-fn cut_first(s: Station, samples: &[i32; 512], packet: &mut [u8]) -> Cut {
+fn cut_first(s: Station, samples: &[i32; 512], packet: &mut [u8]) -> Result<Cut<Station>, Refusal> {
     let n = numbers_of(s.settings);
-    cutting::cut_packet(s, first_samples(samples, n), packet)
+    cutting::cut_packet(s, first(samples, n), packet)
 }
 
 // Cuts the packet at position p.
-fn cut(s: Station, p: u32, packet: &mut [u8]) -> Cut {
+fn cut(s: Station, p: u32, packet: &mut [u8]) -> Result<Cut<Station>, Refusal> {
     let mut samples = [0i32; 512];
     fill(&mut samples, p);
     cut_first(s, &samples, packet)
@@ -93,8 +82,7 @@ fn say_first(out: Stdout, numbers: &[i32], channels: u8) {
 // The first numbers that a packet of so many channels unpacks to.
 fn say_numbers(out: Stdout, packet: &[u8], channels: u8) {
     let mut numbers = [0i32; 512];
-    let unpacked = reader::unpack(packet, &mut numbers);
-    if unpacked.code == codes::DONE {
+    if reader::unpack(packet, &mut numbers).is_ok() {
         say_first(out, &numbers, channels);
     }
 }
@@ -102,15 +90,26 @@ fn say_numbers(out: Stdout, packet: &[u8], channels: u8) {
 // Hands bytes of the capture to the span, and prints the lines that are due.
 fn measure(out: Stdout, s: Span, piece: &[u8]) -> Span {
     let mut lines = [0u8; 256];
-    let eaten = spans::eat(s, piece, &mut lines);
-    say(out, first(&lines, eaten.wrote));
-    eaten.span
+    match spans::eat(s, piece, &mut lines) {
+        Ok(eaten) => {
+            say(out, first(&lines, eaten.wrote));
+            eaten.span
+        }
+        Err(_) => s,
+    }
 }
 
 // Reads a packet that was heard, and tells its number, its position, its first sample's position, how many were missed just
 // before it and in all, and its first numbers.
 fn read_packet(out: Stdout, r: Reader, packet: &[u8]) -> Reader {
-    let heard = reader::read(r, packet);
+    // what is refused is told with zeros
+    let heard = reader::read(r, packet).unwrap_or(Heard {
+        position: 0,
+        sample: 0,
+        missed: 0,
+        total: 0,
+        reader: r,
+    });
     say_number(out, b"number", packets::number_in(packet) as u64);
     say_number(out, b" position", heard.position);
     say_number(out, b" sample", heard.sample);
@@ -137,8 +136,10 @@ fn hear(out: Stdout, night: Night, packet: &[u8], n: usize) -> Night {
 // The packet at position p is cut, and heard or lost.
 fn next(out: Stdout, night: Night, p: u32) -> Night {
     let mut packet = [0u8; 1444];
-    let cut = cut(night.station, p, &mut packet);
-    let station = cut.station;
+    let (station, wrote) = match cut(night.station, p, &mut packet) {
+        Ok(cut) => (cut.left, cut.wrote),
+        Err(_) => (night.station, 0),
+    };
     let reader = night.reader;
     let span = night.span;
     let after = Night {
@@ -147,7 +148,7 @@ fn next(out: Stdout, night: Night, p: u32) -> Night {
         span,
     };
     if is_heard(p) {
-        return hear(out, after, &packet, cut.wrote);
+        return hear(out, after, &packet, wrote);
     }
     after
 }
@@ -155,10 +156,8 @@ fn next(out: Stdout, night: Night, p: u32) -> Night {
 // As many packets as are asked for.
 fn packets_of(out: Stdout, night: Night, count: u32) -> Night {
     let mut after = night;
-    let mut p = 0;
-    while p < count {
+    for p in 0..count {
         after = next(out, after, p);
-        p += 1;
     }
     after
 }
@@ -167,7 +166,8 @@ fn packets_of(out: Stdout, night: Night, count: u32) -> Night {
 fn open(out: Stdout, settings: Settings) -> Span {
     let mut head = [0u8; 26];
     let serial = settings.serial;
-    heads::write_head(
+    // a box's values may be written, and 26 bytes have room
+    let _ = heads::write_head(
         Head {
             version: 2,
             divisor: settings.divisor,
@@ -185,8 +185,9 @@ fn open(out: Stdout, settings: Settings) -> Span {
 // The end of the capture: what it covers.
 fn close(out: Stdout, s: Span) {
     let mut lines = [0u8; 256];
-    let told = spans::finish(s, &mut lines);
-    say(out, first(&lines, told.wrote));
+    if let Ok(Some(wrote)) = spans::finish(s, &mut lines) {
+        say(out, first(&lines, wrote));
+    }
 }
 
 // A capture in a mode and size, with as many channels as the box has, from its first packet to the box's being idle again.

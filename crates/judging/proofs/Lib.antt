@@ -1,2 +1,3 @@
 pub mod Parts
 pub mod Setting
+pub mod Says

@@ -1,6 +1,6 @@
 -- A set and a request, each judged apart, are judged as the message's code and settings say.
 use Prim.Native.Nat.{ℕ}
-use mathlib.Core.Path.{◌≡◌, refl}
+use mathlib.Core.Path.{◌≡◌, refl, sym, ap, ◌∙◌}
 use mathlib.Core.Bool.{and-true, and-false}
 use mathlib.Core.List.{List, [], ◌∷◌}
 use lib.Dec.{eqb}
@@ -11,7 +11,12 @@ use Rattle.items.specs.declared.Settings.{Settings}
 use Rattle.items.specs.Items.{Echoed, no_byte, an_id, any_channel, a_channel, Item, versions, name, serial, interface, status, state}
 use Rattle.items.specs.Items.{channel_setup, clock, rate, packet_size, row_of}
 use Rattle.items.specs.Answer.{Message, channel_allowed, row, parameters, item_code, code_of, settings_after, judged_of}
+use Rattle.items.specs.Header.{header_checks}
+use Rattle.items.specs.Table.{table_checks}
+use Rattle.items.specs.Answer.{Judged, item_in}
 use Rattle.items.proofs.Rows.{row_has}
+use Rattle.items.proofs.Judging.{by_header_lem, by_table, by_item, refused}
+use Rattle.wire.specs.Choice.{first_of}
 use Rattle.judging.specs.Inside.{asked_by, set_by}
 
 -- a request and a range request have the same channels
@@ -77,3 +82,26 @@ set_else item a b c d e f g =
     )
     (row_has unset no_set (name ∷ serial ∷ interface ∷ versions ∷ status ∷ []) item
     (no_set, (no_set, (no_set, (no_set, (no_set, tt))))))
+
+-- what the header, the table and the item say in turn, of a message
+module _ (s : Settings) (m : Message) where
+  -- the header refuses it, or no reply is due
+  pub by_header : (code : ℕ) → (code ≡ 1 → ⊥) → code ≡ first_of (header_checks m.type m.size (get_or m.bytes 2 0)) 1
+      → record { code = code; settings = s } ≡ judged_of s m
+  by_header code h e = refused s m code h (by_header_lem s m (λ d. h (e ∙ d)) ∙ sym e)
+
+  -- the table refuses it
+  pub by_table_lem : 1 ≡ first_of (header_checks m.type m.size (get_or m.bytes 2 0)) 1
+      → (code : ℕ) → (code ≡ 1 → ⊥) → code ≡ first_of (table_checks (item_in m) m.type m.size) 1
+      → record { code = code; settings = s } ≡ judged_of s m
+  by_table_lem h code n e = refused s m code n (by_table s m (sym h) (λ d. n (e ∙ d)) ∙ sym e)
+
+  -- the item decides, of its parameters
+  module _ (header : 1 ≡ first_of (header_checks m.type m.size (get_or m.bytes 2 0)) 1)
+      (table : 1 ≡ first_of (table_checks (item_in m) m.type m.size) 1) where
+    pub by_set : {r : Judged} → m.type ≡ type_set → r ≡ set_by (row m) s (parameters m) → r ≡ judged_of s m
+    by_set t e = e ∙ set_judged s m t (by_item s m (sym header) (sym table))
+
+    pub by_asked : {code : ℕ} → (m.type ≡ type_set → ⊥) → code ≡ asked_by s.setup (row m) (parameters m)
+        → record { code = code; settings = s } ≡ judged_of s m
+    by_asked t e = ap (λ (n : ℕ). record { code = n; settings = s }) e ∙ asked_judged s m t (by_item s m (sym header) (sym table))

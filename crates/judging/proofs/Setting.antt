@@ -7,7 +7,7 @@ use lib.ListN.{get_or}
 use borrow.Author.Tests.{ne_eqb}
 use Rattle.wire.specs.Header.{type_set}
 use Rattle.items.specs.declared.Settings.{Settings}
-use Rattle.items.specs.declared.Judged.{Judged}
+use Rattle.items.specs.Answer.{Judged}
 use Rattle.items.specs.Items.{Item}
 use Rattle.items.specs.Answer.{channel_allowed}
 use Rattle.judging.specs.Inside.{set_code, decided, set_by}

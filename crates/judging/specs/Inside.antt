@@ -5,7 +5,7 @@ use Rattle.wire.specs.Choice.{pick, check, first_of}
 use Rattle.wire.specs.Codes as Code
 use Rattle.wire.specs.Header.{type_set, type_request}
 use Rattle.items.specs.declared.Settings.{Settings}
-use Rattle.items.specs.declared.Judged.{Judged}
+use Rattle.items.specs.Answer.{Judged}
 use Rattle.items.specs.Items.{Item}
 use Rattle.items.specs.Answer.{channel_allowed, value_allowed}
 

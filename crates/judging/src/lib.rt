@@ -1,4 +1,4 @@
-// What a finished message does, by the table of items of document 01: its code, and the settings after it.
+// What a finished message does, by the table of items of document 01: the settings after it, or why it is refused.
 #![tactic(auto)]
 
 mod message; // message.rt: header, table and item in turn

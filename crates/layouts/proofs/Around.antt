@@ -2,13 +2,12 @@
 use Prim.Native.Nat.{ℕ, ◌+◌, ◌*◌, ◌<◌}
 use mathlib.Core.Path.{◌≡◌, refl, sym, ap, ◌∙◌}
 use mathlib.Core.Bool.{Bool, true, false, ◌&&◌}
-use mathlib.Core.List.{List, [], ◌∷◌, ◌++◌}
+use mathlib.Core.List.{List, ◌∷◌, ◌++◌}
 use native.Mathlib.Omega.{arith}
 use lib.Dec.{eqb}
 use lib.ListN.{length, get_or, take, drop, length-drop, take-append-drop}
 use lib.Seq.{drop-cons, take_all, get_or-drop}
-use borrow.Author.Tests.{eqb-true, eq-eqb}
-use Rattle.wire.specs.Choice.{pick}
+use borrow.Author.Tests.{eqb-true, eq-eqb, ne_eqb}
 use Rattle.wire.specs.Number.{number, bytes, field}
 use Rattle.wire.specs.Header.{header_of}
 use Rattle.wire.proofs.Laws.{and_left, and_right, and_both}
@@ -16,7 +15,8 @@ use Rattle.wire.proofs.Lists.{same_test}
 use Rattle.wire.proofs.Numbers.{number_bytes, field_bytes_lem}
 use Rattle.wire.proofs.Words.{bytes_join}
 use Rattle.layouts.specs.declared.Layout.{Layout}
-use Rattle.layouts.specs.Layouts.{parameters_of, size_of, laid, filled, has_layout}
+use Rattle.std.specs.Prelude.{Option, Some, None}
+use Rattle.layouts.specs.Layouts.{echo_bytes, parameters_of, size_of, laid, filled, has_layout}
 use Rattle.layouts.proofs.Sizes.{least, length_laid}
 
 -- header and item code, as one number
@@ -24,8 +24,12 @@ abbrev pub front_of : Layout → ℕ
 front_of a = header_of a.kind (size_of a) + 65536 * a.item
 
 -- the echoed byte is right, where there is one
+abbrev pub echo_is : List ℕ → Option ℕ → Bool
+echo_is bs (Some byte) = eqb (get_or bs 4 0) byte
+echo_is bs None = true
+
 abbrev pub echo_right : List ℕ → Layout → Bool
-echo_right bs a = pick a.echoed (eqb (get_or bs 4 0) a.echo) true
+echo_right bs a = echo_is bs a.echo
 
 -- all that is looked at
 abbrev pub looks_right : List ℕ → Layout → Bool
@@ -49,14 +53,14 @@ module _ (bs : List ℕ) (below : (k : ℕ) → get_or bs k 0 < 256) (a : Layout
 
   -- those behind, where the echoed byte is right
   parameters_back : length bs ≡ size_of a → echo_right bs a ≡ true → drop 4 bs ≡ parameters_of (filled a bs)
-  parameters_back = go a.echoed
+  parameters_back = go a.echo
     where
-      go : (b : Bool) → length bs ≡ pick b 5 4 + a.width → pick b (eqb (get_or bs 4 0) a.echo) true ≡ true
-          → drop 4 bs ≡ pick b (a.echo ∷ []) [] ++ bytes a.width (field (pick b 5 4) a.width bs)
-      go true long echo =
+      go : (e : Option ℕ) → length bs ≡ 4 + length (echo_bytes e) + a.width → echo_is bs e ≡ true
+          → drop 4 bs ≡ echo_bytes e ++ bytes a.width (field (4 + length (echo_bytes e)) a.width bs)
+      go (Some byte) long echo =
           drop-cons bs 4 0 (omega arith)
-          ∙ rw (eqb-true (get_or bs 4 0) a.echo echo) (ap (λ (l : List ℕ). a.echo ∷ l) (rest_back 5 a.width long))
-      go false long echo = rest_back 4 a.width long
+          ∙ rw (eqb-true (get_or bs 4 0) byte echo) (ap (λ (l : List ℕ). byte ∷ l) (rest_back 5 a.width long))
+      go None long echo = rest_back 4 a.width long
 
   -- so bytes that look right are a message
   right_laid : looks_right bs a ≡ true → bs ≡ laid (filled a bs)
@@ -81,15 +85,25 @@ module _ (bs : List ℕ) (below : (k : ℕ) → get_or bs k 0 < 256) (a : Layout
         = ap (field 0 4) is ∙ ap number (sym (bytes_join 2 2 header a.item small)) ∙ number_bytes 4 (front_of a) (omega arith) in
         and_both (eqb (length bs) (size_of a)) _ (eq-eqb (length bs) (size_of a) long)
         (and_both (eqb (field 0 4 bs) (front_of a)) _ (eq-eqb (field 0 4 bs) (front_of a) front)
-        (echo_right_lem a.echoed _ (ap (drop 4) is)))
+        (echo_right_lem a.echo _ (ap (drop 4) is)))
       where
-        echo_right_lem : (b : Bool) (rest : List ℕ) → drop 4 bs ≡ pick b (a.echo ∷ []) [] ++ rest
-            → pick b (eqb (get_or bs 4 0) a.echo) true ≡ true
-        echo_right_lem true rest behind =
-            eq-eqb (get_or bs 4 0) a.echo (sym (get_or-drop 4 bs 0 0) ∙ ap (λ (l : List ℕ). get_or l 0 0) behind)
-        echo_right_lem false rest behind = refl
+        echo_right_lem : (e : Option ℕ) (rest : List ℕ) → drop 4 bs ≡ echo_bytes e ++ rest → echo_is bs e ≡ true
+        echo_right_lem (Some byte) rest behind =
+            eq-eqb (get_or bs 4 0) byte (sym (get_or-drop 4 bs 0 0) ∙ ap (λ (l : List ℕ). get_or l 0 0) behind)
+        echo_right_lem None rest behind = refl
 
     -- so what is looked at decides
     pub right_layout : looks_right bs a ≡ has_layout bs a
     unfolding has_layout
     right_layout = same_test (looks_right bs a) bs (laid (filled a bs)) right_laid laid_right
+
+    -- first by the length, then by the front, and then by the echoed byte
+    pub not_as_long : (length bs ≡ size_of a → ⊥) → false ≡ has_layout bs a
+    not_as_long differs = rw (ne_eqb (length bs) (size_of a) differs) at right_layout
+
+    module _ (long : length bs ≡ size_of a) where
+      pub other_front : (field 0 4 bs ≡ front_of a → ⊥) → false ≡ has_layout bs a
+      other_front differs = rw (eq-eqb (length bs) (size_of a) long, ne_eqb (field 0 4 bs) (front_of a) differs) at right_layout
+
+      pub by_the_echo : field 0 4 bs ≡ front_of a → echo_right bs a ≡ has_layout bs a
+      by_the_echo front = rw (eq-eqb (length bs) (size_of a) long, eq-eqb (field 0 4 bs) (front_of a) front) at right_layout

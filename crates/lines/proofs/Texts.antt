@@ -107,12 +107,16 @@ pub numbers_end : (ns a b : List ℕ) (at i to : ℕ) → i ≤ length ns → le
     → Stored (21 * length ns) a at (numbers_text ns) b to
 numbers_end ns a b at i to h k x = rw (take_all i ns k) at (stored_within (21 * length ns) (omega arith) x)
 
-pub line_stored : (letters word at to : ℕ) (ns a b c d : List ℕ) → b ≡ sets a at (bytes letters word)
-    → Stored (21 * length ns) b (at + letters) (numbers_text ns) c to
-    → d ≡ sets c to (bytes 1 0x0A) → Stored (letters + 21 * length ns + 1) a at (text_with (bytes letters word) ns) d (to + 1)
-line_stored letters word at to ns a b c d first numbers last =
-    stored_within (letters + 21 * length ns + 1) (omega arith)
-    (stored_after (put_stored letters word at a b first) (stored_after numbers (put_stored 1 0x0A to c d last)))
+-- bytes copied to a place
+pub copied : (word : List ℕ) (at : ℕ) (a b : List ℕ) → b ≡ sets a at word → Stored (length word) a at word b (at + length word)
+copied word at a b is = record { stored = is; ends = omega arith; short = omega arith }
+
+pub line_stored : (at to : ℕ) (word ns a b c d : List ℕ) → b ≡ sets a at word
+    → Stored (21 * length ns) b (at + length word) (numbers_text ns) c to
+    → d ≡ sets c to (bytes 1 0x0A) → Stored (length word + 21 * length ns + 1) a at (text_with word ns) d (to + 1)
+line_stored at to word ns a b c d first numbers last =
+    stored_within (length word + 21 * length ns + 1) (omega arith)
+    (stored_after (copied word at a b first) (stored_after numbers (put_stored 1 0x0A to c d last)))
 
 -- a number has at most twenty digits in 64 bits
 pub few_digits : (n k : ℕ) → n < 2 ^ 64 → IsDigitCount 10 1 n k → k ≤ 20

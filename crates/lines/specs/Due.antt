@@ -1,15 +1,16 @@
 -- The lines that are due at one moment, and what writing them answers. A reader of 01 needs only Lines and spans/specs/Report,
 -- which says what is printed of the whole input.
-use Rattle.std.specs.Prelude.{ℕ, ◌+◌, Bool, ◌&&◌, not, List, [], ◌∷◌, ◌++◌, eqb, leb, ltb, length}
+use Rattle.std.specs.Prelude.{ℕ, ◌+◌, Bool, ◌&&◌, not, List, [], ◌∷◌, ◌++◌, eqb, leb, ltb, length, Option, Some, None, Result, Ok, Err}
 use Rattle.wire.specs.Choice.{pick}
 use Rattle.wire.specs.Codes as Code
+use Rattle.wire.specs.declared.refusal.Refusal as Wire
+use Rattle.wire.specs.Refusal.{refusal_code}
 use Rattle.tuning.specs.Word.{is_clock}
 use Rattle.packets.specs.Numbers.{last}
 use Rattle.packets.specs.Missed.{missed_of}
 use Rattle.lines.specs.declared.Due.{Due}
 use Rattle.lines.specs.declared.Ending.{Ending}
-use Rattle.lines.specs.declared.Ending.TheVariants.{Nothing, Refusal, Captures}
-use Rattle.lines.specs.declared.LinesAnswer.{LinesAnswer}
+use Rattle.lines.specs.declared.Ending.TheVariants.{Refusal, Captures}
 use Rattle.lines.specs.Lines.{Line, text_of, opening_line, capture_line, refusal_line, end_line}
 
 abbrev pub opening_if : Bool → List Line
@@ -25,10 +26,10 @@ capture_in d =
 abbrev pub capture_if : Due → List Line
 capture_if d = pick (eqb d.heard 0) [] (capture_in d ∷ [])
 
-abbrev pub ending_lines : Ending → List Line
-ending_lines Nothing = []
-ending_lines (Refusal code offset) = refusal_line code offset ∷ []
-ending_lines (Captures captures) = end_line captures ∷ []
+abbrev pub ending_lines : Option Ending → List Line
+ending_lines None = []
+ending_lines (Some (Refusal code offset)) = refusal_line code offset ∷ []
+ending_lines (Some (Captures captures)) = end_line captures ∷ []
 
 abbrev pub due_lines : Due → List Line
 due_lines d = opening_if d.opening ++ (capture_if d ++ ending_lines d.ending)
@@ -42,6 +43,16 @@ sized d =
     && leb d.divisor 625
     && is_clock d.clock
     && leb d.heard (d.position + 1)
+
+-- what writing lines did: its code, and how many bytes it wrote
+pub record LinesAnswer : Type 0 where
+  pub code : ℕ
+  pub wrote : ℕ
+
+-- what an answer says of it
+abbrev pub lines_told : Result ℕ Wire.Refusal → LinesAnswer
+lines_told (Ok n) = record { code = Code.done; wrote = n }
+lines_told (Err r) = record { code = refusal_code r; wrote = 0 }
 
 -- what writing answers, and the bytes that it writes at the start of the lent slice
 pub record Telling : Type 0 where

@@ -6,18 +6,18 @@ mod text;
 
 pub use telling::{tell, time_of};
 
-// What comes last: nothing, where only a capture ended; a refusal with its code and the input byte; or the end of the input
-// with the count of captures.
-#[derive(Clone, Copy)]
+// What comes last: a refusal with its code and the input byte, or the end of the input with the count of captures.
+#[derive(Clone, Copy, Debug, PartialEq, Eq)]
 pub enum Ending {
-    Nothing,
+    // a number, as `tell` writes whatever code it is given (`refusal_line`)
     Refusal { code: u8, offset: u64 },
     Captures(u64),
 }
 
 // The lines that are due: the opening line, the line of the capture that ends (where packets were heard in it), and what
-// comes last. The clock is the box's, in Hz: with D it says how long a sample takes.
-#[derive(Clone, Copy)]
+// comes last, unless only a capture ended. The clock is the box's, in Hz: with D it says how long a sample takes.
+// The numbers of a capture stand here also where none was heard, as `tell` refuses some of them then too (`telling_of`).
+#[derive(Clone, Copy, Debug, PartialEq, Eq)]
 pub struct Due {
     pub opening: bool,
     pub capture: u64,
@@ -27,19 +27,5 @@ pub struct Due {
     pub clock: u64,
     pub heard: u64,
     pub position: u64,
-    pub ending: Ending,
-}
-
-// What writing lines did: its code and how many bytes it wrote.
-#[derive(Clone, Copy)]
-pub struct LinesAnswer {
-    pub code: u8,
-    pub wrote: usize,
-}
-
-// What asking for an end time answers: its code, and the microseconds.
-#[derive(Clone, Copy)]
-pub struct TimeAnswer {
-    pub code: u8,
-    pub microseconds: u64,
+    pub ending: Option<Ending>,
 }

@@ -4,21 +4,12 @@ ghost use Rattle.std.proofs.lemmas.List.Edits.{sets};
 ghost use Rattle.tuning.specs.Word.{is_clock};
 ghost use Rattle.lines.specs.Lines.{text_of, end_time};
 ghost use Rattle.lines.specs.Inside.{Stored};
-ghost use Rattle.lines.specs.Due.{opening_if, capture_if, ending_lines, due_lines, sized, telling_of};
-ghost use Rattle.lines.specs.Timing.{of_a_capture, timing_of};
+ghost use Rattle.lines.specs.Due.{opening_if, capture_if, ending_lines, due_lines, sized, lines_told, telling_of};
+ghost use Rattle.lines.specs.Timing.{of_a_capture, time_told, timing_of};
 
 use crate::text::put_line;
-use crate::{Due, Ending, LinesAnswer, TimeAnswer};
-use wire::codes;
-
-// The words with which lines begin, as numbers: the first letter is the least significant byte.
-const SPAN: u64 = 0x4E41_5053;
-
-const C: u64 = 0x43;
-
-const R: u64 = 0x52;
-
-const E: u64 = 0x45;
+use crate::{Due, Ending};
+use wire::Refusal;
 
 // No capture has more samples of a channel: 4,000,000,000 packets of 256 pairs.
 const MOST_SAMPLES: u64 = 1_024_000_000_000;
@@ -30,7 +21,7 @@ fn put_opening(on: bool, buf: &mut [u8], at: usize) -> usize
 {
     if on {
         let ns = [1u64];
-        return put_line(SPAN, 4, &ns, buf, at);
+        return put_line(b"SPAN", &ns, buf, at);
     }
     at
 }
@@ -53,20 +44,14 @@ fn of_a_capture(samples: u64, divisor: u32, clock: u32) -> bool
 }
 
 // How long so many samples of a channel last: the end time of a capture that covers them. It refuses with 16 more samples than a
-// capture has, a D other than 10 to 625 and a clock that may not be set; the microseconds are 0 then.
-pub fn time_of(samples: u64, divisor: u32, clock: u32) -> TimeAnswer
-    ensures { result ≡ timing_of samples divisor clock }
+// capture has, a D other than 10 to 625 and a clock that may not be set.
+pub fn time_of(samples: u64, divisor: u32, clock: u32) -> Result<u64, Refusal>
+    ensures { time_told result ≡ timing_of samples divisor clock }
 {
     if !of_a_capture(samples, divisor, clock) {
-        return TimeAnswer {
-            code: codes::VALUE_NOT_ALLOWED,
-            microseconds: 0,
-        };
+        return Err(Refusal::ValueNotAllowed);
     }
-    TimeAnswer {
-        code: codes::DONE,
-        microseconds: end_time(samples, divisor as u64, clock as u64),
-    }
+    Ok(end_time(samples, divisor as u64, clock as u64))
 }
 
 // The line of the capture that ends, where packets were heard in it.
@@ -89,23 +74,22 @@ fn put_capture(d: Due, buf: &mut [u8], at: usize) -> usize
         end_time(samples, d.divisor, d.clock),
         positions - d.heard,
     ];
-    put_line(C, 1, &ns, buf, at)
+    put_line(b"C", &ns, buf, at)
 }
 
-// The refusal or the end, where one is due.
+// The refusal or the end.
 fn put_ending(e: Ending, buf: &mut [u8], at: usize) -> usize
     requires { at + 44 ≤ length buf.old }
-    ensures { Stored 44 buf.old at (text_of (ending_lines e)) buf.new result }
+    ensures { Stored 44 buf.old at (text_of (ending_lines (Some e))) buf.new result }
 {
     match e {
-        Ending::Nothing => at,
         Ending::Refusal { code, offset } => {
             let ns = [code as u64, offset];
-            put_line(R, 1, &ns, buf, at)
+            put_line(b"R", &ns, buf, at)
         }
         Ending::Captures(captures) => {
             let ns = [captures];
-            put_line(E, 1, &ns, buf, at)
+            put_line(b"E", &ns, buf, at)
         }
     }
 }
@@ -117,18 +101,20 @@ fn put_due(d: Due, buf: &mut [u8]) -> usize
 {
     let first = put_opening(d.opening, buf, 0);
     let second = put_capture(d, buf, first);
-    let ending = d.ending;
-    put_ending(ending, buf, second)
+    match d.ending {
+        Some(ending) => put_ending(ending, buf, second),
+        None => second,
+    }
 }
 
 // The clock is one that may be set. No clock of more than 32 bits is.
 fn is_clock(hz: u64) -> bool
     ensures { result ≡ is_clock hz }
 {
-    if 0xFFFF_FFFF < hz {
-        return false;
+    match u32::try_from(hz) {
+        Ok(hz) => tuning::is_clock(hz),
+        Err(_) => false,
     }
-    tuning::is_clock(hz as u32)
 }
 
 // Whether the products of a capture's line are those of numbers that a capture can have, and no more packets are heard than
@@ -151,30 +137,21 @@ fn is_sized(d: Due) -> bool
     d.heard <= d.position + 1
 }
 
-// Writes the lines that are due at the start of a slice: 240 bytes are room enough. It refuses with 16 a position, pairs or a D
-// above all that captures have, a clock that none has (also where no capture's line is due), or more packets heard than positions,
+// Writes the lines that are due at the start of a slice, and answers how many bytes they are: 240 are room enough. It refuses
+// with 16 a position, pairs or a D above all that captures have, a clock that none has (also where no capture's line is due), or more packets heard than positions,
 // and then with 20 a slice that has no room for all lines; nothing is written then.
-pub fn tell(d: Due, out: &mut [u8]) -> LinesAnswer
-    ensures { (result ≡ (telling_of d (length out.old)).answer)
+pub fn tell(d: Due, out: &mut [u8]) -> Result<usize, Refusal>
+    ensures { (lines_told result ≡ (telling_of d (length out.old)).answer)
         × (out.new ≡ sets out.old 0 (telling_of d (length out.old)).bytes) }
 {
     if !is_sized(d) {
-        return LinesAnswer {
-            code: codes::VALUE_NOT_ALLOWED,
-            wrote: 0,
-        };
+        return Err(Refusal::ValueNotAllowed);
     }
     let mut text = [0u8; 256];
     let n = put_due(d, &mut text);
     if out.len() < n {
-        return LinesAnswer {
-            code: codes::NO_ROOM,
-            wrote: 0,
-        };
+        return Err(Refusal::NoRoom);
     }
     wire::copy(&text[..n], out, 0);
-    LinesAnswer {
-        code: codes::DONE,
-        wrote: n,
-    }
+    Ok(n)
 }

@@ -1,6 +1,5 @@
-// Lines as text.
+// Lines as text. Each function puts its part at a place of the one buffer, and answers the place after it: no heap.
 ghost use Rattle.std.specs.Prelude.{◌∷◌, ◌+◌, ◌*◌, ◌≤◌, length};
-ghost use Rattle.wire.specs.Number.{bytes};
 ghost use Rattle.lines.specs.Lines.{decimal, numbers_text, text_with};
 ghost use Rattle.lines.specs.Inside.{Stored};
 
@@ -21,23 +20,21 @@ fn put_numbers(ns: &[u64], buf: &mut [u8], at: usize) -> usize
     requires { at + 21 * length ns.now ≤ length buf.old }
     ensures { Stored (21 * length ns.now) buf.old at (numbers_text ns.now) buf.new result }
 {
-    let mut i = 0;
     let mut to = at;
-    while i < ns.len() {
-        to = put_number(ns[i], buf, to);
-        i += 1;
+    for &n in ns {
+        to = put_number(n, buf, to);
     }
     to
 }
 
-// Writes a line: a word of so many letters, and numbers.
-pub(crate) fn put_line(word: u64, letters: usize, ns: &[u64], buf: &mut [u8], at: usize) -> usize
-    requires { at + (letters + 21 * length ns.now + 1) ≤ length buf.old }
-    ensures { Stored (letters + 21 * length ns.now + 1) buf.old at
-        (text_with (bytes letters word) ns.now) buf.new result }
+// Writes a line: a word, and numbers.
+pub(crate) fn put_line(word: &[u8], ns: &[u64], buf: &mut [u8], at: usize) -> usize
+    requires { at + (length word.now + 21 * length ns.now + 1) ≤ length buf.old }
+    ensures { Stored (length word.now + 21 * length ns.now + 1) buf.old at
+        (text_with word.now ns.now) buf.new result }
 {
-    wire::put(buf, at, letters, word);
-    let to = put_numbers(ns, buf, at + letters);
+    wire::copy(word, buf, at);
+    let to = put_numbers(ns, buf, at + word.len());
     wire::put(buf, to, 1, 0x0A);
     to + 1
 }

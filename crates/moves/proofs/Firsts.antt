@@ -1,31 +1,25 @@
 -- What the first bytes hold whose head moves: the head, and room for it moved.
 -- Assumes nothing.
-use Prim.Native.Nat.{ℕ, zero, suc, ◌≤◌, ◌<◌}
+use Prim.Native.Nat.{ℕ, ◌≤◌}
 use native.Mathlib.Omega.{arith}
-use mathlib.Core.Path.{◌≡◌, refl, sym, ap, subst, ◌∙◌}
-use mathlib.Core.Bool.{Bool, true, false, true≢false}
-use mathlib.Core.Logic.{◌⊎◌, inl, inr}
+use mathlib.Core.Path.{◌≡◌, refl, sym, ap, ◌∙◌}
+use mathlib.Core.Bool.{Bool, true, false}
 use mathlib.Core.List.{List}
-use lib.IntN.{ℤ, pos, negsuc}
-use lib.Signed.{lt_z, le_z}
 use lib.ListN.{length, take}
-use lib.Seq.{sets, length-sets, length-take-le}
+use lib.Seq.{sets, length-sets}
 use lib.Dec.{eqb}
 use borrow.Author.Tests.{ltb-false, le-ltb, eqb-true, eqb-false}
-use Rattle.streams.specs.Moved.{Moved, clamp_len}
 use Rattle.wire.specs.Codes.{others_write}
 use Rattle.wire.specs.Choice.{pick}
 use Rattle.wire.proofs.Laws.{by_test}
 use Rattle.wire.proofs.Checks.{absent, not_given}
 use Rattle.wire.proofs.Stores.{sets_taken}
-use Rattle.reads.specs.Got.{NoMore}
-use Rattle.reads.proofs.Got.{whole}
 use Rattle.lines.specs.Lines.{line_text, refusal_line}
 use Rattle.heads.specs.declared.Head.{Head}
 use Rattle.heads.specs.Head.{is_head_version, head_length, head_length_in, head_bytes, head_in, head_read_checks, head_read_code}
 use Rattle.heads.specs.Moving.{loses, moved_to, moving_checks, moving_code, moved_bytes, move_writes}
 use Rattle.heads.proofs.Codes.{by_version, bytes_old, bytes_new, most_long, moving_stops, moving_goes, put_by}
-use Rattle.moves.specs.Moves.{refused_line, Enough, FilledUp}
+use Rattle.moves.specs.Moves.{refused_line}
 
 -- a head that was read is there
 pub head_inside : (v : ℕ) (s : List ℕ) (room : ℕ) → moving_code v s room ≡ 1 → head_length_in s ≤ length s
@@ -80,21 +74,3 @@ has_room_lem v first none =
 -- a line of a refusal, by its code
 pub refused : (v : ℕ) (first : List ℕ) {n : ℕ} → n ≡ moving_code v first 26 → line_text (refusal_line n 0) ≡ line_text (refused_line v first)
 refused v first is = ap (λ (n : ℕ). line_text (refusal_line n 0)) is
-
--- what a read to behind the bytes at hand gave that neither failed nor met the end, as it is counted
-pub some_behind : (answered got : ℤ) (n room : ℕ) (part : List ℕ) → Moved room answered → got ≡ answered → length part ≡ room
-    → le_z got (pos 0) ≡ false → n ≡ clamp_len got (length part) → (0 < n) × (n ≤ room)
-some_behind answered (pos zero) n room part moved is long h counted = absurd (true≢false h)
-some_behind answered (negsuc k) n room part moved is long h counted = absurd (true≢false h)
-some_behind answered (pos (suc k)) n room part moved is long h counted =
-    let fits : suc k ≤ room = subst (Moved room) (sym is) moved in
-    (omega arith, omega arith)
-
--- bytes that were filled up are enough, where the last read did not fail
-pub enough_filled : (buf : List ℕ) (have : ℕ) (answered got : ℤ) → got ≡ answered → FilledUp buf have answered → lt_z got (pos 0) ≡ false
-    → Enough got (take have buf)
-enough_filled buf have answered got is up h = by up.enough
-  where
-    by : (26 ≤ have) ⊎ NoMore answered → Enough got (take have buf)
-    by (inl all) = inl (rw (length-take-le have buf up.inside) all)
-    by (inr none) = inr (whole got (subst NoMore (sym is) none) h)

@@ -1,18 +1,17 @@
 -- A capture file moved to another version of its head (02, No. 9): what the programs newer and older write, and that they write it
 -- however the input comes in pieces.
-use Rattle.std.specs.Prelude.{ℕ, ◌-◌, ◌≤◌, ◌≡◌, ◌⊎◌, List, [], ◌∷◌, ◌++◌, ℤ, length, drop}
+use Rattle.std.specs.Prelude.{ℕ, ◌-◌, ◌≤◌, ◌≡◌, ◌⊎◌, List, [], ◌∷◌, ◌++◌, length, drop, Option, IfSome, Result}
 use Rattle.std.proofs.lemmas.List.Edits.{sets}
 use Rattle.wire.specs.Codes as Code
 use Rattle.wire.specs.Lists.{joined}
-use Rattle.reads.specs.Got.{NoMore, Whole}
+use Rattle.reads.specs.Got.{Whole}
 use Rattle.streams.specs.Moved.{Moved}
 use Rattle.lines.specs.Lines.{Line, refusal_line}
 use Rattle.heads.specs.Head.{head_length, head_length_in}
-use Rattle.heads.specs.declared.Moved.{Moved as MovedHead}
+use Rattle.wire.specs.Refusal.{code_of}
+use Rattle.wire.specs.declared.refusal.Refusal.{Refusal}
 use Rattle.moves.specs.declared.out.Sent.{Sent}
-use Rattle.moves.specs.declared.Begun.{Begun}
-use Rattle.moves.specs.declared.Begun.TheVariants.{Written, Unwritten, Refused}
-use Rattle.heads.specs.Moving.{moved_code, moving_code, moved_bytes, move_writes}
+use Rattle.heads.specs.Moving.{moving_code, moved_bytes, move_writes}
 
 -- a file in another version: the head moved, and then what stands behind the head, as it is
 abbrev pub moved_file : ℕ → List ℕ → List ℕ
@@ -24,11 +23,11 @@ longest = head_length 2
 
 -- The first bytes of an input are enough to tell: there is a head whatever its version, or no more is to come. The answer is the
 -- last read's.
-abbrev pub Enough : ℤ → List ℕ → Type 0
+abbrev pub Enough : {E : Type 0} → Result ℕ E → List ℕ → Type 0
 Enough got first = (longest ≤ length first) ⊎ Whole got
 
 -- and their head moves
-pub record Movable (v : ℕ) (got : ℤ) (first : List ℕ) : Type 0 where
+pub record Movable {E : Type 0} (v : ℕ) (got : Result ℕ E) (first : List ℕ) : Type 0 where
   pub enough : Enough got first
   pub moves : moving_code v first longest ≡ Code.done
 
@@ -42,18 +41,18 @@ moved_line v = record { word = 0x48 ∷ []; numbers = v ∷ [] }
 -- ---- what the functions inside promise each other
 
 -- a read to behind the bytes at hand
-pub record ReadBehind (have : ℕ) (before after : List ℕ) (got : ℤ) : Type 0 where
+pub record ReadBehind {E : Type 0} (have : ℕ) (before after : List ℕ) (got : Result ℕ E) : Type 0 where
   pub moved : Moved (length before - have) got
   pub long : length after ≡ length before
 
--- the bytes at hand are enough to tell, or the last read failed
-pub record FilledUp (buf : List ℕ) (have : ℕ) (got : ℤ) : Type 0 where
+-- the bytes at hand are enough to tell
+pub record FilledUp {E : Type 0} (buf : List ℕ) (have : ℕ) (got : Result ℕ E) : Type 0 where
   pub inside : have ≤ length buf
-  pub enough : (longest ≤ have) ⊎ NoMore got
+  pub enough : (longest ≤ have) ⊎ Whole got
 
 -- a head moved to the start of lent bytes, as crate heads says it
-pub record PutAs (v : ℕ) (first before after : List ℕ) (r : MovedHead) : Type 0 where
-  pub code : moved_code r ≡ moving_code v first (length before)
+pub record PutAs (v : ℕ) (first before after : List ℕ) (r : Result (Unit {0}) Refusal) : Type 0 where
+  pub code : code_of r ≡ moving_code v first (length before)
   pub bytes : after ≡ sets before 0 (move_writes v first (length before))
 
 -- So many bytes were read, and so many written: as many as an input has whose head moves, and as it has once moved. The count of what
@@ -64,15 +63,9 @@ pub record MovedSoFar (v read : ℕ) (sent : Sent) : Type 0 where
   pub moves : moving_code v input longest ≡ Code.done
   pub written : sent.bytes ≡ length (moved_file v input)
 
--- what the first bytes came to, so many of them: where they were not written nothing is known, so that nobody can go on
-abbrev pub BegunAs : Begun → ℕ → ℕ → Type 0
-BegunAs (Written sent) v have = MovedSoFar v have sent
-BegunAs Unwritten v have = Unit {0}
-BegunAs Refused v have = Unit {0}
-
--- the programs count no more bytes than this
-abbrev pub most : ℕ
-most = 0x8000_0000_0000_0000
+-- what the first bytes came to, so many of them: where they were refused nothing is known, so that nobody can go on
+abbrev pub BegunAs : ℕ → ℕ → Option Sent → Type 0
+BegunAs v have begun = IfSome begun (MovedSoFar v have)
 
 -- ---- what is proved of it: proofs/Pieces
 

@@ -8,6 +8,7 @@ use mathlib.Core.List.{List, [], ◌∷◌}
 use native.Mathlib.Omega.{arith}
 use lib.Dec.{eqb, leb, ltb}
 use lib.ListN.{length}
+use Rattle.std.specs.Prelude.{Option, Some, None, Ok, Err, ok_or}
 use borrow.Author.Tests.{eqb-true, leb-true, ltb-true, eq-eqb, ne_eqb}
 use Rattle.wire.specs.Choice.{pick, any_of, first_row}
 use Rattle.wire.specs.Number.{bytes, field}
@@ -17,7 +18,7 @@ use Rattle.wire.specs.Lists.{same}
 use Rattle.wire.proofs.Lists.{same_eq}
 use Rattle.packets.specs.declared.Form.{Form}
 use Rattle.packets.specs.Inside.{form_with_total}
-use Rattle.packets.specs.Forms.{Row, forms, form_of, same_form, total_of, no_form, listed_form, form_for, form_with_header, whole_of, is_packet}
+use Rattle.packets.specs.Forms.{Row, forms, form_of, same_form, total_of, no_form, listed_form, found, form_for, form_with_header, whole_of, is_packet}
 
 -- the specs' lookups over any part of the table
 abbrev listed_in : List Row → Form → Bool
@@ -230,6 +231,50 @@ module _ (p : List ℕ) where
 
   pub other_header : (h : ℕ) → h ≡ field 0 2 p → (h ≡ 0x8000 + length p → ⊥) → no_form ≡ whole_of p
   other_header h stands other = sym (by_total_lem p ∙ rw (ne_eqb (field 0 2 p) (0x8000 + length p) (λ e. other (stands ∙ e))))
+
+-- ---- a form as it is answered
+
+-- what is answered where a test holds, and only there
+pub picked_some : {A : Type 0} (t : Bool) (x y : A) → Some y ≡ pick t (Some x) None → (t ≡ true) × (y ≡ x)
+picked_some true x y is = (refl, cc)
+picked_some false x y is = cc
+
+pub picked_none : {A : Type 0} (t : Bool) (x : A) → None ≡ pick t (Some x) None → t ≡ false
+picked_none true x is = cc
+picked_none false x is = refl
+
+pub found_listed : (f : Form) → listed_form f ≡ true → found f ≡ Some f
+unfolding found
+found_listed f l = rw l
+
+-- one is answered: it is this one, and listed
+pub found_some : (f g : Form) → Some g ≡ found f → (listed_form f ≡ true) × (g ≡ f)
+unfolding found
+found_some f g is = picked_some (listed_form f) f g is
+
+-- none is answered
+pub found_none : (f : Form) → None ≡ found f → listed_form f ≡ false
+unfolding found
+found_none f is = picked_none (listed_form f) f is
+
+-- asked for with a refusal: the form, or the refusal where there is none
+pub found_ok : {E : Type 0} (f : Form) (x : Option Form) (r : E) (g : Form) → x ≡ found f → ok_or x r ≡ Ok g → (listed_form f ≡ true) × (g ≡ f)
+found_ok f (Some h) r g is e = let it = found_some f h is in (it.0, cc (it.1))
+found_ok f None r g is e = cc
+
+pub found_err : {E : Type 0} (f : Form) (x : Option Form) (r e : E) → x ≡ found f → ok_or x r ≡ Err e → (listed_form f ≡ false) × (e ≡ r)
+found_err f (Some h) r e is told = cc
+found_err f None r e is told = (found_none f is, cc)
+
+-- a slice's length names the form, and then its header must be that of a data item so long
+pub whole_found : (p : List ℕ)
+    → found (whole_of p) ≡ pick (eqb (field 0 2 p) (0x8000 + length p)) (found (form_with_total (length p))) None
+unfolding found
+whole_found p = ap found (by_total_lem p) ∙ by (eqb (field 0 2 p) (0x8000 + length p)) (form_with_total (length p))
+  where
+    by : (t : Bool) (f : Form) → found (pick t f no_form) ≡ pick t (found f) None
+    by true f = refl
+    by false f = refl
 
 -- Bytes with the header and the length of a listed form are a whole packet of that form.
 pub whole_cut : (f : Form) → listed_form f ≡ true → (p : List ℕ) → field 0 2 p ≡ header_of type_data (total_of f) → length p ≡ total_of f

@@ -1,4 +1,3 @@
-pub mod Cases
 pub mod Forms
 pub mod Channels
 pub mod Numbers

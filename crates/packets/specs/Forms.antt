@@ -1,6 +1,6 @@
 -- The table of packet forms: mode, size, header, total, I/Q pairs.
-use Rattle.std.specs.Prelude.{ℕ, ◌+◌, ◌*◌, ◌/◌, Bool, ◌&&◌, List, [], ◌∷◌, eqb, length}
-use Rattle.wire.specs.Choice.{any_of, first_row}
+use Rattle.std.specs.Prelude.{ℕ, ◌+◌, ◌*◌, ◌/◌, Bool, ◌&&◌, List, [], ◌∷◌, Option, Some, None, eqb, length}
+use Rattle.wire.specs.Choice.{pick, any_of, first_row}
 use Rattle.wire.specs.Number.{field}
 use Rattle.packets.specs.declared.Form.{Form}
 
@@ -39,6 +39,10 @@ no_form = record { bits = 0; pairs = 0 }
 -- the form is listed
 abbrev pub listed_form : Form → Bool
 listed_form f = any_of (λ r. same_form (form_of r) f) forms
+
+-- a form as it is answered: itself where it is listed, else none
+unfoldable pub found : Form → Option Form
+found f = pick (listed_form f) (Some f) None
 
 -- the form for a mode byte and a size byte
 abbrev pub form_for : ℕ → ℕ → Form

@@ -1,10 +1,10 @@
 // Packets and numbers of document 01: the four forms, and the number at each position. (Crate samples has the loops.)
 #![tactic(auto)]
 
-ghost use Rattle.std.specs.Prelude.{◌≡◌, ◌<◌, ◌&&◌, leb, get_or};
+ghost use Rattle.std.specs.Prelude.{◌≡◌, ◌<◌, ◌&&◌, leb, get_or, Some, None};
 ghost use Rattle.wire.specs.Choice.{pick};
 ghost use Rattle.wire.specs.Number.{field};
-ghost use Rattle.packets.specs.Forms.{form_for, listed_form, same_form, total_of, no_form, form_with_header, whole_of};
+ghost use Rattle.packets.specs.Forms.{form_for, listed_form, total_of, form_with_header, whole_of, found};
 ghost use Rattle.packets.specs.Inside.{form_with_total};
 ghost use Rattle.packets.specs.Channels.{is_count, pairs_each};
 ghost use Rattle.packets.specs.Numbers.{number_at, number_in, step_of, last};
@@ -24,91 +24,64 @@ pub const LARGE: u8 = 0;
 
 pub const SMALL: u8 = 1;
 
-// How a packet is laid out: the bits of a sample and the I/Q pairs in a packet. The four listed forms are those of the
-// table in specs/Forms.antt.
-#[derive(Clone, Copy)]
+// How a packet is laid out: the bits of a sample and the I/Q pairs in a packet.
+#[derive(Clone, Copy, PartialEq, Eq)]
 pub struct Form {
     pub bits: u64,
     pub pairs: u64,
 }
 
-// No form at all: what a function answers that finds none.
-pub fn no_form() -> Form
-    ensures { result ≡ no_form }
-{
-    Form { bits: 0, pairs: 0 }
-}
+// The four listed forms, those of the table in specs/Forms.antt.
+pub const LARGE_24: Form = Form {
+    bits: 24,
+    pairs: 240,
+};
 
-// The form that a box with this mode byte and this size byte cuts; no form for bytes that are neither.
-pub fn form_for(mode: u8, size: u8) -> Form
-    ensures { result ≡ form_for mode size }
-{
-    match mode {
-        MODE_24 => match size {
-            LARGE => Form {
-                bits: 24,
-                pairs: 240,
-            },
-            SMALL => Form {
-                bits: 24,
-                pairs: 64,
-            },
-            _ => no_form(),
-        },
-        MODE_16 => match size {
-            LARGE => Form {
-                bits: 16,
-                pairs: 256,
-            },
-            SMALL => Form {
-                bits: 16,
-                pairs: 128,
-            },
-            _ => no_form(),
-        },
-        _ => no_form(),
-    }
-}
+pub const SMALL_24: Form = Form {
+    bits: 24,
+    pairs: 64,
+};
 
-// Whether two forms agree in width and pair count.
-pub fn same_form(a: Form, b: Form) -> bool
-    ensures { result ≡ same_form a b }
+pub const LARGE_16: Form = Form {
+    bits: 16,
+    pairs: 256,
+};
+
+pub const SMALL_16: Form = Form {
+    bits: 16,
+    pairs: 128,
+};
+
+// The form that a box with this mode byte and this size byte cuts; none for bytes that are neither.
+#[tactic(auto, unfolding(crate::specs::Forms::found))]
+pub fn form_for(mode: u8, size: u8) -> Option<Form>
+    ensures { result ≡ found (form_for mode size) }
 {
-    if a.bits == b.bits {
-        return a.pairs == b.pairs;
+    match (mode, size) {
+        (MODE_24, LARGE) => Some(LARGE_24),
+        (MODE_24, SMALL) => Some(SMALL_24),
+        (MODE_16, LARGE) => Some(LARGE_16),
+        (MODE_16, SMALL) => Some(SMALL_16),
+        (_, _) => None,
     }
-    false
 }
 
 // Whether the form is one of the four.
 pub fn is_listed(f: Form) -> bool
     ensures { result ≡ listed_form f }
 {
-    let bits = f.bits;
-    let pairs = f.pairs;
-    match bits {
-        24 => match pairs {
-            240 => true,
-            64 => true,
-            _ => false,
-        },
-        16 => match pairs {
-            256 => true,
-            128 => true,
-            _ => false,
-        },
-        _ => false,
-    }
+    matches!(f, LARGE_24 | SMALL_24 | LARGE_16 | SMALL_16)
 }
 
-// How many bytes a packet of a listed form has; 0 for any other form.
-pub fn total_of(f: Form) -> u64
-    ensures { result ≡ pick (listed_form f) (total_of f) 0 }
+// How many bytes a packet of a listed form has; none for any other form.
+pub fn total_of(f: Form) -> Option<u64>
+    ensures { result ≡ pick (listed_form f) (Some (total_of f)) None }
 {
     if is_listed(f) {
-        return 4 + f.pairs * 2 * (f.bits / 8);
+        Some(4 + f.pairs * 2 * (f.bits / 8))
+    } else {
+        None
     }
-    0
 }
 
 // Whether packets can hold so many channels: one or two.
@@ -118,42 +91,29 @@ pub fn is_count(channels: u8) -> bool
     (channels == 1) | (channels == 2)
 }
 
-// The I/Q pairs that each channel has in a packet of a form; 0 where packets cannot hold so many channels. A count is 1 or 2, so
+// The I/Q pairs that each channel has in a packet of a form; none where packets cannot hold so many channels. A count is 1 or 2, so
 // this takes no division.
-pub fn pairs_each(channels: u8, f: Form) -> u64
-    ensures { result ≡ pick (is_count channels) (pairs_each channels f) 0 }
+pub fn pairs_each(channels: u8, f: Form) -> Option<u64>
+    ensures { result ≡ pick (is_count channels) (Some (pairs_each channels f)) None }
 {
-    if channels == 1 {
-        return f.pairs;
+    match channels {
+        1 => Some(f.pairs),
+        2 => Some(f.pairs / 2),
+        _ => None,
     }
-    if channels == 2 {
-        return f.pairs / 2;
-    }
-    0
 }
 
-// The form whose two header bytes hold this number; no form for any other header.
-pub fn form_of_header(header: u16) -> Form
-    ensures { result ≡ form_with_header header }
+// The form whose two header bytes hold this number; none for any other header.
+#[tactic(auto, unfolding(crate::specs::Forms::found))]
+pub fn form_of_header(header: u16) -> Option<Form>
+    ensures { result ≡ found (form_with_header header) }
 {
     match header {
-        0x85A4 => Form {
-            bits: 24,
-            pairs: 240,
-        },
-        0x8184 => Form {
-            bits: 24,
-            pairs: 64,
-        },
-        0x8404 => Form {
-            bits: 16,
-            pairs: 256,
-        },
-        0x8204 => Form {
-            bits: 16,
-            pairs: 128,
-        },
-        _ => no_form(),
+        0x85A4 => Some(LARGE_24),
+        0x8184 => Some(SMALL_24),
+        0x8404 => Some(LARGE_16),
+        0x8204 => Some(SMALL_16),
+        _ => None,
     }
 }
 
@@ -175,45 +135,33 @@ fn two_at(packet: &[u8], at: usize) -> u16
     byte_at(packet, at) + 256 * byte_at(packet, at + 1)
 }
 
-// The form of packets of so many bytes; no form where no packet has as many.
-fn form_of_total(total: usize) -> Form
-    ensures { result ≡ form_with_total total }
+// The form of packets of so many bytes; none where no packet has as many.
+#[tactic(auto, unfolding(crate::specs::Forms::found))]
+fn form_of_total(total: usize) -> Option<Form>
+    ensures { result ≡ found (form_with_total total) }
 {
     match total {
-        1444 => Form {
-            bits: 24,
-            pairs: 240,
-        },
-        388 => Form {
-            bits: 24,
-            pairs: 64,
-        },
-        1028 => Form {
-            bits: 16,
-            pairs: 256,
-        },
-        516 => Form {
-            bits: 16,
-            pairs: 128,
-        },
-        _ => no_form(),
+        1444 => Some(LARGE_24),
+        388 => Some(SMALL_24),
+        1028 => Some(LARGE_16),
+        516 => Some(SMALL_16),
+        _ => None,
     }
 }
 
-// The form of a slice that is one whole packet of a listed form; no form for any other slice. Its length is looked at first: that names
+// The form of a slice that is one whole packet of a listed form; none for any other slice. Its length is looked at first: that names
 // the form, and then the header must be 8000 (hex) more, as a data item's is.
-pub fn whole(packet: &[u8]) -> Form
-    ensures { result ≡ whole_of packet.now }
+#[tactic(auto, using(crate::proofs::Forms::whole_found))]
+pub fn whole(packet: &[u8]) -> Option<Form>
+    ensures { result ≡ found (whole_of packet.now) }
 {
     let total = packet.len();
-    let form = form_of_total(total);
-    if form.pairs == 0 {
-        return form;
-    }
+    let form = form_of_total(total)?;
     if two_at(packet, 0) as usize == 0x8000 + total {
-        return form;
+        Some(form)
+    } else {
+        None
     }
-    no_form()
 }
 
 // The number that a packet carries.

@@ -16,7 +16,7 @@ use Rattle.station.specs.declared.Station.{Station}
 use Rattle.station.specs.Feeding.{feeding_of}
 use Rattle.cutting.specs.Cutting.{Cutting, form_now, cutting_of}
 use Rattle.reader.specs.declared.Reader.{Reader}
-use Rattle.reader.specs.declared.Heard.{Heard}
+use Rattle.reader.specs.Answers.{Heard}
 use Rattle.reader.specs.Reading.{silent, sound, reading_of, heard_at, after_slices}
 use Rattle.reader.proofs.Sound.{silent_sound, reading_keeps_sound, slices_keep_sound, keeps_its_count}
 use Rattle.positions.specs.Captures.{Cuts, ends, cuts, feeds, Capture, EachBox, OneCountACapture}

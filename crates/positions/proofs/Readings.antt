@@ -5,8 +5,8 @@ use mathlib.Core.Bool.{true}
 use mathlib.Core.List.{List}
 use native.Mathlib.Omega.{arith}
 use Rattle.packets.specs.declared.Form.{Form}
-use Rattle.packets.specs.Forms.{listed_form, whole_of, same_form}
-use Rattle.packets.proofs.Forms.{same_self, is_listed_form}
+use Rattle.packets.specs.Forms.{listed_form, whole_of, is_packet, same_form}
+use Rattle.packets.proofs.Forms.{same_self}
 use Rattle.packets.specs.Numbers.{number_at, number_in, step_of, most, last}
 use Rattle.packets.proofs.Numbers.{number_zero}
 use Rattle.reader.specs.declared.Reader.{Reader}
@@ -21,9 +21,9 @@ pub record At (f : Form) (n : ℕ) (packet : List ℕ) : Type 0 where
   pub number : number_in packet ≡ number_at n
   pub below : n < most
 
--- it has pairs, so it is a packet
-has_pairs : {f : Form} {n : ℕ} {packet : List ℕ} → At f n packet → (whole_of packet).pairs ≡ 0 → ⊥
-has_pairs {f} a z = omega (arith, (is_listed_form f a.fine).some, sym (ap (λ (g : Form). g.pairs) a.form) ∙ z)
+-- its form is listed, so it is a packet
+a_packet : {f : Form} {n : ℕ} {packet : List ℕ} → At f n packet → is_packet packet ≡ true
+a_packet a = ap listed_form a.form ∙ a.fine
 
 -- a reader of c channels that has heard position n of a capture of form f, and before it missed total
 abbrev pub has_heard : ℕ → Form → ℕ → ℕ → Reader
@@ -32,7 +32,7 @@ has_heard c f n total = record { heard = true; channels = c; position = n; total
 -- "Number 0 begins a new capture, at any moment."
 pub reads_first : (f : Form) (packet : List ℕ) (r : Reader) → At f 0 packet → sound r ≡ true
     → reading_of r packet ≡ heard_at r.channels 0 0 0 f
-reads_first f packet r a fine = sym (first r packet fine (has_pairs a) a.number) ∙ ap (heard_at r.channels 0 0 0) a.form
+reads_first f packet r a fine = sym (first r packet fine (a_packet a) a.number) ∙ ap (heard_at r.channels 0 0 0) a.form
 
 -- A later packet of the same form is taken where its step leads, if that is not past the last position, and the positions that
 -- the step passes over are missed.
@@ -42,7 +42,7 @@ reads_at c f packet m t p k n a above fine within there over =
     let later : number_in packet ≡ 0 → ⊥ = λ z. omega (arith, number_zero p (sym a.number ∙ z)) in
     let same : same_form (whole_of packet) f ≡ true = rw a.form (same_self f) in
     let leads : n ≡ m + step_of (number_at m) (number_in packet) = rw a.number (sym there) in
-    sym (next (has_heard c f m t) packet fine (has_pairs a) later refl same n leads within k (omega arith))
+    sym (next (has_heard c f m t) packet fine (a_packet a) later refl same n leads within k (omega arith))
     ∙ ap (heard_at c n k (t + k)) a.form
 
 -- k lost since position m

@@ -11,7 +11,7 @@ use Rattle.items.specs.Settings.{channels_of}
 use Rattle.station.specs.declared.Station.{Station}
 use Rattle.cutting.specs.Cutting.{form_now}
 use Rattle.reader.specs.declared.Reader.{Reader}
-use Rattle.reader.specs.declared.Heard.{Heard}
+use Rattle.reader.specs.Answers.{Heard}
 use Rattle.reader.specs.Reading.{silent, sound, reading_of, after_slices}
 use Rattle.positions.specs.Captures.{Capture}
 use Rattle.positions.specs.Losses.{Fate, arrives, lost, arriving, allowed_losses, positions_from, WayToRead, answers_by}

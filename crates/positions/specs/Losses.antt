@@ -1,7 +1,7 @@
 -- What becomes of the packets of one capture on their way, and what the harvester makes of those that arrive.
 use Rattle.std.specs.Prelude.{ℕ, ◌+◌, ◌<◌, List, [], ◌∷◌}
 use Rattle.reader.specs.declared.Reader.{Reader}
-use Rattle.reader.specs.declared.Heard.{Heard}
+use Rattle.reader.specs.Answers.{Heard}
 
 -- a packet arrives, or it is lost
 pub data Fate : Type 0 where

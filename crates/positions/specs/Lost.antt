@@ -4,7 +4,7 @@ use Rattle.std.specs.Prelude.{ℕ, ◌+◌, true, List, [], ◌∷◌, map, ◌�
 use Rattle.packets.specs.Channels.{is_count}
 use Rattle.station.specs.declared.Station.{Station}
 use Rattle.reader.specs.declared.Reader.{Reader}
-use Rattle.reader.specs.declared.Heard.{Heard}
+use Rattle.reader.specs.Answers.{Heard}
 use Rattle.reader.specs.Reading.{silent, sound, reading_of, after_slices}
 use Rattle.positions.specs.Captures.{Capture}
 use Rattle.positions.specs.Losses.{Fate, arrives, lost, arriving, allowed_losses, WayToRead, answers_by}

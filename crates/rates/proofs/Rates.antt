@@ -3,6 +3,8 @@ use Prim.Native.Nat.{ℕ, zero, suc, ◌+◌, ◌*◌, ◌-◌, ◌/◌, ◌%◌
 use mathlib.Core.Path.{◌≡◌, refl, sym, ap, ◌∙◌}
 use mathlib.Core.Bool.{Bool, true, false}
 use mathlib.Core.List.{List, [], ◌∷◌}
+use Rattle.std.proofs.Common.{Option, Some, None}
+use Rattle.std.specs.Bool.{then_some}
 use native.Mathlib.Nat.{le_of_suc-le-suc, not-suc-le-zero, add-zero}
 use native.Mathlib.Decide.{ℕ_discrete}
 use native.Mathlib.Omega.{arith}
@@ -12,7 +14,7 @@ use borrow.Author.Tests.{eq-eqb, ne_eqb, eqb-true, eqb-false, lt-ltb, ltb-true}
 use Rattle.wire.specs.Choice.{pick, one_of}
 use Rattle.wire.specs.Halves.{NearestUp}
 use Rattle.wire.proofs.Halves.{half_up}
-use Rattle.wire.proofs.Laws.{true_not_false, test_true, within_low, within_high, is_within, pick_true, by_test}
+use Rattle.wire.proofs.Laws.{true_not_false, test_true, within_low, within_high, is_within, by_test}
 use Rattle.rates.specs.Rate.{is_d, rate_of, may_ask, nearest_of}
 use Rattle.rates.specs.Entries.{entries}
 use Rattle.rates.specs.Table.{rates_from, rates, d_in, d_of}
@@ -73,24 +75,11 @@ back k h =
 pub rate_names : (d : ℕ) → is_d d ≡ true → nearest_of (rate_of d) ≡ d
 rate_names d is = nearest_chosen (rate_of d) (rate_asked d is) ∙ at_d (λ e. chosen (rate_of e) ≡ e) back d is
 
--- ---- a place by its stretch of 56, as `achieved` reads it
+-- ---- a place by stretches of 56
 
 -- the place is where its stretch begins, and its place in the stretch
 pub stretch : (k i : ℕ) → i / 56 ≡ k → 56 * k + i % 56 ≡ i
 stretch k i is = omega arith
-
--- none of the first n numbers
-abbrev pub Past : ℕ → ℕ → Type 0
-Past zero k = Unit
-Past (suc n) k = Past n k × (k ≡ n → ⊥)
-
-past : (n k : ℕ) → Past n k → n ≤ k
-past zero k others = omega arith
-past (suc n) k others = omega (arith, past n k others.0, others.1)
-
--- the stretch that is none of the first ten is the last
-pub last_stretch : (i : ℕ) → i < 616 → Past 10 (i / 56) → i / 56 ≡ 10
-last_stretch i inside others = omega (arith, past 10 (i / 56) others)
 
 -- ---- the D of an achieved rate
 
@@ -150,28 +139,65 @@ nearest_d rate asked =
 
 -- ---- what `nearest` and `achieved` find of a rate
 
-module _ (rate d a : ℕ) (near : d ≡ pick (may_ask rate) (nearest_of rate) 0) (got : a ≡ pick (is_d d) (rate_of d) 0) where
-  pub d_of_hit : a ≡ rate → d ≡ d_of rate
-  d_of_hit same = go (may_ask rate) refl
-    where
-      go : (t : Bool) → may_ask rate ≡ t → d ≡ d_of rate
-      go true asked =
-          let found : d ≡ nearest_of rate = rw asked at near in
-          let is : is_d d ≡ true = rw found (nearest_d rate asked) in
-          sym (d_of_rate d is) ∙ ap d_of (sym (rw is at got) ∙ same)
-      go false unasked =
-          let none : d ≡ 0 = rw unasked at near in
-          none ∙ sym (d_of_unasked rate unasked)
+module _ (rate : ℕ) (asked : may_ask rate ≡ true) where
+  -- its nearest D has it, or none has
+  pub d_of_hit : rate_of (nearest_of rate) ≡ rate → d_of rate ≡ nearest_of rate
+  d_of_hit same = ap d_of (sym same) ∙ d_of_rate (nearest_of rate) (nearest_d rate asked)
 
-  pub d_of_miss : (a ≡ rate → ⊥) → 0 ≡ d_of rate
-  d_of_miss other = sym (d_of_none rate none)
+  pub d_of_miss : (rate_of (nearest_of rate) ≡ rate → ⊥) → d_of rate ≡ 0
+  d_of_miss other = d_of_none rate none
     where
       none : (e : ℕ) → is_d e ≡ true → rate_of e ≡ rate → ⊥
       none e is same =
-          let asked : may_ask rate ≡ true = sym (ap may_ask same) ∙ rate_asked e is in
-          let found : d ≡ e = (rw asked at near) ∙ sym (ap nearest_of same) ∙ rate_names e is in
-          let its : is_d d ≡ true = rw found is in
-          other ((rw its at got) ∙ ap rate_of found ∙ same)
+          let found : nearest_of rate ≡ e = sym (ap nearest_of same) ∙ rate_names e is in
+          other (ap rate_of found ∙ same)
+
+-- the answer, as `d_of` gives it
+abbrev pub Found : ℕ → Option ℕ → Type 0
+Found rate found = found ≡ pick (ltb 0 (d_of rate)) (Some (d_of rate)) None
+
+-- no D is the nearest of a rate that may not be asked for
+pub none_near : (rate : ℕ) → None ≡ pick (may_ask rate) (Some (nearest_of rate)) None → Found rate None
+none_near rate near = by_test (may_ask rate) asked unasked
+  where
+    asked : may_ask rate ≡ true → Found rate None
+    asked a = absurd (let e : None ≡ Some (nearest_of rate) = rw a at near in cc)
+
+    unasked : may_ask rate ≡ false → Found rate None
+    unasked u = rw (d_of_unasked rate u)
+
+-- the nearest D has an achieved rate, which is this one or not
+module _ (rate d : ℕ) (near : Some d ≡ pick (may_ask rate) (Some (nearest_of rate)) None) where
+  may : may_ask rate ≡ true
+  may = by_test (may_ask rate) (λ a. a) none
+    where
+      none : may_ask rate ≡ false → may_ask rate ≡ true
+      none u = absurd (let e : Some d ≡ None = rw u at near in cc)
+
+  nearest_has : nearest_of rate ≡ d
+  nearest_has = let e : Some d ≡ Some (nearest_of rate) = rw may at near in cc
+
+  its : is_d d ≡ true
+  its = rw (← nearest_has) (nearest_d rate may)
+
+  pub none_achieved : None ≡ pick (is_d d) (Some (rate_of d)) None → Found rate None
+  none_achieved got = absurd (let e : None ≡ Some (rate_of d) = rw its at got in cc)
+
+  pub some_achieved : (a : ℕ) → Some a ≡ pick (is_d d) (Some (rate_of d)) None → Found rate (then_some (eqb a rate) d)
+  some_achieved a got = by_test (eqb a rate) same other
+    where
+      is : rate_of (nearest_of rate) ≡ a
+      is = let e : Some a ≡ Some (rate_of d) = rw its at got in rw nearest_has (cc)
+
+      same : eqb a rate ≡ true → Found rate (then_some (eqb a rate) d)
+      same e =
+          let here : d_of rate ≡ d = d_of_hit rate may (is ∙ eqb-true a rate e) ∙ nearest_has in
+          rw (e, here, lt-ltb 0 d (omega (arith, within_low 10 625 d its)))
+
+      other : eqb a rate ≡ false → Found rate (then_some (eqb a rate) d)
+      other e =
+          let none : d_of rate ≡ 0 = d_of_miss rate may (λ s. eqb-false a rate e (sym is ∙ s)) in
+          rw (e, none)
 
 -- a D that is found is a D, and has this achieved rate
 pub d_of_found : (rate : ℕ) → 0 < d_of rate → (is_d (d_of rate) ≡ true) × (rate_of (d_of rate) ≡ rate)
@@ -183,11 +209,8 @@ d_of_found rate some = go (may_ask rate) refl
         let d : ℕ = nearest_of rate in
         let is : is_d d ≡ true = nearest_d rate asked in
         elim (ℕ_discrete (rate_of d) rate) [
-          | yes same ↦ (let its : d_of rate ≡ d = ap d_of (sym same) ∙ d_of_rate d is in (rw its is, rw its same))
-          | no other ↦ (
-              let near : d ≡ pick (may_ask rate) d 0 = sym (pick_true _ _ _ asked) in
-              let got : rate_of d ≡ pick (is_d d) (rate_of d) 0 = sym (pick_true _ _ _ is) in
-              absurd (lt_ne (d_of rate) some (sym (d_of_miss rate d (rate_of d) near got other))))
+          | yes same ↦ (let its : d_of rate ≡ d = d_of_hit rate asked same in (rw its is, rw its same))
+          | no other ↦ absurd (lt_ne (d_of rate) some (d_of_miss rate asked other))
         ]
 
 -- a rate has a D exactly where it is one of the table

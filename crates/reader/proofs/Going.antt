@@ -1,21 +1,25 @@
 -- A packet that goes on in the reader's capture: by its tests, and what it has.
-use Prim.Native.Nat.{ℕ}
+use Prim.Native.Nat.{ℕ, ◌+◌, ◌≤◌, ◌<◌}
+use native.Mathlib.Omega.{arith}
 use mathlib.Core.Path.{◌≡◌, refl, sym, ap, ◌∙◌}
 use mathlib.Core.Bool.{Bool, true, false, ◌&&◌, not}
 use mathlib.Core.List.{List}
+use Rattle.std.specs.Prelude.{Some, None}
 use lib.Dec.{eqb, leb}
 use borrow.Author.Tests.{eqb-true, eqb-false, ne_eqb, not-true, not-false}
 use Rattle.wire.proofs.Laws.{true_not_false, and_left, and_right}
 use Rattle.wire.proofs.Checks.{absent}
-use Rattle.packets.specs.Forms.{same_form, listed_form, whole_of, is_packet}
+use Rattle.packets.specs.declared.Form.{Form}
+use Rattle.packets.specs.Forms.{same_form, listed_form, found, whole_of, is_packet}
 use Rattle.packets.specs.Channels.{is_count}
-use Rattle.packets.specs.Numbers.{number_in, last}
+use Rattle.packets.specs.Numbers.{number_at, step_of, number_in, last}
 use Rattle.packets.specs.Missed.{steps_give}
-use Rattle.packets.proofs.Forms.{same_is}
+use Rattle.packets.proofs.Forms.{same_is, found_some, found_none}
 use Rattle.reader.specs.declared.Reader.{Reader}
 use Rattle.reader.specs.Inside.{goes_on}
 use Rattle.reader.specs.Reading.{sound, reading_checks, reading_code, reading_of, heard_with}
-use Rattle.reader.proofs.Reading.{no_packet, a_packet, heard_sound, sound_count}
+use Rattle.packets.proofs.Missed.{step_from, steps_give_within}
+use Rattle.reader.proofs.Reading.{no_packet, a_packet, heard_sound, heard_within, sound_count}
 
 -- position and total are those of a capture
 abbrev pub held : Reader → Bool
@@ -26,9 +30,6 @@ abbrev pub gone_on : Reader → ℕ → ℕ → Reader
 gone_on r position total = record { heard = true; channels = r.channels; position = position; total = total; form = r.form }
 
 module _ (r : Reader) (p : List ℕ) where
-  abbrev whole : Bool
-  whole = not (eqb (whole_of p).pairs 0)
-
   abbrev formed : Bool
   formed = same_form (whole_of p) r.form
 
@@ -64,6 +65,50 @@ module _ (r : Reader) (p : List ℕ) where
       go : (t : Bool) → goes_on r p ≡ t → goes_on r p ≡ false
       go true is = absurd (never (going is))
       go false is = is
+
+  -- what is no packet does not go on
+  pub none_goes_on : None ≡ found (whole_of p) → goes_on r p ≡ false
+  unfolding goes_on
+  none_goes_on none = rw (found_none (whole_of p) none) (any_false (sound r && r.heard))
+    where
+      any_false : (t : Bool) → (t && false && formed && numbered) ≡ false
+      any_false true = refl
+      any_false false = refl
+
+  -- The few tests that tell it of a packet of a form: such a form is a listed one, so the reader's own need not be looked up.
+  pub by_form : (f : Form) → Some f ≡ found (whole_of p)
+      → goes_on r p ≡ (same_form f r.form && r.heard && numbered && is_count r.channels && held r)
+  unfolding goes_on
+  by_form f is =
+      let it = found_some (whole_of p) f is in
+      rw (it.1, it.0) (by (sound r) r.heard formed numbered (is_count r.channels) (held r) (fine it.0))
+    where
+      -- the reader's own form is listed where it is the packet's
+      fine : is_packet p ≡ true → formed ≡ true → r.heard ≡ true → sound r ≡ (is_count r.channels && held r)
+      fine packet same begun =
+          let listed : listed_form r.form ≡ true = ap listed_form (sym (same_is (whole_of p) r.form same)) ∙ packet in
+          rw (begun, listed) (last_true (is_count r.channels) (held r))
+        where
+          last_true : (n h : Bool) → (n && (h && true)) ≡ (n && h)
+          last_true true true = refl
+          last_true true false = refl
+          last_true false h = refl
+
+      order : (c l n : Bool) → (c && l && true && true && true && n) ≡ (n && c && l)
+      order true true true = refl
+      order true true false = refl
+      order true false true = refl
+      order true false false = refl
+      order false l true = refl
+      order false l false = refl
+
+      by : (s h t n c l : Bool) → (t ≡ true → h ≡ true → s ≡ (c && l)) → (s && h && true && t && n) ≡ (t && h && n && c && l)
+      by true true false n c l is = refl
+      by true false false n c l is = refl
+      by false h false n c l is = refl
+      by true false true n c l is = refl
+      by false false true n c l is = refl
+      by s true true n c l is = rw (is refl refl) (order c l n)
 
   -- The few tests that tell it: a form that a packet has is a listed one, so the reader's own need not be looked up.
   pub by_tests : {e f : Bool} → ((whole_of p).pairs ≡ 0 → ⊥) → formed ≡ true → r.heard ≡ true → (number_in p ≡ 0 → ⊥)
@@ -116,3 +161,25 @@ module _ (r : Reader) (p : List ℕ) where
           → (reading_of r p).reader ≡ gone_on r (reading_of r p).position (reading_of r p).total
       by_code true done = by_number done (eqb (number_in p) 0) refl
       by_code false refused = absurd (moved (not_taken refused))
+
+-- The position that the step of a packet that goes on leads to: above the last packet's, and by no more than a turn.
+pub record Further (r : Reader) (p : List ℕ) (q : ℕ) : Type 0 where
+  pub leads : q ≡ r.position + step_of (number_at r.position) (number_in p)
+  pub above : r.position < q
+  pub near : q ≤ r.position + 65_535
+  pub few : r.total ≤ r.position
+  pub within : r.position ≤ last
+
+pub further : (r : Reader) (p : List ℕ) (n q : ℕ) → Going r p → n ≡ number_in p → q ≡ r.position + step_of (number_at r.position) n → Further r p q
+further r p n q g carries to =
+    let some : 0 < number_in p = omega (arith, g.later) in
+    let step = step_from r.position (number_in p) some (omega arith) in
+    let leads : q ≡ r.position + step_of (number_at r.position) (number_in p) = to ∙ ap (λ (m : ℕ). r.position + step_of (number_at r.position) m) carries in
+    let held = heard_within r g.fine g.begun in
+    record {
+      leads = leads;
+      above = omega (arith, leads, step.0);
+      near = omega (arith, leads, step.1);
+      few = (steps_give_within r.position r.total held.1).0;
+      within = held.0;
+    }

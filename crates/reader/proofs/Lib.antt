@@ -4,3 +4,4 @@ pub mod Steps
 pub mod Unpacking
 pub mod Sound
 pub mod Lost
+pub mod Says

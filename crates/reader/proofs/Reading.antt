@@ -3,7 +3,7 @@ use Prim.Native.Nat.{ℕ, ◌+◌, ◌-◌, ◌≤◌, ◌<◌}
 use mathlib.Core.Path.{◌≡◌, refl, sym, ap, ◌∙◌}
 use mathlib.Core.Bool.{Bool, true, false, ◌&&◌, not}
 use mathlib.Core.Logic.{⊎_elim}
-use mathlib.Core.List.{List, []}
+use mathlib.Core.List.{List}
 use native.Mathlib.Omega.{arith}
 use borrow.Author.Tests.{leb-true, eq-eqb, ne_eqb, lt-ltb, le-ltb}
 use lib.Dec.{eqb, leb, ltb}
@@ -42,14 +42,11 @@ pairs_few p =
     (whole_is p)
 
 -- the sample bytes are what stands after the first four, of which a packet has at least as many
-pub four_there : (p : List ℕ) → ((whole_of p).pairs ≡ 0 → ⊥) → 4 ≤ length p
-four_there p some = let long : length p ≡ total_of (whole_of p) = (packet_is p (a_packet p some)).long in omega arith
+pub four_there : (p : List ℕ) → is_packet p ≡ true → 4 ≤ length p
+four_there p is = let long : length p ≡ total_of (whole_of p) = (packet_is p is).long in omega arith
 
-pub no_samples : (p : List ℕ) → (whole_of p).pairs ≡ 0 → [] ≡ sample_bytes_of p
-no_samples p z = rw (no_packet p z)
-
-pub samples_there : (p : List ℕ) → ((whole_of p).pairs ≡ 0 → ⊥) → take (length p - 4) (drop 4 p) ≡ sample_bytes_of p
-samples_there p some = rw (a_packet p some) (take_all (length p - 4) (drop 4 p) (simp length-drop (omega arith)))
+pub samples_there : (p : List ℕ) → is_packet p ≡ true → take (length p - 4) (drop 4 p) ≡ sample_bytes_of p
+samples_there p is = rw is (take_all (length p - 4) (drop 4 p) (simp length-drop (omega arith)))
 
 -- a sound reader was told a count
 pub sound_count : (r : Reader) → sound r ≡ true → is_count r.channels ≡ true
@@ -96,32 +93,32 @@ module _ (r : Reader) (p : List ℕ) where
   broken e = refusal 21 (omega arith) (rw e)
 
   module _ (fine : sound r ≡ true) where
-    pub no_slice : (whole_of p).pairs ≡ 0 → unheard 30 r ≡ reading_of r p
+    pub no_slice : is_packet p ≡ false → unheard 30 r ≡ reading_of r p
     unfolding reading_code
-    no_slice z = refusal 30 (omega arith) (rw (fine, no_packet p z))
+    no_slice none = refusal 30 (omega arith) (rw (fine, none))
 
-    module _ (some : (whole_of p).pairs ≡ 0 → ⊥) where
+    module _ (packet : is_packet p ≡ true) where
       pub first : number_in p ≡ 0 → heard_at r.channels 0 0 0 (whole_of p) ≡ reading_of r p
       first z =
           let zeroth : eqb (number_in p) 0 ≡ true = eq-eqb _ _ z in
-          sym (packet_taken fine (a_packet p some) (rw zeroth) (rw zeroth) (rw zeroth) ∙ rw zeroth)
+          sym (packet_taken fine packet (rw zeroth) (rw zeroth) (rw zeroth) ∙ rw zeroth)
 
       module _ (later : number_in p ≡ 0 → ⊥) where
         pub unbegun : r.heard ≡ false → unheard 31 r ≡ reading_of r p
         unfolding reading_code
-        unbegun e = refusal 31 (omega arith) (rw (fine, a_packet p some, ne_eqb _ _ later, e))
+        unbegun e = refusal 31 (omega arith) (rw (fine, packet, ne_eqb _ _ later, e))
 
         module _ (begun : r.heard ≡ true) where
           pub changed : same_form (whole_of p) r.form ≡ false → unheard 32 r ≡ reading_of r p
           unfolding reading_code
-          changed e = refusal 32 (omega arith) (rw (fine, a_packet p some, ne_eqb _ _ later, begun, e))
+          changed e = refusal 32 (omega arith) (rw (fine, packet, ne_eqb _ _ later, begun, e))
 
           module _
               (same : same_form (whole_of p) r.form ≡ true) (n : ℕ)
               (leads : n ≡ r.position + step_of (number_at r.position) (number_in p)) where
             pub past : last < n → unheard 33 r ≡ reading_of r p
             unfolding reading_code
-            past l = refusal 33 (omega arith) (rw (fine, a_packet p some, ne_eqb _ _ later, begun, same, ← leads, lt-ltb last n l))
+            past l = refusal 33 (omega arith) (rw (fine, packet, ne_eqb _ _ later, begun, same, ← leads, lt-ltb last n l))
 
             pub next : n ≤ last → (missed : ℕ) → missed ≡ n - r.position - 1
                 → heard_at r.channels n missed (r.total + missed) (whole_of p) ≡ reading_of r p
@@ -129,5 +126,5 @@ module _ (r : Reader) (p : List ℕ) where
                 let nonzero : eqb (number_in p) 0 ≡ false = ne_eqb _ _ later in
                 let there : position_after r (number_in p) ≡ n = rw nonzero (sym leads) in
                 let less : missed_in (step_to r (number_in p)) ≡ missed = omega arith in
-                sym (packet_taken fine (a_packet p some) (rw (nonzero, begun)) (rw (nonzero, same)) (rw there (le-ltb last n l))
+                sym (packet_taken fine packet (rw (nonzero, begun)) (rw (nonzero, same)) (rw there (le-ltb last n l))
                 ∙ rw (nonzero, ← leads, less))

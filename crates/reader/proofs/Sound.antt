@@ -16,7 +16,7 @@ use Rattle.packets.specs.Numbers.{number_in, last}
 use Rattle.packets.specs.Missed.{missed_in, steps_give}
 use Rattle.packets.proofs.Missed.{step_from, start_given, step_more}
 use Rattle.reader.specs.declared.Reader.{Reader}
-use Rattle.reader.specs.declared.Heard.{Heard}
+use Rattle.reader.specs.Answers.{Heard}
 use Rattle.reader.specs.Reading.{silent, sound, step_to, position_after, reading_checks, reading_code}
 use Rattle.reader.specs.Reading.{heard_at, heard_with, reading_of, after_slices, KeepsItsCount, BrokenByItsCount}
 use Rattle.reader.proofs.Reading.{sound_count, untold_broken, heard_within, broken}

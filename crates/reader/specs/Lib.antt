@@ -1,3 +1,4 @@
+pub mod Answers
 pub mod Reading
 pub mod Inside
 pub mod Lost

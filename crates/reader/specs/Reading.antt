@@ -1,8 +1,10 @@
 -- Reading packets.
-use Rattle.std.specs.Prelude.{ℕ, ◌+◌, ◌*◌, ◌≡◌, Bool, true, false, ◌&&◌, not, List, [], ◌∷◌, eqb, leb, ltb, ℤ, drop}
+use Rattle.std.specs.Prelude.{ℕ, ◌+◌, ◌*◌, ◌≡◌, Bool, true, false, ◌&&◌, not, List, [], ◌∷◌, Result, Ok, Err, eqb, leb, ltb, ℤ, drop}
 use Rattle.wire.specs.Choice.{pick, Check, check, first_of}
 use Rattle.wire.specs.Codes.{others_write}
 use Rattle.wire.specs.Codes as Code
+use Rattle.wire.specs.Refusal.{refusal_code}
+use Rattle.wire.specs.declared.refusal.Refusal.{Refusal}
 use Rattle.packets.specs.declared.Form.{Form}
 use Rattle.packets.specs.Forms.{no_form, same_form, listed_form, whole_of, is_packet}
 use Rattle.packets.specs.Channels.{is_count, pairs_each}
@@ -10,8 +12,8 @@ use Rattle.packets.specs.Numbers.{number_at, step_of, number_in, last}
 use Rattle.packets.specs.Missed.{missed_in, steps_give}
 use Rattle.packets.specs.Samples.{samples_from}
 use Rattle.reader.specs.declared.Reader.{Reader}
-use Rattle.reader.specs.declared.Heard.{Heard}
-use Rattle.reader.specs.declared.Unpacked.{Unpacked}
+use Rattle.reader.specs.declared.Heard.{Heard as Taken}
+use Rattle.reader.specs.Answers.{Heard, Unpacked}
 
 -- "The reader is told the channel count when made" (02, No. 7): a reader of packets of so many channels that has heard nothing
 abbrev pub silent : ℕ → Reader
@@ -86,6 +88,15 @@ reading_of r packet =
     pick (eqb (reading_code r packet) Code.done) (heard_with r (number_in packet) (whole_of packet))
     (unheard (reading_code r packet) r)
 
+-- what the code answers, in these terms: of a packet that was heard, and of any slice
+abbrev pub heard_says : Taken → Heard
+heard_says h =
+    record { code = Code.done; position = h.position; sample = h.sample; missed = h.missed; total = h.total; reader = h.reader }
+
+abbrev pub reading_says : Reader → Result Taken Refusal → Heard
+reading_says r (Ok h) = heard_says h
+reading_says r (Err e) = unheard (refusal_code e) r
+
 -- The reader that slice after slice makes of one. A slice is anything that it is handed: a packet of any capture, or rubbish.
 abbrev pub after_slices : Reader → List (List ℕ) → Reader
 after_slices r [] = r
@@ -119,6 +130,11 @@ unpack_code packet room = first_of (unpack_checks packet room) Code.done
 unfoldable pub unpacking_of : List ℕ → ℕ → Unpacked
 unpacking_of packet room =
     record { code = unpack_code packet room; count = pick (eqb (unpack_code packet room) Code.done) (sample_count_in packet) 0 }
+
+-- what the code answers, in these terms
+abbrev pub unpacking_says : Result ℕ Refusal → Unpacked
+unpacking_says (Ok n) = record { code = Code.done; count = n }
+unpacking_says (Err e) = record { code = refusal_code e; count = 0 }
 
 -- the numbers that unpacking writes at the start of the lent slice: all of the packet's or none, by the column "Written" of the
 -- table of codes

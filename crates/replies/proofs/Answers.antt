@@ -1,42 +1,45 @@
 -- What a call of the reader answers; and that its answer says all.
 use Prim.Native.Nat.{ℕ}
-use mathlib.Core.Path.{◌≡◌, refl, ap}
+use mathlib.Core.Path.{◌≡◌, refl, sym, ap, ◌∙◌}
 use mathlib.Core.Bool.{Bool, true, false}
 use mathlib.Core.List.{List}
 use lib.Dec.{eqb}
 use lib.IntN.{ℤ, pos, negsuc}
 use lib.ListN.{length, get_or}
+use Rattle.std.specs.Prelude.{Result, Ok, Err}
 use Rattle.wire.specs.Choice.{pick}
+use Rattle.wire.specs.declared.refusal.Refusal.{Refusal}
+use Rattle.wire.specs.declared.refusal.Refusal.TheVariants.{ChannelNotAllowed, ValueNotAllowed, NotAReply}
+use Rattle.wire.proofs.Refusals.{number_one, done_no_refusal}
 use Rattle.wire.proofs.Firm.{one_by}
 use Rattle.wishes.specs.declared.Wish.{Wish}
 use Rattle.wishes.specs.Wishes.{open_wish, allowed_wish}
 use Rattle.replies.specs.declared.Reply.{Reply}
 use Rattle.replies.specs.declared.Reply.TheVariants.{Nak, Name, Serial, Interface, Version, Status, State, ChannelSetup}
 use Rattle.replies.specs.declared.Reply.TheVariants.{Frequency, FrequencyRange, Gain, Clock, Rate, PacketSize}
-use Rattle.replies.specs.declared.Reply.TheVariants.{ChannelNotAllowed, NotAllowed, NotAReply}
 use Rattle.replies.specs.Awaited.{awaited, number_in}
-use Rattle.replies.specs.Reading.{is_nak, is_reply, reply_code, ReplyAnswer, reply_says, reply_reader_says}
+use Rattle.replies.specs.Reading.{is_nak, is_reply, reply_code, ReplyAnswer, reply_says, read_says, reply_reader_says}
 
 module _ (w : Wish) (bs : List ℕ) where
-  pub read_closed : open_wish w ≡ false → reply_says ChannelNotAllowed ≡ reply_reader_says w bs
+  pub read_closed : open_wish w ≡ false → read_says (Err ChannelNotAllowed) ≡ reply_reader_says w bs
   unfolding reply_reader_says reply_code
   read_closed o = rw o
 
-  pub read_refused : open_wish w ≡ true → allowed_wish w ≡ false → reply_says NotAllowed ≡ reply_reader_says w bs
+  pub read_refused : open_wish w ≡ true → allowed_wish w ≡ false → read_says (Err ValueNotAllowed) ≡ reply_reader_says w bs
   unfolding reply_reader_says reply_code
   read_refused o e = rw (o, e)
 
-  pub read_nak : open_wish w ≡ true → allowed_wish w ≡ true → is_nak bs ≡ true → reply_says Nak ≡ reply_reader_says w bs
+  pub read_nak : open_wish w ≡ true → allowed_wish w ≡ true → is_nak bs ≡ true → read_says (Ok Nak) ≡ reply_reader_says w bs
   unfolding reply_reader_says reply_code
   read_nak o e n = rw (o, e, n)
 
   module _ (o : open_wish w ≡ true) (e : allowed_wish w ≡ true) (n : is_nak bs ≡ false) where
-    pub read_none : is_reply w bs ≡ false → reply_says NotAReply ≡ reply_reader_says w bs
+    pub read_none : is_reply w bs ≡ false → read_says (Err NotAReply) ≡ reply_reader_says w bs
     unfolding reply_reader_says reply_code
     read_none r = rw (o, e, n, r)
 
     -- a reply, with the value in it
-    pub read_reply : (v : ℕ) → is_reply w bs ≡ true → number_in w bs ≡ v → reply_says ((awaited w).says v) ≡ reply_reader_says w bs
+    pub read_reply : (v : ℕ) → is_reply w bs ≡ true → number_in w bs ≡ v → read_says (Ok ((awaited w).says v)) ≡ reply_reader_says w bs
     unfolding reply_reader_says reply_code
     read_reply v r is = rw (o, e, n, r, is)
 
@@ -66,9 +69,7 @@ about item vs =
     (pick (eqb item 0x00B8) (Rate (value vs 0)) (PacketSize (value vs 0)))))))))))))
 
 back : ReplyAnswer → Reply
-back t =
-    pick (eqb t.code 15) ChannelNotAllowed
-    (pick (eqb t.code 16) NotAllowed (pick (eqb t.code 28) NotAReply (about t.item t.values)))
+back t = about t.item t.values
 
 status_back : (t : Bool) → eqb (pick t 0x0C 0x0B) 0x0C ≡ t
 status_back true = refl
@@ -90,9 +91,28 @@ back_told (Gain g) = refl
 back_told (Clock hz) = refl
 back_told (Rate hz) = refl
 back_told (PacketSize n) = refl
-back_told ChannelNotAllowed = refl
-back_told NotAllowed = refl
-back_told NotAReply = refl
 
-pub told_one : (a b : Reply) → reply_says a ≡ reply_says b → a ≡ b
-told_one = one_by reply_says back back_told
+reply_one : (a b : Reply) → reply_says a ≡ reply_says b → a ≡ b
+reply_one = one_by reply_says back back_told
+
+reply_done : (a : Reply) → (reply_says a).code ≡ 1
+reply_done Nak = refl
+reply_done Name = refl
+reply_done (Serial n) = refl
+reply_done (Interface n) = refl
+reply_done (Version id n) = refl
+reply_done (Status running) = refl
+reply_done (State f) = refl
+reply_done (ChannelSetup n) = refl
+reply_done (Frequency hz) = refl
+reply_done FrequencyRange = refl
+reply_done (Gain g) = refl
+reply_done (Clock hz) = refl
+reply_done (Rate hz) = refl
+reply_done (PacketSize n) = refl
+
+pub told_one : (a b : Result Reply Refusal) → read_says a ≡ read_says b → a ≡ b
+told_one (Ok a) (Ok b) e = ap Ok (reply_one a b e)
+told_one (Ok a) (Err r) e = done_no_refusal r (sym (reply_done a) ∙ ap (λ (t : ReplyAnswer). t.code) e)
+told_one (Err r) (Ok b) e = done_no_refusal r (sym (reply_done b) ∙ sym (ap (λ (t : ReplyAnswer). t.code) e))
+told_one (Err r) (Err q) e = ap Err (number_one r q (ap (λ (t : ReplyAnswer). t.code) e))

@@ -22,7 +22,7 @@ use Rattle.rates.proofs.Rates.{d_of_rate, rate_listed, listed_d}
 use Rattle.tuning.specs.Bands.{bands, in_bands, range_bytes}
 use Rattle.tuning.specs.Word.{is_clock, word_of}
 use Rattle.layouts.specs.declared.Layout.{Layout}
-use Rattle.layouts.specs.Layouts.{parameters_of, size_of, laid}
+use Rattle.layouts.specs.Layouts.{echo_bytes, parameters_of, size_of, laid}
 use Rattle.layouts.proofs.Sizes.{length_laid}
 use Rattle.items.proofs.States.{status_bytes}
 use Rattle.items.specs.declared.Settings.{Settings}
@@ -95,7 +95,7 @@ number_of AskPacketSize s = s.size
 -- a reply around a value's bytes
 abbrev around : Wish → List ℕ → List ℕ
 around w v =
-    framed (reply_type (asking w).kind) (bytes 2 (asking w).item.code ++ (pick (layout_of w).echoed ((asking w).echo ∷ []) [] ++ v))
+    framed (reply_type (asking w).kind) (bytes 2 (asking w).item.code ++ (echo_bytes (layout_of w).echo ++ v))
 
 -- a header of the true length before item code and parameters is a message as it is laid out
 framed_laid : (a : Layout) → framed a.kind (bytes 2 a.item ++ parameters_of a) ≡ laid a

@@ -1,7 +1,6 @@
-pub mod Tags
-pub mod Bytes
 pub mod Recognised
 pub mod Values
 pub mod Rests
 pub mod Answers
+pub mod Around
 pub mod Exactly

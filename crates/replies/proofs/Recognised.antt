@@ -6,14 +6,15 @@ use mathlib.Core.List.{List, [], ◌∷◌, ◌++◌}
 use native.Mathlib.Nat.{lt_of_lt_of_le}
 use native.Mathlib.Omega.{arith}
 use lib.Dec.{eqb, ltb, lit<, lit≤}
-use lib.ListN.{length, take, replicate}
+use lib.ListN.{length, replicate}
 use lib.Seq.{sets}
+use Rattle.std.proofs.Common.{Option, Some, None}
 use borrow.Author.Tests.{eq-eqb, eqb-true, eqb-false, ltb-true}
 use Rattle.wire.specs.Choice.{pick, one_of}
 use Rattle.wire.specs.Number.{number, bytes}
 use Rattle.wire.specs.Signed.{coded}
 use Rattle.wire.specs.Header.{nak, type_range_reply}
-use Rattle.wire.proofs.Laws.{and_left, and_right, within_high}
+use Rattle.wire.proofs.Laws.{and_left, and_right, within_high, by_test}
 use Rattle.rates.specs.Rate.{rate_of, nearest_of, may_ask, is_d}
 use Rattle.rates.specs.Table.{d_of}
 use Rattle.rates.proofs.Rates.{rate_asked, nearest_d, listed_d}
@@ -44,12 +45,27 @@ use Rattle.wire.proofs.Lists.{same_eq, same_refl, ne_same, same_test}
 rate_below : (hz : ℕ) → may_ask hz ≡ true → hz < 256 ^ 4
 rate_below hz e = omega (arith, within_high 32_000 2_000_000 hz e)
 
--- the achieved rate of the nearest D
-pub rate_achieved : (hz d a : ℕ) → may_ask hz ≡ true → d ≡ pick (may_ask hz) (nearest_of hz) 0 → a ≡ pick (is_d d) (rate_of d) 0
-    → a ≡ rate_of (nearest_of hz)
-rate_achieved hz d a e near got =
-    let found : d ≡ nearest_of hz = near ∙ rw e in
-    got ∙ rw (found, nearest_d hz e)
+-- the achieved rate of the nearest D, where there is one
+abbrev pub achieved_by : ℕ → Option ℕ
+achieved_by hz = pick (may_ask hz) (Some (rate_of (nearest_of hz))) None
+
+pub none_near : (hz : ℕ) → None ≡ pick (may_ask hz) (Some (nearest_of hz)) None → None ≡ achieved_by hz
+none_near hz near = by_test (may_ask hz) may (λ e. rw e)
+  where
+    may : may_ask hz ≡ true → None ≡ achieved_by hz
+    may e = absurd (let z : None ≡ Some (nearest_of hz) = rw e at near in cc)
+
+pub rate_achieved : (hz d : ℕ) → Some d ≡ pick (may_ask hz) (Some (nearest_of hz)) None
+    → pick (is_d d) (Some (rate_of d)) None ≡ achieved_by hz
+rate_achieved hz d near = by_test (may_ask hz) may none
+  where
+    may : may_ask hz ≡ true → pick (is_d d) (Some (rate_of d)) None ≡ achieved_by hz
+    may e =
+        let found : d ≡ nearest_of hz = (let z : Some d ≡ Some (nearest_of hz) = rw e at near in cc) in
+        rw (found, nearest_d hz e, e)
+
+    none : may_ask hz ≡ false → pick (is_d d) (Some (rate_of d)) None ≡ achieved_by hz
+    none e = absurd (let z : Some d ≡ None = rw e at near in cc)
 
 -- a value that a valid box could give fits its field
 pub could_fits : (w : Wish) (n : ℕ) → allowed_wish w ≡ true → (awaited w).could n ≡ true → n < 256 ^ (awaited w).width
@@ -124,11 +140,10 @@ module _ (channel : ℕ) where
   wish = AskFrequencyRange channel
 
   -- it is the range reply to the channel, written into as many bytes as it has
-  pub range_written : (r : ℕ) (k : List ℕ) → r ≡ 36
-      → k ≡ sets (replicate 36 0) 0 (framed type_range_reply (range_body frequency (channel ∷ [])))
-      → take r k ≡ reply_bytes wish range_number
+  pub range_written : (k : List ℕ) → k ≡ sets (replicate 36 0) 0 (framed type_range_reply (range_body frequency (channel ∷ [])))
+      → k ≡ reply_bytes wish range_number
   unfolding reply_bytes
-  range_written r k whole written = rw (whole, written)
+  range_written k written = written
 
   -- one reply alone is accepted
   pub range_read : (bs l : List ℕ) → l ≡ reply_bytes wish range_number → is_reply wish bs ≡ same bs l

@@ -1,18 +1,13 @@
 -- Two lists of bytes compared from a place on: while what was compared is the same, the lists are the same as their rests are.
 use Prim.Native.Nat.{ℕ, zero, suc, ◌+◌, ◌≤◌, ◌<◌}
 use mathlib.Core.Path.{◌≡◌, refl, sym, ap, ◌∙◌}
-use mathlib.Core.Bool.{true, false, ◌&&◌}
 use mathlib.Core.List.{List, [], ◌∷◌}
-use native.Mathlib.Numerals.{add-one}
 use native.Mathlib.Omega.{arith}
-use lib.Dec.{eqb}
-use lib.ListN.{length, get_or, take, drop, length-drop, drop_of_length-le}
-use lib.Seq.{drop-cons, drop-drop}
-use borrow.Author.Tests.{eq-eqb, ne_eqb}
-use Rattle.wire.specs.Number.{number, bytes, field}
+use lib.ListN.{length, get_or, take, drop, length-drop}
+use lib.Seq.{drop-drop}
+use borrow.Author.Tests.{eq-eqb}
+use Rattle.wire.specs.Number.{bytes, field}
 use Rattle.wire.specs.Lists.{same}
-use Rattle.wire.proofs.Laws.{and_not_left}
-use Rattle.wire.proofs.Lists.{ne_same}
 use Rattle.wire.proofs.Numbers.{field_bytes_lem}
 
 -- behind a front that they share
@@ -24,10 +19,6 @@ same_behind (suc k) (a ∷ l) (b ∷ m) p q e =
     let head : a ≡ b = ap (λ (r : List ℕ). get_or r 0 0) e in
     rw (eq-eqb a b head) (same_behind k l m (omega arith) (omega arith) (ap (drop 1) e))
 
--- a word of the one is not the other's
-pub word_differs : (a b : List ℕ) (i : ℕ) → (field i 8 a ≡ field i 8 b → ⊥) → same (drop i a) (drop i b) ≡ false
-word_differs a b i differ = ne_same (drop i a) (drop i b) (λ is. differ (ap (λ (l : List ℕ). number (take 8 l)) is))
-
 module _ (a b : List ℕ) (even : length a ≡ length b) where
   -- a word is passed
   pub word_turn : ((k : ℕ) → get_or a k 0 < 256) → ((k : ℕ) → get_or b k 0 < 256) → (i : ℕ) → i + 8 ≤ length a
@@ -37,19 +28,3 @@ module _ (a b : List ℕ) (even : length a ≡ length b) where
       = sym (field_bytes_lem i 8 a small_a room) ∙ ap (bytes 8) is ∙ field_bytes_lem i 8 b small_b (omega arith) in
       rw (← drop-drop 8 i a, ← drop-drop 8 i b)
       (same_behind 8 (drop i a) (drop i b) (simp length-drop (omega arith)) (simp length-drop (omega arith)) front)
-
-  -- a byte decides
-  heads : (i : ℕ) → i < length a
-      → same (drop i a) (drop i b) ≡ eqb (get_or a i 0) (get_or b i 0) && same (drop (i + 1) a) (drop (i + 1) b)
-  heads i inside = rw (drop-cons a i 0 inside, drop-cons b i 0 (omega arith), add-one) refl
-
-  pub byte_differs : (i : ℕ) → i < length a → (get_or a i 0 ≡ get_or b i 0 → ⊥) → same (drop i a) (drop i b) ≡ false
-  byte_differs i inside differ = heads i inside ∙ and_not_left _ _ (ne_eqb (get_or a i 0) (get_or b i 0) differ)
-
-  pub byte_turn : (i : ℕ) → i < length a → get_or a i 0 ≡ get_or b i 0
-      → same (drop i a) (drop i b) ≡ same (drop (i + 1) a) (drop (i + 1) b)
-  byte_turn i inside is = heads i inside ∙ rw (eq-eqb (get_or a i 0) (get_or b i 0) is) refl
-
-  -- the end
-  pub ended : (i : ℕ) → length a ≤ i → same (drop i a) (drop i b) ≡ true
-  ended i end = rw (drop_of_length-le a end, drop_of_length-le b {i = i} (omega arith)) refl

@@ -2,12 +2,12 @@
 -- ninth that is zero. And NAK, which has two.
 use Prim.Native.Nat.{ℕ, zero, suc, ◌+◌, ◌*◌, ◌^◌, ◌≤◌, ◌<◌}
 use mathlib.Core.Path.{◌≡◌, refl, sym, ap, ◌∙◌}
-use mathlib.Core.Bool.{Bool, true, false, ◌&&◌, and-true}
+use mathlib.Core.Bool.{Bool, true, false, and-true}
 use mathlib.Core.List.{List, [], ◌∷◌}
 use native.Mathlib.Nat.{mul_assoc, pow-succ', lt_of_lt_of_le, pow-le-pow_right}
 use native.Mathlib.Omega.{arith}
 use lib.Dec.{eqb, ltb, lit≤}
-use lib.ListN.{length, get_or, take, drop, length-drop, drop_of_length-le}
+use lib.ListN.{length, take, drop, length-drop}
 use lib.Seq.{take_all, drop-drop}
 use borrow.Author.Tests.{eqb-true, eqb-false, ltb-true}
 use Rattle.wire.specs.Number.{number, bytes, field}
@@ -15,7 +15,6 @@ use Rattle.wire.specs.Header.{nak}
 use Rattle.wire.specs.Lists.{same}
 use Rattle.wire.proofs.Laws.{true_not_false, and_right, and_not_right}
 use Rattle.wire.proofs.Lists.{same_eq, ne_same}
-use Rattle.wire.proofs.Numbers.{field_step}
 use Rattle.layouts.specs.Layouts.{has_layout}
 use Rattle.layouts.proofs.Sizes.{length_laid}
 use Rattle.items.specs.Settings.{all_serial}
@@ -124,23 +123,6 @@ module _ (w : Wish) (bs : List ℕ) (other : asks_range w ≡ false) where
     unfolding is_reply
     given_could t could = rw (so, could) (and-true t)
 
--- ---- bytes that are looked at one by one
-
--- the byte behind the eight, which may not be there
-pub no_byte_lem : (at : ℕ) (bs : List ℕ) → length bs ≤ at → true ≡ eqb (field at 1 bs) 0
-no_byte_lem at bs short = rw (drop_of_length-le bs short) refl
-
-pub one_byte : (at : ℕ) (bs : List ℕ) → at < length bs → eqb (get_or bs at 0) 0 ≡ eqb (field at 1 bs) 0
-one_byte at bs there =
-    let is : field at 1 bs ≡ get_or bs at 0 = omega (arith, field_step bs at 0 there) in
-    ap (λ (n : ℕ). eqb n 0) (sym is)
-
--- the two of NAK
-pub is_nak_by : (bs : List ℕ) → length bs ≡ 2 → eqb (get_or bs 0 0) 0x02 && eqb (get_or bs 1 0) 0x00 ≡ is_nak bs
-is_nak_by [] two = absurd (omega arith)
-is_nak_by (a ∷ []) two = absurd (omega arith)
-is_nak_by (a ∷ b ∷ []) two = ap (λ (t : Bool). eqb a 0x02 && t) (sym (and-true (eqb b 0x00)))
-is_nak_by (a ∷ b ∷ c ∷ bs) two = absurd (omega arith)
-
+-- bytes that are not two are no NAK
 pub no_nak : (bs : List ℕ) → (length bs ≡ 2 → ⊥) → false ≡ is_nak bs
 no_nak bs longer = sym (ne_same bs nak (λ is. longer (ap length is)))

@@ -104,8 +104,7 @@ reply_layout w n =
     record {
       kind = reply_type (asking w).kind;
       item = (asking w).item.code;
-      echoed = (layout_of w).echoed;
-      echo = (asking w).echo;
+      echo = (layout_of w).echo;
       width = (awaited w).width;
       value = n;
     }

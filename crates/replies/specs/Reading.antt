@@ -1,9 +1,11 @@
 -- Reading a reply to a wish.
-use Rattle.std.specs.Prelude.{ℕ, Bool, ◌&&◌, ◌||◌, not, List, [], ◌∷◌, map, eqb, ℤ, pos}
+use Rattle.std.specs.Prelude.{ℕ, Bool, ◌&&◌, ◌||◌, not, Result, Ok, Err, List, [], ◌∷◌, map, eqb, ℤ, pos}
 use Rattle.wire.specs.Choice.{pick, Check, check, first_of}
 use Rattle.wire.specs.Codes as Code
 use Rattle.wire.specs.Header.{nak}
 use Rattle.wire.specs.Lists.{same}
+use Rattle.wire.specs.Refusal.{refusal_code}
+use Rattle.wire.specs.declared.refusal.Refusal.{Refusal}
 use Rattle.tuning.specs.Bands.{Band, bands}
 use Rattle.items.specs.Items.{name_bytes, name, serial, interface, versions, status_byte}
 use Rattle.items.specs.Items.{status, state, channel_setup, frequency, gain, clock, rate, packet_size}
@@ -12,7 +14,6 @@ use Rattle.wishes.specs.Wishes.{open_wish, allowed_wish}
 use Rattle.replies.specs.declared.Reply.{Reply}
 use Rattle.replies.specs.declared.Reply.TheVariants.{Nak, Name, Serial, Interface, Version, Status, State, ChannelSetup}
 use Rattle.replies.specs.declared.Reply.TheVariants.{Frequency, FrequencyRange, Gain, Clock, Rate, PacketSize}
-use Rattle.replies.specs.declared.Reply.TheVariants.{ChannelNotAllowed, NotAllowed, NotAReply}
 use Rattle.replies.specs.Awaited.{awaited, reply_bytes, number_in}
 
 abbrev pub is_nak : List ℕ → Bool
@@ -56,7 +57,7 @@ abbrev pub range_values : List Band → List ℤ
 range_values [] = []
 range_values (b ∷ bs) = pos b.minimum ∷ pos b.maximum ∷ pos b.oscillator ∷ range_values bs
 
--- the number and the values of each case
+-- the item and the values of each case
 abbrev pub reply_says : Reply → ReplyAnswer
 reply_says Nak = said 0 []
 reply_says Name = said name.code (map pos name_bytes)
@@ -72,9 +73,11 @@ reply_says (Gain g) = said gain.code (g ∷ [])
 reply_says (Clock hz) = said clock.code (pos hz ∷ [])
 reply_says (Rate hz) = said rate.code (pos hz ∷ [])
 reply_says (PacketSize n) = said packet_size.code (pos n ∷ [])
-reply_says ChannelNotAllowed = refused Code.channel_not_allowed
-reply_says NotAllowed = refused Code.value_not_allowed
-reply_says NotAReply = refused Code.not_a_reply
+
+-- what is read: a reply, or the refusal's code
+abbrev pub read_says : Result Reply Refusal → ReplyAnswer
+read_says (Ok r) = reply_says r
+read_says (Err r) = refused (refusal_code r)
 
 -- what reading the bytes that came answers
 unfoldable pub reply_reader_says : Wish → List ℕ → ReplyAnswer

@@ -1,7 +1,7 @@
 // What a wish waits for: how wide the value is, which values a valid box could give, and what each says.
-ghost use Rattle.std.specs.Prelude.{◌≡◌, true, false, [], ◌∷◌, ◌^◌, ◌<◌};
-ghost use Rattle.wire.specs.Choice.{one_of};
-ghost use Rattle.wire.specs.Signed.{signed};
+ghost use Rattle.std.specs.Prelude.{◌≡◌, true, false, [], ◌∷◌, ◌^◌, ◌<◌, Some, None};
+ghost use Rattle.wire.specs.Choice.{pick, one_of};
+ghost use Rattle.rates.specs.Rate.{may_ask, rate_of, nearest_of};
 ghost use Rattle.wishes.specs.Wishes.{allowed_wish};
 ghost use Rattle.replies.specs.Awaited.{awaited, asks_range, is_status, state_shown, is_state, state_could, says_state};
 ghost use Rattle.replies.specs.declared.Reply.TheVariants.{State};
@@ -31,13 +31,7 @@ pub(crate) fn width_of(w: Wish) -> u8
 fn is_status(n: u64) -> bool
     ensures { result ≡ is_status n }
 {
-    if n == values::STATUS_IDLE {
-        return true;
-    }
-    if n == values::STATUS_RUNNING {
-        return true;
-    }
-    false
+    matches!(n, values::STATUS_IDLE | values::STATUS_RUNNING)
 }
 
 // "Replies hold 80, run byte, mode, 00 (house)": this run byte, and either mode.
@@ -65,6 +59,13 @@ fn state_could(fields: StateFields, n: u64) -> bool
     n == values::state_number(values::RUN, fields.mode)
 }
 
+// The rate that a box answers with where this one is set.
+fn achieved_for(hz: u32) -> Option<u32>
+    ensures { result ≡ pick (may_ask hz) (Some (rate_of (nearest_of hz))) None }
+{
+    rates::achieved(rates::nearest(hz)?)
+}
+
 // A valid box could give the value n to the wish: a set is answered with the value that was sent, but for a rate, which is
 // achieved, and for idle, which keeps the mode.
 pub(crate) fn could_say(w: Wish, n: u64) -> bool
@@ -83,31 +84,19 @@ pub(crate) fn could_say(w: Wish, n: u64) -> bool
         Wish::AskFrequency(_) => tuning::in_bands(n),
         Wish::AskGain(_) => items::ranges::is_gain(n as u32),
         Wish::AskClock(_) => tuning::is_clock(n as u32),
-        Wish::SetRate(_, hz) => n == rates::achieved(rates::nearest(hz)) as u64,
-        Wish::AskRate(_) => 0 < rates::d_of(n as u32),
+        Wish::SetRate(_, hz) => achieved_for(hz) == Some(n as u32),
+        Wish::AskRate(_) => rates::d_of(n as u32).is_some(),
         Wish::AskPacketSize => items::ranges::is_size(n as u32),
         _ => n == wishes::layout_of(w).value,
     }
-}
-
-// The number that a signed byte stands for.
-fn signed_byte(byte: u8) -> i8
-    ensures { result ≡ signed 8 byte }
-{
-    if byte < 128 {
-        return byte as i8;
-    }
-    (byte as i16 - 256) as i8
 }
 
 // Run byte and mode are the second and third of four bytes.
 fn state_in(n: u64) -> StateFields
     ensures { State result ≡ says_state n }
 {
-    StateFields {
-        run: (n / 256 % 256) as u8,
-        mode: (n / 65536 % 256) as u8,
-    }
+    let [_, run, mode, ..] = n.to_le_bytes();
+    StateFields { run, mode }
 }
 
 // What the value n says to the wish.
@@ -125,7 +114,7 @@ pub(crate) fn says(w: Wish, n: u64) -> Reply
         Wish::SetChannelSetup(_) | Wish::AskChannelSetup => Reply::ChannelSetup(n as u8),
         Wish::SetFrequency(_, _) | Wish::AskFrequency(_) => Reply::Frequency(n),
         Wish::AskFrequencyRange(_) => Reply::FrequencyRange,
-        Wish::SetGain(_, _) | Wish::AskGain(_) => Reply::Gain(signed_byte(n as u8)),
+        Wish::SetGain(_, _) | Wish::AskGain(_) => Reply::Gain((n as u8).cast_signed()),
         Wish::SetClock(_, _) | Wish::AskClock(_) => Reply::Clock(n as u32),
         Wish::SetRate(_, _) | Wish::AskRate(_) => Reply::Rate(n as u32),
         Wish::SetPacketSize(_) | Wish::AskPacketSize => Reply::PacketSize(n as u8),

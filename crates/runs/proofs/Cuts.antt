@@ -11,7 +11,7 @@ use lib.IntN.{ℤ}
 use lib.ListN.{length, take, drop}
 use lib.Seq.{sets, length-sets, drop-drop}
 use Rattle.station.specs.declared.Station.{Station}
-use Rattle.cutting.specs.declared.Cut.{Cut}
+use Rattle.cutting.specs.Cutting.{Cut}
 use Rattle.cutting.specs.Cutting.{Cutting, cutting_of}
 use Rattle.cutting.proofs.Ways.{each_cut}
 use Rattle.runs.specs.Cutting.{ran, cut_on, cut_run}

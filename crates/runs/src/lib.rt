@@ -7,7 +7,6 @@ ghost use Rattle.runs.specs.Cutting.{started, cut_run};
 ghost use Rattle.runs.specs.Reading.{read_run};
 
 use station::Station;
-use wire::codes;
 
 // Reads packets of `each` bytes one after another by a new reader of so many channels, to the first that it refuses. Answers the
 // position of the first sample of the last packet heard, and leaves the total of packets missed in its capture up to it; both are
@@ -29,20 +28,17 @@ pub extern "C" fn skvornela_read_run(
     let mut sample: u64 = 0;
     let mut lost: u64 = 0;
     let mut at: usize = 0;
-    let mut left = packets.len() / each;
-    while 0 < left {
+    let turns = packets.len() / each;
+    for turn in 0..turns {
         let end = at + each;
-        let h = reader::read(r, &packets[at..end]);
-        if h.code != codes::DONE {
+        let Ok(h) = reader::read(r, &packets[at..end]) else {
             *total = lost;
             return sample;
-        }
+        };
         sample = h.sample;
         lost = h.total;
-        let after = h.reader;
-        r = after;
+        r = h.reader;
         at = end;
-        left -= 1;
     }
     *total = lost;
     sample
@@ -84,22 +80,17 @@ pub extern "C" fn skvornela_cut_run(
         return 0;
     }
     let mut s = started(mode, size, setup);
-    let mut left = wire::lesser(samples.len() / n, out.len() / total);
-    let mut count: usize = 0;
+    let packets = (samples.len() / n).min(out.len() / total);
     let mut i: usize = 0;
     let mut at: usize = 0;
-    while 0 < left {
+    for count in 0..packets {
         let end = i + n;
-        let cut = cutting::cut_packet(s, &samples[i..end], &mut out[at..]);
-        if cut.code != codes::DONE {
+        let Ok(cut) = cutting::cut_packet(s, &samples[i..end], &mut out[at..]) else {
             return count;
-        }
-        let after = cut.station;
-        s = after;
-        count += 1;
+        };
+        s = cut.left;
         i = end;
         at += total;
-        left -= 1;
     }
-    count
+    packets
 }

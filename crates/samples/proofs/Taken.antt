@@ -87,3 +87,7 @@ hold_pair p held first i w small long room is so =
     rw next
     (hold_turn known (set held (2 * i) (w % 65_536)) (2 * i + 1) (w / 65_536) (simp length-set room) (rw (one, two) at pair.1)
     (hold_turn known held (2 * i) (w % 65_536) (omega arith) (rw one at pair.0) so))
+
+-- the samples of the block from the k-th on, stored
+abbrev pub stored : List ℕ → ℕ → List ℤ → ℕ → List ℤ
+stored packet first out k = sets out (2 * first + k) (samples_from 16 (drop 4 packet) (2 * first + k) (2 * (first + 32) - (2 * first + k)))

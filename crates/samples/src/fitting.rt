@@ -21,11 +21,9 @@ pub fn all_fit(samples: &[i32]) -> bool
     let n = samples.len() - half;
     let mut first = 0u32;
     let mut second = 0u32;
-    let mut i = 0;
-    while i < n {
-        first = first | above(samples[i]);
-        second = second | above(samples[half + i]);
-        i += 1;
+    for i in 0..n {
+        first |= above(samples[i]);
+        second |= above(samples[half + i]);
     }
     first | second < 16777216
 }

@@ -11,7 +11,8 @@ use crate::fitting::all_fit;
 use packets::Form;
 
 // Writes a word at a place that the slice has: stores of one number side by side are one of the processor's. (`wire::put` looks
-// first whether the slice has it: a test at each word.)
+// first whether the slice has it: a test at each word. Tried: `copy_from_slice(&v.to_le_bytes())` costs `pack24` twice the
+// instructions.)
 fn put_word(dst: &mut [u8], at: usize, v: u32)
     requires { at + 4 ≤ length dst.old }
     ensures { dst.new ≡ sets dst.old at (bytes 4 v) }
@@ -76,14 +77,12 @@ fn pack24(samples: &[i32], packet: &mut [u8], fours: usize)
         × (4 + 12 * fours ≤ length packet.old) }
     ensures { packet.new ≡ sets packet.old 4 (samples_bytes 24 samples.now) }
 {
-    let mut i = 0;
-    while i < fours {
+    for i in 0..fours {
         let a = code24(samples, 4 * i);
         let b = code24(samples, 4 * i + 1);
         let c = code24(samples, 4 * i + 2);
         let d = code24(samples, 4 * i + 3);
         put_four24(packet, 4 + 12 * i, a, b, c, d);
-        i += 1;
     }
 }
 
@@ -92,12 +91,10 @@ fn pack16(samples: &[i32], packet: &mut [u8])
     requires { (all_samples samples.now ≡ true) × (4 + 2 * length samples.now ≤ length packet.old) }
     ensures { packet.new ≡ sets packet.old 4 (samples_bytes 16 samples.now) }
 {
-    let mut i = 0;
-    while i < samples.len() {
+    for i in 0..samples.len() {
         let v = code16(samples, i);
         packet[4 + 2 * i] = (v % 256) as u8;
         packet[5 + 2 * i] = (v / 256) as u8;
-        i += 1;
     }
 }
 
@@ -107,13 +104,13 @@ pub fn pack(f: Form, samples: &[i32], packet: &mut [u8]) -> bool
     ensures { (result ≡ may_pack f samples.now (length packet.old))
         × (packet.new ≡ sets packet.old 4 (packed_of f samples.now (length packet.old))) }
 {
-    if !packets::is_listed(f) {
+    let Some(total) = packets::total_of(f) else {
         return false;
-    }
+    };
     if samples.len() as u64 != 2 * f.pairs {
         return false;
     }
-    if (packet.len() as u64) < packets::total_of(f) {
+    if (packet.len() as u64) < total {
         return false;
     }
     // all are looked at before the first is written

@@ -37,10 +37,8 @@ fn unpack24(packet: &[u8], out: &mut [i32], n: usize)
     requires { (4 + 3 * n ≤ length packet.now) × (n ≤ length out.old) }
     ensures { out.new ≡ sets out.old 0 (samples_from 24 (drop 4 packet.now) 0 n) }
 {
-    let mut i = 0;
-    while i < n {
+    for i in 0..n {
         out[i] = sign24(word_at(packet, 3 + 3 * i) / 256);
-        i += 1;
     }
 }
 
@@ -52,21 +50,15 @@ fn block16(packet: &[u8], out: &mut [i32], first: usize)
         ≡ sets out.old (2 * first) (samples_from 16 (drop 4 packet.now) (2 * first) (2 * (first + 32) - 2 * first)) }
 {
     let mut held = [0u16; 64];
-    let mut round = 0;
-    while round < 8 {
-        let mut i = 4 * round;
-        while i < 4 * round + 4 {
+    for round in 0..8usize {
+        for i in 4 * round..4 * round + 4 {
             let pair = word_at(packet, 4 + 4 * (first + i));
             held[2 * i] = (pair % 65536) as u16;
             held[2 * i + 1] = (pair / 65536) as u16;
-            i += 1;
         }
-        let mut k = 8 * round;
-        while k < 8 * round + 8 {
+        for k in 8 * round..8 * round + 8 {
             out[2 * first + k] = sign16(held[k]);
-            k += 1;
         }
-        round += 1;
     }
 }
 
@@ -75,10 +67,8 @@ fn unpack16(packet: &[u8], out: &mut [i32], blocks: usize)
     requires { (4 + 128 * blocks ≤ length packet.now) × (64 * blocks ≤ length out.old) }
     ensures { out.new ≡ sets out.old 0 (samples_from 16 (drop 4 packet.now) 0 (64 * blocks)) }
 {
-    let mut i = 0;
-    while i < blocks {
+    for i in 0..blocks {
         block16(packet, out, 32 * i);
-        i += 1;
     }
 }
 
@@ -88,10 +78,10 @@ pub fn unpack(f: Form, packet: &[u8], out: &mut [i32]) -> bool
     ensures { (result ≡ may_unpack f (length packet.now) (length out.old))
         × (out.new ≡ sets out.old 0 (unpacked_of f packet.now (length out.old))) }
 {
-    if !packets::is_listed(f) {
+    let Some(total) = packets::total_of(f) else {
         return false;
-    }
-    if (packet.len() as u64) < packets::total_of(f) {
+    };
+    if (packet.len() as u64) < total {
         return false;
     }
     if (out.len() as u64) < 2 * f.pairs {

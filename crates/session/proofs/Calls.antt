@@ -7,7 +7,7 @@ use mathlib.Core.List.{List}
 use lib.ListN.{length, take}
 use lib.Seq.{sets, sets-eq, length-sets, take-append_seam}
 use Rattle.station.specs.declared.Station.{Station}
-use Rattle.station.specs.declared.Fed.{Fed}
+use Rattle.station.specs.Feeding.{Fed}
 use Rattle.station.specs.Feeding.{feeding_of}
 use Rattle.station.proofs.Calls.{feeding_within}
 

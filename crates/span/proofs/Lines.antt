@@ -2,15 +2,18 @@
 -- Assumes nothing.
 use Prim.Native.Nat.{ℕ, ◌≤◌}
 use native.Mathlib.Omega.{arith}
-use mathlib.Core.Path.{◌≡◌, ap, ◌∙◌}
+use mathlib.Core.Path.{◌≡◌, refl, ap, ◌∙◌}
 use mathlib.Core.List.{List}
 use lib.ListN.{length, take}
 use lib.Seq.{sets, length-sets}
+use Rattle.std.specs.Prelude.{Option, Some, None, Result, Ok, Err}
+use Rattle.std.specs.Option.{unwrap_or}
+use Rattle.std.specs.Result.{result_unwrap_or}
+use Rattle.wire.specs.declared.refusal.Refusal.{Refusal}
 use Rattle.wire.proofs.Stores.{sets_taken}
-use Rattle.lines.specs.declared.LinesAnswer.{LinesAnswer}
+use Rattle.lines.specs.Due.{LinesAnswer}
 use Rattle.spans.specs.declared.Span.{Span}
-use Rattle.spans.specs.declared.Eaten.{Eaten}
-use Rattle.spans.specs.Eating.{eating_of, finishing_of}
+use Rattle.spans.specs.Eating.{Eaten, end_told, eating_of, finishing_of}
 use Rattle.spans.proofs.Within.{eating_within, finishing_within}
 
 pub record Lines (text : List ℕ) (wrote : ℕ) (array : List ℕ) : Type 0 where
@@ -40,3 +43,9 @@ lines_of_end s l array r long is stored =
     let wrote : r.wrote ≡ (finishing_of s 256).answer.wrote = ap (λ (t : LinesAnswer). t.wrote) is in
     let within = finishing_within s 256 in
     stand (finishing_of s 256).bytes l array r.wrote (wrote ∙ within.counts) (omega (arith, within.wrote)) stored
+
+-- how many bytes of lines the end has, as it is asked for: none where none are due or it is refused
+pub end_wrote : (r : Result (Option ℕ) Refusal) → unwrap_or (result_unwrap_or r None) 0 ≡ (end_told r).wrote
+end_wrote (Ok (Some n)) = refl
+end_wrote (Ok None) = refl
+end_wrote (Err r) = refl

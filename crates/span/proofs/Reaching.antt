@@ -4,21 +4,17 @@ use Prim.Native.Nat.{ℕ, suc, ◌+◌, ◌≤◌, ◌<◌}
 use native.Mathlib.Omega.{arith}
 use mathlib.Core.Path.{◌≡◌, refl, sym, ap, subst, ◌∙◌}
 use mathlib.Core.Bool.{false}
-use mathlib.Core.Logic.{inl, inr}
 use mathlib.Core.List.{List, [], ◌∷◌, ◌++◌, append-nil, append_assoc}
-use lib.IntN.{ℤ, pos}
-use lib.Signed.{lt_z}
-use lib.ListN.{length, get_or, take, length-append}
+use lib.ListN.{length, get_or, length-append}
 use Rattle.wire.specs.Lists.{all_bytes, joined}
-use Rattle.wire.proofs.Lists.{bytes_append, bytes_take}
+use Rattle.wire.proofs.Lists.{bytes_append}
 use Rattle.hearing.specs.Hearing.{farthest}
-use Rattle.reads.proofs.Got.{whole}
 use Rattle.spans.specs.declared.Span.{Span}
 use Rattle.spans.specs.Eating.{fresh_span}
 use Rattle.spans.specs.Pieces.{Handed, before, handed, handed_all}
 use Rattle.spans.proofs.Going.{Going, fresh_going}
 use Rattle.spans.proofs.Cuts.{all_calls}
-use Rattle.span.specs.SoFar.{SpanSoFar, WantsNoMore, ReadToItsEnd}
+use Rattle.span.specs.SoFar.{SpanSoFar}
 
 -- it has stopped, or it goes on after so many bytes of input
 abbrev pub Goes : Span → ℕ → Type 0
@@ -75,22 +71,16 @@ pub none_read : SpanSoFar fresh_span 0
 unfolding handed_all
 none_read = record { pieces = []; count = refl; near = omega arith; are_bytes = tt; span = refl }
 
--- a piece more, the first n bytes of a buffer, and they are counted
-pub piece_read : (s after : Span) (read n : ℕ) (buf : List ℕ) → SpanSoFar s read → length (take n buf) ≡ n → read + n ≤ farthest
-    → ((k : ℕ) → get_or buf k 0 < 256) → after ≡ (handed s (take n buf)).span
-    → SpanSoFar after (read + n)
-piece_read s after read n buf r long near small is =
-    let piece : List ℕ = take n buf in
-    let bytes = bytes_append (joined r.pieces) piece r.are_bytes (bytes_take n buf (all_bytes_lem buf small)) in
+-- a piece more, and its bytes are counted
+pub piece_read : (s after : Span) (read : ℕ) (piece : List ℕ) → SpanSoFar s read → read + length piece ≤ farthest
+    → ((k : ℕ) → get_or piece k 0 < 256) → after ≡ (handed s piece).span
+    → SpanSoFar after (read + length piece)
+piece_read s after read piece r near small is =
+    let bytes = bytes_append (joined r.pieces) piece r.are_bytes (all_bytes_lem piece small) in
     record {
       pieces = r.pieces ++ piece ∷ [];
-      count = omega (arith, joined_last r.pieces piece, long, r.count);
+      count = omega (arith, joined_last r.pieces piece, r.count);
       near = near;
       are_bytes = subst all_bytes (sym (joined_snoc r.pieces piece)) bytes;
       span = is ∙ ap (λ (x : Span). (handed x piece).span) r.span ∙ sym (handed_last r.pieces fresh_span piece);
     }
-
--- a read that met the end, and did not fail
-pub to_its_end : (s : Span) (got : ℤ) → WantsNoMore s got → lt_z got (pos 0) ≡ false → ReadToItsEnd s got
-to_its_end s got (inl stopped) h = inl stopped
-to_its_end s got (inr none) h = inr (whole got none h)

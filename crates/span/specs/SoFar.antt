@@ -1,9 +1,9 @@
 -- The input as the program hands it over, in the words of spans/specs/Pieces: what its writes require, and that the report is
 -- what is written then.
-use Rattle.std.specs.Prelude.{ℕ, ◌+◌, ◌≤◌, ◌≡◌, true, ◌⊎◌, List, ◌++◌, ℤ, length}
+use Rattle.std.specs.Prelude.{ℕ, ◌+◌, ◌≤◌, ◌≡◌, true, ◌⊎◌, List, ◌++◌, length, Result}
 use Rattle.wire.specs.Lists.{all_bytes, joined}
 use Rattle.hearing.specs.Hearing.{farthest}
-use Rattle.reads.specs.Got.{NoMore, Whole}
+use Rattle.reads.specs.Got.{Whole}
 use Rattle.spans.specs.declared.Span.{Span}
 use Rattle.spans.specs.Report.{report}
 use Rattle.spans.specs.Eating.{fresh_span, finishing_of}
@@ -22,12 +22,8 @@ pub record SpanSoFar (s : Span) (read : ℕ) : Type 0 where
 abbrev pub Countable : ℕ → List ℕ → Type 0
 Countable read piece = read + length piece ≤ farthest
 
--- why no more is read: the span has stopped, or the last read's answer was of that kind
-abbrev pub WantsNoMore : Span → ℤ → Type 0
-WantsNoMore s got = (s.stopped ≡ true) ⊎ NoMore got
-
 -- the input was read to its end, or as far as the span looks
-abbrev pub ReadToItsEnd : Span → ℤ → Type 0
+abbrev pub ReadToItsEnd : {E : Type 0} → Span → Result ℕ E → Type 0
 ReadToItsEnd s got = (s.stopped ≡ true) ⊎ Whole got
 
 -- ---- what is proved of it: proofs/Inputs

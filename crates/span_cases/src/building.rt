@@ -1,37 +1,34 @@
 // From a line to an input.
 ghost use Rattle.std.specs.Prelude.{◌≤◌, length};
 
-use crate::feeding::{further, ways};
+use crate::feeding::ways;
 use crate::saying::first;
 use std::io::Stdout;
 
-// How much of an input there is, and the first digit of a byte that is half there (16 where none is).
+// How much of an input there is, and the first digit of a byte that is half there.
 #[derive(Drop)]
 struct Made {
     at: usize,
-    high: u8,
+    high: Option<u8>,
 }
 
-// The value of a hexadecimal digit; 16 for anything else.
-fn value_of(digit: u8) -> u8 {
+// The value of a hexadecimal digit, in capitals.
+fn value_of(digit: u8) -> Option<u8> {
     match digit {
-        b'0'..=b'9' => digit - b'0',
-        b'A'..=b'F' => digit - 55,
-        _ => 16,
+        b'0'..=b'9' => Some(digit - b'0'),
+        b'A'..=b'F' => Some(digit - 55),
+        _ => None,
     }
 }
 
-// The place behind the packet whose first four bytes were put last.
+// The place behind the packet whose first four bytes were put last, at most the end.
 fn packet_end(input: &[u8], at: usize) -> usize {
     if at < 4 {
         return at;
     }
     let header = wire::number_at(input, at - 4, 2) % 65536;
-    further(at - 4, wire::length_in(header as u16) as usize, input.len())
-}
-
-fn one_less(at: usize) -> usize {
-    if at == 0 { 0 } else { at - 1 }
+    let total = wire::length_in(header as u16) as usize;
+    (at - 4).saturating_add(total).min(input.len())
 }
 
 // One character of the line more.
@@ -39,36 +36,40 @@ fn put_next(m: Made, c: u8, input: &mut [u8]) -> Made {
     if c == b'*' {
         return Made {
             at: packet_end(input, m.at),
-            high: 16,
+            high: None,
         };
     }
     if c == b'-' {
         return Made {
-            at: one_less(m.at),
-            high: 16,
+            at: m.at.saturating_sub(1),
+            high: None,
         };
     }
     let value = value_of(c);
-    if m.high < 16 {
-        wire::put(input, m.at, 1, m.high as u64 * 16 + value as u64);
+    let Some(high) = m.high else {
         return Made {
-            at: further(m.at, 1, input.len()),
-            high: 16,
+            at: m.at,
+            high: value,
         };
-    }
+    };
+    // what is no digit counts 16 behind the first digit of a byte
+    wire::put(
+        input,
+        m.at,
+        1,
+        high as u64 * 16 + value.unwrap_or(16) as u64,
+    );
     Made {
-        at: m.at,
-        high: value,
+        at: m.at.saturating_add(1).min(input.len()),
+        high: None,
     }
 }
 
 // Puts the bytes of a line in a slice of zeros, and answers how many there are.
 fn build(line: &[u8], input: &mut [u8]) -> usize {
-    let mut m = Made { at: 0, high: 16 };
-    let mut i = 0;
-    while i < line.len() {
-        m = put_next(m, line[i], input);
-        i += 1;
+    let mut m = Made { at: 0, high: None };
+    for &c in line {
+        m = put_next(m, c, input);
     }
     m.at
 }
@@ -85,23 +86,19 @@ fn find(text: &[u8], from: usize, b: u8) -> usize
     requires { from ≤ length text.now }
     ensures { (from ≤ result) × (result ≤ length text.now) }
 {
-    let mut i = from;
-    while i < text.len() {
-        if text[i] == b {
-            return i;
-        }
-        i += 1;
+    match text[from..].iter().position(|&c| c == b) {
+        Some(i) => from + i,
+        None => text.len(),
     }
-    i
 }
 
-// One case after the other.
+// One case after the other. A name goes up to the next colon, wherever that is, and the place moves by a case at a time.
 pub(crate) fn cases(out: Stdout, text: &[u8]) {
     let mut at = 0;
     while at < text.len() {
         let colon = find(text, at, b':');
         let end = find(text, colon, b'\n');
         case(out, &text[at..colon], &text[colon..end]);
-        at = further(end, 1, text.len());
+        at = end.saturating_add(1).min(text.len());
     }
 }

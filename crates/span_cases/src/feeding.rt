@@ -1,52 +1,41 @@
 // An input is handed to a span in pieces, and what is due is printed.
-ghost use Rattle.std.specs.Prelude.{◌≡◌, ◌+◌, ◌<◌, min};
-ghost use Rattle.spans.specs.Eating.{eating_of};
+ghost use Rattle.std.specs.Prelude.{◌≡◌, ◌<◌};
+ghost use Rattle.spans.specs.Eating.{eating_of, eaten_told};
 
 use crate::saying::{first, say};
 use spans::{Eaten, Span};
 use std::io::Stdout;
-
-// The place n bytes behind another, at most the end.
-pub(crate) fn further(at: usize, n: usize, end: usize) -> usize
-    ensures { result ≡ min (at + n) end }
-{
-    if end < at {
-        return end;
-    }
-    if end - at < n {
-        return end;
-    }
-    at + n
-}
+use wire::Refusal;
 
 // Hands a piece of the input over, and prints the lines that are due.
-fn hand_over(out: Stdout, s: Span, piece: &[u8]) -> Eaten
-    ensures { result ≡ (eating_of s piece.now 256).eaten }
+fn hand_over(out: Stdout, s: Span, piece: &[u8]) -> Result<Eaten, Refusal>
+    ensures { eaten_told s result ≡ (eating_of s piece.now 256).eaten }
 {
     let mut lines = [0u8; 256];
-    let e = spans::eat(s, piece, &mut lines);
+    let e = spans::eat(s, piece, &mut lines)?;
     say(out, first(&lines, e.wrote));
-    e
+    Ok(e)
 }
 
 // Prints the lines that the end of the input brings.
 fn close(out: Stdout, s: Span) {
     let mut lines = [0u8; 256];
-    let told = spans::finish(s, &mut lines);
-    say(out, first(&lines, told.wrote));
+    if let Ok(Some(wrote)) = spans::finish(s, &mut lines) {
+        say(out, first(&lines, wrote));
+    }
 }
 
-// Hands an input over in pieces of so many bytes, each from where the one before was consumed to; then the end.
+// Hands an input over in pieces of so many bytes, each from where the one before was consumed to; then the end. A call consumes some
+// of its piece, and so it refuses nothing.
 fn run(out: Stdout, input: &[u8], step: usize)
     requires { 0 < step }
 {
     let mut span = spans::fresh();
-    let mut at = 0;
-    while at < input.len() {
-        let e = hand_over(out, span, first(&input[at..], step));
-        let next = e.span;
-        span = next;
-        at += e.consumed;
+    let mut rest = input;
+    while !rest.is_empty() {
+        let e = hand_over(out, span, first(rest, step)).unwrap();
+        span = e.span;
+        rest = &rest[e.consumed..];
     }
     close(out, span);
 }
@@ -68,15 +57,13 @@ pub(crate) fn ways(out: Stdout, name: &[u8], input: &[u8]) {
     cut(out, name, b": pieces of 389\n", input, 389);
 }
 
-// Hands the same packet over so many times.
-fn again(out: Stdout, s: Span, packet: &[u8], count: u32) -> Span {
+// Hands the same piece over so many times. Where it is refused the span stays as it is.
+fn again(out: Stdout, s: Span, piece: &[u8], count: u32) -> Span {
     let mut span = s;
-    let mut left = count;
-    while 0 < left {
-        let e = hand_over(out, span, packet);
-        let next = e.span;
-        span = next;
-        left -= 1;
+    for _ in 0..count {
+        if let Ok(e) = hand_over(out, span, piece) {
+            span = e.span;
+        }
     }
     span
 }
@@ -85,14 +72,15 @@ fn again(out: Stdout, s: Span, packet: &[u8], count: u32) -> Span {
 pub(crate) fn repeated(out: Stdout, name: &[u8], number: u64, count: u32) {
     say(out, name);
     say(out, b": packet by packet\n");
-    let opened = hand_over(
+    let opened = again(
         out,
         spans::fresh(),
         b"SPN\x01\x00\x64\x00\x80\x96\x98\x00\x00\x80\x01",
+        1,
     );
     let mut packet = [0u8; 388];
     wire::put(&mut packet, 0, 4, 0x0000_8184);
-    let begun = again(out, opened.span, &packet, 1);
+    let begun = again(out, opened, &packet, 1);
     wire::put(&mut packet, 2, 2, number);
     close(out, again(out, begun, &packet, count));
 }

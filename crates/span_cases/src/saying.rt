@@ -11,8 +11,5 @@ pub(crate) fn say(out: Stdout, text: &[u8]) {
 pub(crate) fn first(bytes: &[u8], n: usize) -> &[u8]
     ensures { result.now ≡ take n bytes.now }
 {
-    if bytes.len() < n {
-        return bytes;
-    }
-    &bytes[..n]
+    &bytes[..n.min(bytes.len())]
 }

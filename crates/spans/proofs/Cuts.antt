@@ -18,7 +18,7 @@ use Rattle.heads.specs.declared.Head.{Head}
 use Rattle.heads.specs.Head.{form_in, head_read_checks}
 use Rattle.heads.specs.Head.{head_read_code}
 use Rattle.hearing.specs.declared.Tally.{Tally}
-use Rattle.hearing.specs.declared.Reach.{Reach}
+use Rattle.hearing.specs.Hearing.{Reach}
 use Rattle.spans.specs.declared.Span.{Span}
 use Rattle.lines.specs.Lines.{Line, text_of, opening_line, refusal_line}
 use Rattle.hearing.specs.Hearing.{farthest, accepting, reaching}

@@ -1,35 +1,43 @@
 -- What the functions over a span need of its definitions.
-use Prim.Native.Nat.{ℕ, ◌+◌, ◌-◌}
+use Prim.Native.Nat.{ℕ, ◌+◌, ◌-◌, ◌≤◌, ◌<◌}
 use mathlib.Core.Path.{◌≡◌, refl, sym, ap, subst, ◌∙◌}
 use mathlib.Core.Bool.{Bool, true, false, ◌&&◌, ◌||◌}
 use mathlib.Core.List.{List, []}
+use Rattle.std.specs.Prelude.{Option, Result, Ok, Err, IsOk}
+use Rattle.wire.specs.declared.refusal.Refusal.{Refusal}
+use Rattle.wire.specs.Refusal.{refusal_code}
+use Rattle.wire.proofs.Refusals.{done_no_refusal}
 use native.Mathlib.Omega.{arith}
 use lib.Dec.{eqb, ltb}
 use lib.ListN.{length, take}
 use lib.Seq.{sets, length-take-le}
 use borrow.Author.Tests.{eqb-true, eq-eqb, ne_eqb}
-use Rattle.wire.proofs.Laws.{and_left, and_right, or_rest}
+use Rattle.wire.proofs.Laws.{and_left, and_right, and_both, or_rest}
+use Rattle.packets.specs.declared.Form.{Form}
+use Rattle.packets.specs.Forms.{listed_form}
 use Rattle.heads.specs.declared.Head.{Head}
 use Rattle.heads.specs.Head.{form_in, allowed_head}
 use Rattle.heads.proofs.Rounds.{passed}
-use Rattle.heads.proofs.Values.{few_each, divisor_small, clock_ok}
+use Rattle.heads.proofs.Values.{form_listed, few_each, divisor_small, clock_ok}
 use Rattle.heads.specs.Head.{head_read_code}
 use Rattle.hearing.specs.declared.Tally.{Tally}
 use Rattle.spans.specs.declared.Span.{Span}
+use Rattle.spans.specs.declared.Eaten as Ate
 use Rattle.lines.specs.declared.Due.{Due}
 use Rattle.lines.specs.declared.Ending.{Ending}
-use Rattle.lines.specs.declared.LinesAnswer.{LinesAnswer}
-use Rattle.spans.specs.declared.Eaten.{Eaten}
-use Rattle.hearing.specs.declared.Reach.{Reach}
+use Rattle.lines.specs.Due.{LinesAnswer}
+use Rattle.spans.specs.Eating.{Eaten}
+use Rattle.hearing.specs.Hearing.{Reach}
 use Rattle.lines.specs.Lines.{Line, text_of}
-use Rattle.lines.specs.Due.{due_lines, sized, Telling, silent_with, telling, telling_of}
+use Rattle.lines.specs.Due.{due_lines, sized, lines_told, Telling, silent_with, telling, telling_of}
 use Rattle.lines.proofs.Dues.{is_sized, telling_sized}
-use Rattle.hearing.specs.Hearing.{tally_in_range, reaching}
+use Rattle.hearing.specs.Hearing.{Outcome, tally_in_range, reaching, next_tally, outcome, hearing_of, hearing_code}
+use Rattle.hearing.proofs.Ranges.{range_sane, reach_sane, hearing_is}
 use Rattle.hearing.specs.Inside.{Counted}
 use Rattle.spans.specs.Eating.{head_wants, head_lacks, head_ok, valid_span, head_of, with_tally, lacking, head_filled}
 use Rattle.spans.specs.Eating.{head_wants_by, head_taken, head_lines}
 use Rattle.spans.specs.Eating.{head_read, heard_lines, heard_span, Eating, refused, silently, saying, opening}
-use Rattle.spans.specs.Eating.{opening_by, listening, listening_by, eating_of, last_lines, finishing_of}
+use Rattle.spans.specs.Eating.{eaten_told, opening_by, listening, listening_by, eating_of, last_lines, finishing_of}
 use Rattle.spans.specs.Inside.{due_now}
 
 pub valid_by : (s : Span) {a b c : Bool} → s.stopped ≡ a → tally_in_range s.tally ≡ b → head_ok s ≡ c → valid_span s ≡ a || (b && c)
@@ -48,7 +56,7 @@ head_filled_lem all s piece head k is stored = rw (stored, is)
 
 -- ---- the lines that are due
 
-pub due_sized : (h : Head) (t : Tally) (ending : Ending) → allowed_head h ≡ true → Counted t → sized (due_now h t ending) ≡ true
+pub due_sized : (h : Head) (t : Tally) (ending : Option Ending) → allowed_head h ≡ true → Counted t → sized (due_now h t ending) ≡ true
 due_sized h t ending ok c =
     is_sized (due_now h t ending)
     (record {
@@ -168,6 +176,87 @@ module _ {s next : Span} {n : ℕ} {lines : List Line} {out after : List ℕ} {t
       let all = said lines (length out) told told_is s next n fits in
       answers out (record { eaten = record { code = 1; consumed = n; wrote = told.wrote; span = next }; bytes = text_of lines })
       (t.is ∙ all) same (after_is ∙ ap (sets out 0) (text_told lines (length out) told told_is fits))
+
+-- and that is all that they can be: of lines that are a capture's only the room decides
+module _ {s next : Span} {n : ℕ} {lines : List Line} {out after : List ℕ} {x : Eating} (r : Refusal)
+    (t : Tells s next n lines out after (lines_told (Err r)) x) where
+  only_no_room : refusal_code r ≡ 20
+  only_no_room = by (ltb (length out) (length (text_of lines))) refl
+    where
+      by : (b : Bool) → ltb (length out) (length (text_of lines)) ≡ b → refusal_code r ≡ 20
+      by true e = ap (λ (y : LinesAnswer). y.code) (told_is t) ∙ rw e
+      by false e =
+          let code : refusal_code r ≡ 1 = ap (λ (y : LinesAnswer). y.code) (told_is t) ∙ rw e in
+          done_no_refusal r (sym code)
+
+  pub refuses : (eaten_told s (Err r) ≡ x.eaten) × (after ≡ sets out 0 x.bytes)
+  refuses = no_room_lem t (eaten_told s (Err r)) (ap (λ (c : ℕ). (refused c s).eaten) only_no_room) only_no_room
+
+-- a call that consumes some of a piece refuses nothing
+pub is_ok : (s : Span) (r : Result Ate.Eaten Refusal) (e : Eaten) → eaten_told s r ≡ e → 0 < e.consumed → IsOk r
+is_ok s (Ok a) e is some = refl
+is_ok s (Err r) e is some = absurd (omega (arith, ap (λ (x : Eaten). x.consumed) is))
+
+-- the lines of a whole head, by how it reads
+pub head_tells : (s after : Span) (piece out now : List ℕ) (code : ℕ) (due : Due) (told : LinesAnswer)
+    → after ≡ head_taken s piece → head_lacks after ≡ false → code ≡ head_read_code after.head
+    → (due_lines due ≡ head_lines code) × (sized due ≡ true)
+    → (told ≡ (telling_of due (length out)).answer) × (now ≡ sets out 0 (telling_of due (length out)).bytes)
+    → Tells s (head_read code after) (after.came - s.came) (head_lines code) out now told (opening s piece (length out))
+head_tells s after piece out now code due told is whole read lines did =
+    record {
+      due = due;
+      are = lines.0;
+      fit = lines.1;
+      did = did;
+      is = opening_by_lem s piece (length out) after is ∙ opening_says s after (length out) (after.came - s.came) code whole read;
+    }
+
+-- the lines of the packets, where hearing stopped
+pub heard_tells : (s : Span) (piece out now : List ℕ) (r : Reach) (due : Due) (told : LinesAnswer)
+    → r ≡ reaching 0 (form_in (head_of s)) s.tally piece → (r.code ≡ 0 → ⊥)
+    → (due_lines due ≡ heard_lines (head_of s) r) × (sized due ≡ true)
+    → (told ≡ (telling_of due (length out)).answer) × (now ≡ sets out 0 (telling_of due (length out)).bytes)
+    → Tells s (heard_span s r) r.at (heard_lines (head_of s) r) out now told (listening s piece (length out))
+heard_tells s piece out now r due told is stops lines did =
+    record {
+      due = due;
+      are = lines.0;
+      fit = lines.1;
+      did = did;
+      is = listening_by_lem s piece (length out) r is ∙ listening_says s (length out) r stops;
+    }
+
+-- what hearing answered of a span's packets
+module _ (s : Span) (piece : List ℕ) (ok : allowed_head (head_of s) ≡ true) (near : tally_in_range s.tally ≡ true)
+    (h : Head) (form : Form) (is_head : h ≡ head_of s) (is_form : form ≡ form_in h) where
+  form_is : form ≡ form_in (head_of s)
+  form_is = is_form ∙ ap form_in is_head
+
+  -- it refuses none
+  pub hears_all : (r : Refusal) {B : Type 0} → refusal_code r ≡ hearing_code form s.tally → B
+  hears_all r e =
+      let listed : listed_form form ≡ true = ap listed_form form_is ∙ form_listed (head_of s) ok in
+      done_no_refusal r (sym (e ∙ rw (and_both (tally_in_range s.tally) (listed_form form) near listed)))
+
+  module _ (reach : Reach) (next : Tally) (heard : record { reach = reach; next = next } ≡ hearing_of form s.tally piece) where
+    heard_is : record { reach = reach; next = next } ≡ outcome (reaching 0 (form_in (head_of s)) s.tally piece)
+    heard_is =
+        heard
+        ∙ ap (λ (f : Form). hearing_of f s.tally piece) form_is
+        ∙ hearing_is (form_in (head_of s)) s.tally piece near (form_listed (head_of s) ok)
+
+    pub reach_is : reach ≡ reaching 0 (form_in (head_of s)) s.tally piece
+    reach_is = ap (λ (o : Outcome). o.reach) heard_is
+
+    pub next_is : next ≡ next_tally reach
+    next_is = ap (λ (o : Outcome). o.next) heard_is ∙ ap next_tally (sym reach_is)
+
+    pub reach_counted : s.tally.number ≤ 65_535 → length piece < 0x8000_0000_0000_0000 → Counted reach.tally
+    reach_counted small short =
+        let before = range_sane s.tally (0 + length piece) near small (omega arith) in
+        let sane = reach_sane piece 0 0 (form_in (head_of s)) s.tally before in
+        subst (λ (r : Reach). Counted r.tally) (sym reach_is) sane.counted
 
 -- ---- valid spans
 

@@ -13,7 +13,7 @@ use Rattle.packets.specs.declared.Form.{Form}
 use Rattle.heads.specs.Head.{head_read_code}
 use Rattle.heads.proofs.Rounds.{passed}
 use Rattle.hearing.specs.declared.Tally.{Tally}
-use Rattle.hearing.specs.declared.Reach.{Reach}
+use Rattle.hearing.specs.Hearing.{Reach}
 use Rattle.spans.specs.declared.Span.{Span}
 use Rattle.hearing.specs.Hearing.{farthest, tally_in_range, taking_byte, accepting, heard_code, closes, settled, reaching}
 use Rattle.hearing.specs.Inside.{Counted}

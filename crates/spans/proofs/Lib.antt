@@ -12,3 +12,4 @@ pub mod Reported
 pub mod Follows
 pub mod Adds
 pub mod Inputs
+pub mod Answers

@@ -27,7 +27,7 @@ use Rattle.heads.specs.declared.Head.{Head}
 use Rattle.heads.specs.Head.{channels_in, form_in}
 use Rattle.heads.proofs.Listed.{is_count_lem}
 use Rattle.hearing.specs.declared.Tally.{Tally}
-use Rattle.hearing.specs.declared.Reach.{Reach}
+use Rattle.hearing.specs.Hearing.{Reach}
 use Rattle.lines.specs.Lines.{Line, refusal_line}
 use Rattle.spans.specs.Report.{Known, missed_among, line_of, ended, reader_after, packet_in, packet_code}
 use Rattle.spans.specs.Report.{known_after, packets_in, at_packet, at_end, at_refusal, lines_from}

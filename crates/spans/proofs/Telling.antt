@@ -14,7 +14,7 @@ use Rattle.packets.specs.declared.Form.{Form}
 use Rattle.heads.specs.declared.Head.{Head}
 use Rattle.heads.specs.Head.{form_in}
 use Rattle.hearing.specs.declared.Tally.{Tally}
-use Rattle.hearing.specs.declared.Reach.{Reach}
+use Rattle.hearing.specs.Hearing.{Reach}
 use Rattle.lines.specs.Lines.{Line, refusal_line, end_line}
 use Rattle.hearing.specs.Hearing.{taking_byte, heard_code, closes, accepting, settled, reaching}
 use Rattle.hearing.specs.Inside.{goes_on}

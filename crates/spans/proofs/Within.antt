@@ -12,7 +12,7 @@ use Rattle.packets.specs.declared.Form.{Form}
 use Rattle.heads.specs.Head.{form_in}
 use Rattle.heads.specs.Head.{head_read_code}
 use Rattle.hearing.specs.declared.Tally.{Tally}
-use Rattle.hearing.specs.declared.Reach.{Reach}
+use Rattle.hearing.specs.Hearing.{Reach}
 use Rattle.spans.specs.declared.Span.{Span}
 use Rattle.lines.specs.Lines.{Line, text_of}
 use Rattle.lines.specs.Due.{Telling, silent_with, telling}

@@ -1,21 +1,24 @@
 -- A span takes the input in pieces: what the code keeps between two pieces, what one call does with a piece, and what the end
 -- of the input brings. A reader of 01 needs only Report, which says what is printed of the whole input; `report_is`
 -- (proofs/Inputs) proves that the two agree.
-use Rattle.std.specs.Prelude.{ℕ, ◌+◌, ◌-◌, min, Bool, false, ◌&&◌, ◌||◌, not, List, [], ◌∷◌, ◌++◌, eqb, ltb, length, take, replicate}
+use Rattle.std.specs.Prelude.{ℕ, ◌+◌, ◌-◌, min, Bool, false, ◌&&◌, ◌||◌, not, List, [], ◌∷◌, ◌++◌, eqb, ltb, length, take, replicate, Option, Some, None, Result, Ok, Err}
 use Rattle.std.proofs.lemmas.List.Edits.{sets}
 use Rattle.wire.specs.Choice.{pick}
 use Rattle.wire.specs.Codes as Code
+use Rattle.wire.specs.declared.refusal.Refusal.{Refusal}
+use Rattle.wire.specs.Refusal.{refusal_code}
 use Rattle.packets.specs.Missed.{missed_of}
 use Rattle.heads.specs.declared.Head.{Head}
 use Rattle.heads.specs.Head.{head_length, head_length_in, form_in, each_in, head_in}
 use Rattle.heads.specs.Head.{head_read_code}
 use Rattle.hearing.specs.declared.Tally.{Tally}
-use Rattle.hearing.specs.declared.Reach.{Reach}
 use Rattle.spans.specs.declared.Span.{Span}
-use Rattle.spans.specs.declared.Eaten.{Eaten}
+use Rattle.spans.specs.declared.Did.{Did}
+use Rattle.spans.specs.declared.Did.TheVariants.{Waiting, Lines, Stopped}
+use Rattle.spans.specs.declared.Eaten as Ate
 use Rattle.lines.specs.Lines.{Line, text_of, opening_line, capture_line, refusal_line, end_line}
-use Rattle.lines.specs.Due.{Telling, silent_with, telling}
-use Rattle.hearing.specs.Hearing.{tally_in_range, next_tally, reaching}
+use Rattle.lines.specs.Due.{LinesAnswer, Telling, silent_with, telling}
+use Rattle.hearing.specs.Hearing.{Reach, tally_in_range, next_tally, reaching}
 
 -- ---- spans
 
@@ -52,6 +55,14 @@ abbrev pub with_tally : Bool → Span → Tally → Span
 with_tally stopped s t = record { stopped = stopped; came = s.came; head = s.head; tally = t }
 
 -- ---- one call of eating
+
+-- what one call of eating did: its code, how many bytes of the piece it consumed, how many bytes of lines it wrote, and the span
+-- after it
+pub record Eaten : Type 0 where
+  pub code : ℕ
+  pub consumed : ℕ
+  pub wrote : ℕ
+  pub span : Span
 
 -- what a call returns, and the bytes that it writes at the start of the lent slice
 pub record Eating : Type 0 where
@@ -156,3 +167,21 @@ unfoldable pub finishing_of : Span → ℕ → Telling
 finishing_of s room =
     pick (not (valid_span s)) (silent_with Code.broken)
     (pick s.stopped (silent_with Code.no_reply_due) (telling (text_of (last_lines s)) room))
+
+-- ---- what answers say of it
+
+abbrev pub did_told : Did → ℕ
+did_told Waiting = Code.waiting
+did_told Lines = Code.done
+did_told Stopped = Code.no_reply_due
+
+-- of a span: where a call refuses, nothing is consumed, and the span is the one given
+abbrev pub eaten_told : Span → Result Ate.Eaten Refusal → Eaten
+eaten_told s (Ok e) = record { code = did_told e.did; consumed = e.consumed; wrote = e.wrote; span = e.span }
+eaten_told s (Err r) = (refused (refusal_code r) s).eaten
+
+-- of the end: lines were written, none are due, or it is refused
+abbrev pub end_told : Result (Option ℕ) Refusal → LinesAnswer
+end_told (Ok (Some n)) = record { code = Code.done; wrote = n }
+end_told (Ok None) = record { code = Code.no_reply_due; wrote = 0 }
+end_told (Err r) = record { code = refusal_code r; wrote = 0 }

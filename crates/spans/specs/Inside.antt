@@ -1,14 +1,16 @@
 -- What the functions inside promise each other: the lines of a call as they are handed on to be written. Eats in proofs/
 -- ties it to Eating.
-use Rattle.std.specs.Prelude.{true, false}
+use Rattle.std.specs.Prelude.{true, false, Option}
 use Rattle.heads.specs.declared.Head.{Head}
 use Rattle.heads.specs.Head.{nominal, each_in}
+use Rattle.hearing.specs.declared.Stop.{Stop}
 use Rattle.hearing.specs.declared.Tally.{Tally}
+use Rattle.hearing.specs.Hearing.{Reach, stop_told}
 use Rattle.lines.specs.declared.Due.{Due}
 use Rattle.lines.specs.declared.Ending.{Ending}
 
 -- the opening line, and what comes behind it; no capture has ended
-abbrev pub due_first : Ending → Due
+abbrev pub due_first : Option Ending → Due
 due_first ending =
     record {
       opening = true;
@@ -23,7 +25,7 @@ due_first ending =
     }
 
 -- the open capture's line, and what comes behind it
-abbrev pub due_now : Head → Tally → Ending → Due
+abbrev pub due_now : Head → Tally → Option Ending → Due
 due_now h t ending =
     record {
       opening = false;
@@ -36,3 +38,7 @@ due_now h t ending =
       position = t.position;
       ending = ending;
     }
+
+-- where hearing stopped with a tally, as the lines see it: they do not tell how many bytes it took
+abbrev pub stopped_at : Stop → Tally → Reach
+stopped_at stop t = record { at = 0; code = stop_told stop; tally = t }

@@ -1,20 +1,31 @@
 // The lines that are due: after the head, where hearing was cut short, at the end of the input.
 ghost use Rattle.std.specs.Prelude.{◌≡◌, true, false};
+ghost use Rattle.wire.specs.Refusal.{refusal_code, code_of};
 ghost use Rattle.heads.specs.Head.{allowed_head};
 ghost use Rattle.hearing.specs.Inside.{Counted};
 ghost use Rattle.lines.specs.Due.{due_lines, sized};
 ghost use Rattle.spans.specs.Eating.{head_of, head_lacks, head_lines, heard_lines, last_lines};
-ghost use Rattle.spans.specs.Inside.{due_first, due_now};
+ghost use Rattle.spans.specs.Inside.{due_first, due_now, stopped_at};
 
 use crate::Span;
 use crate::head::lacks;
 use heads::Head;
-use hearing::{Reach, Tally};
+use hearing::{Stop, Tally};
 use lines::{Due, Ending};
-use wire::codes;
+use wire::Refusal;
+
+// The refusal of what begins at an input byte.
+fn refusal_at(r: Refusal, offset: u64) -> Ending
+    ensures { result ≡ Ending.Refusal (refusal_code r) offset }
+{
+    Ending::Refusal {
+        code: u8::from(r),
+        offset,
+    }
+}
 
 // The opening line, and what comes behind it; no capture has ended.
-fn opening_due(ending: Ending) -> Due
+fn opening_due(ending: Option<Ending>) -> Due
     ensures { result ≡ due_first ending }
 {
     Due {
@@ -30,22 +41,23 @@ fn opening_due(ending: Ending) -> Due
     }
 }
 
-// The lines after a whole head that reads with a code.
-pub(crate) fn head_due(code: u8) -> Due
-    ensures { (due_lines result ≡ head_lines code) × (sized result ≡ true) }
+// The lines after a whole head, by how it reads.
+pub(crate) fn head_due(read: Result<Head, Refusal>) -> Due
+    ensures { (due_lines result ≡ head_lines (code_of read)) × (sized result ≡ true) }
 {
-    if code == codes::DONE {
-        return opening_due(Ending::Nothing);
+    match read {
+        Ok(_) => opening_due(None),
+        Err(r) => opening_due(Some(refusal_at(r, 0))),
     }
-    opening_due(Ending::Refusal { code, offset: 0 })
 }
 
 // The line of the open capture, by the pairs that each channel has, and what comes behind it.
-fn ended_due(h: Head, t: Tally, ending: Ending) -> Due
+fn ended_due(h: Head, t: Tally, ending: Option<Ending>) -> Due
+    requires { allowed_head h ≡ true }
     ensures { result ≡ due_now h t ending }
 {
-    let f = heads::form_in(h);
-    let pairs = packets::pairs_each(heads::channels_in(h), f);
+    let f = heads::form_in(h).unwrap();
+    let pairs = packets::pairs_each(heads::channels_in(h), f).unwrap();
     Due {
         opening: false,
         capture: t.captures,
@@ -59,20 +71,15 @@ fn ended_due(h: Head, t: Tally, ending: Ending) -> Due
     }
 }
 
-// The lines that are due where hearing a piece was cut short.
-pub(crate) fn heard_due(h: Head, r: Reach) -> Due
-    requires { (allowed_head h ≡ true) × Counted r.tally }
-    ensures { (due_lines result ≡ heard_lines h r) × (sized result ≡ true) }
+// The lines that are due where hearing a piece stopped.
+pub(crate) fn heard_due(h: Head, stop: Stop, t: Tally) -> Due
+    requires { (allowed_head h ≡ true) × Counted t }
+    ensures { (due_lines result ≡ heard_lines h (stopped_at stop t)) × (sized result ≡ true) }
 {
-    let t = r.tally;
-    if r.code == codes::DONE {
-        return ended_due(h, t, Ending::Nothing);
+    match stop {
+        Stop::CaptureEnds => ended_due(h, t, None),
+        Stop::Refused(r) => ended_due(h, t, Some(refusal_at(r, t.begins))),
     }
-    let refusal = Ending::Refusal {
-        code: r.code,
-        offset: t.begins,
-    };
-    ended_due(h, t, refusal)
 }
 
 // The lines that the end of the input brings.
@@ -81,17 +88,13 @@ pub(crate) fn last_due(s: Span) -> Due
     ensures { (due_lines result ≡ last_lines s) × (sized result ≡ true) }
 {
     if lacks(s) {
-        return head_due(codes::NOT_A_HEAD);
+        return head_due(Err(Refusal::NotAHead));
     }
     let head = s.head;
     let h = heads::head_in(&head);
     let t = s.tally;
     if t.came == 0 {
-        return ended_due(h, t, Ending::Captures(t.captures));
+        return ended_due(h, t, Some(Ending::Captures(t.captures)));
     }
-    let refusal = Ending::Refusal {
-        code: codes::NOT_A_PACKET,
-        offset: t.begins,
-    };
-    ended_due(h, t, refusal)
+    ended_due(h, t, Some(refusal_at(Refusal::NotAPacket, t.begins)))
 }

@@ -1,17 +1,19 @@
 // A span takes its input in pieces.
-ghost use Rattle.std.specs.Prelude.{◌≡◌, true, length};
+ghost use Rattle.std.specs.Prelude.{◌≡◌, true, not, eqb, length};
 ghost use Rattle.std.proofs.lemmas.List.Edits.{sets};
+ghost use Rattle.wire.specs.Codes as Code;
+ghost use Rattle.wire.specs.Refusal.{code_of};
 ghost use Rattle.heads.specs.Head.{allowed_head};
-ghost use Rattle.hearing.specs.Hearing.{tally_in_range};
-ghost use Rattle.spans.specs.Eating.{tally_from, fresh_span, valid_span, head_lacks, head_of, refused, head_read};
-ghost use Rattle.spans.specs.Eating.{with_tally, opening, listening, eating_of, finishing_of};
+ghost use Rattle.hearing.specs.Hearing.{stop_told, tally_in_range};
+ghost use Rattle.spans.specs.Eating.{tally_from, fresh_span, valid_span, head_lacks, head_of, head_read};
+ghost use Rattle.spans.specs.Eating.{with_tally, opening, listening, eating_of, finishing_of, eaten_told, end_told};
 
 use crate::due::{head_due, heard_due, last_due};
-use crate::head::{head_code, head_ok, lacks, take_head};
-use crate::{Eaten, Span};
-use hearing::Tally;
-use lines::LinesAnswer;
-use wire::codes;
+use crate::head::{head_ok, lacks, read, take_head};
+use crate::{Did, Eaten, Span};
+use heads::Head;
+use hearing::{Stop, Tally};
+use wire::Refusal;
 
 // A span before its first byte.
 pub fn fresh() -> Span
@@ -53,118 +55,108 @@ fn is_valid(s: Span) -> bool
     head_ok(s)
 }
 
-// What a code from 20 answers: nothing is consumed, and the span is the one given.
-fn refuse(code: u8, s: Span) -> Eaten
-    ensures { result ≡ (refused code s).eaten }
-{
-    Eaten {
-        code,
-        consumed: 0,
-        wrote: 0,
-        span: s,
-    }
-}
-
 // The span with a tally, that goes on or has stopped.
 fn with_tally(stopped: bool, s: Span, t: Tally) -> Span
     ensures { result ≡ with_tally stopped s t }
 {
-    let head = s.head;
     Span {
         stopped,
-        came: s.came,
-        head,
         tally: t,
+        ..s
     }
 }
 
-// The span after a whole head that reads with a code: the packets begin behind it.
-fn after_head(code: u8, s: Span) -> Span
-    ensures { result ≡ head_read code s }
+// The span after a whole head, by how it reads: the packets begin behind it.
+fn after_head(read: Result<Head, Refusal>, s: Span) -> Span
+    ensures { result ≡ head_read (code_of read) s }
 {
-    with_tally(code != codes::DONE, s, tally_from(s.came as u64))
+    with_tally(read.is_err(), s, tally_from(s.came as u64))
 }
 
 // The head's part of a piece.
-fn open(s: Span, piece: &[u8], out: &mut [u8]) -> Eaten
+fn open(s: Span, piece: &[u8], out: &mut [u8]) -> Result<Eaten, Refusal>
     requires { head_lacks s ≡ true }
-    ensures { (result ≡ (opening s piece.now (length out.old)).eaten)
+    ensures { (eaten_told s result ≡ (opening s piece.now (length out.old)).eaten)
         × (out.new ≡ sets out.old 0 (opening s piece.now (length out.old)).bytes) }
 {
     let after = take_head(s, piece);
-    let k = after.came - s.came;
+    let consumed = after.came - s.came;
     if lacks(after) {
-        return Eaten {
-            code: codes::WAITING,
-            consumed: k,
+        return Ok(Eaten {
+            did: Did::Waiting,
+            consumed,
             wrote: 0,
             span: after,
-        };
+        });
     }
     let head = after.head;
-    let code = head_code(&head);
-    let told = lines::tell(head_due(code), out);
+    let read = read(&head);
     // 16 cannot come: the numbers are a capture's
-    if told.code == codes::NO_ROOM {
-        return refuse(codes::NO_ROOM, s);
-    }
-    Eaten {
-        code: codes::DONE,
-        consumed: k,
-        wrote: told.wrote,
-        span: after_head(code, after),
+    let wrote = lines::tell(head_due(read), out)?;
+    Ok(Eaten {
+        did: Did::Lines,
+        consumed,
+        wrote,
+        span: after_head(read, after),
+    })
+}
+
+// Whether hearing stopped at a packet that is refused.
+fn is_refused(stop: Stop) -> bool
+    ensures { result ≡ not (eqb (stop_told stop) Code.done) }
+{
+    match stop {
+        Stop::CaptureEnds => false,
+        Stop::Refused(_) => true,
     }
 }
 
 // The packets' part of a piece.
-fn listen(s: Span, piece: &[u8], out: &mut [u8]) -> Eaten
+fn listen(s: Span, piece: &[u8], out: &mut [u8]) -> Result<Eaten, Refusal>
     requires { (allowed_head (head_of s) ≡ true) × (tally_in_range s.tally ≡ true) }
-    ensures { (result ≡ (listening s piece.now (length out.old)).eaten)
+    ensures { (eaten_told s result ≡ (listening s piece.now (length out.old)).eaten)
         × (out.new ≡ sets out.old 0 (listening s piece.now (length out.old)).bytes) }
 {
     let head = s.head;
     let h = heads::head_in(&head);
-    let heard = hearing::hear(heads::form_in(h), s.tally, piece);
+    // 21 cannot come: the tally is in range, and the head's form is listed
+    let heard = hearing::hear(heads::form_in(h).unwrap(), s.tally, piece)?;
     let r = heard.reach;
-    if r.code == codes::WAITING {
-        return Eaten {
-            code: codes::WAITING,
+    let Some(stop) = r.stop else {
+        return Ok(Eaten {
+            did: Did::Waiting,
             consumed: r.at,
             wrote: 0,
             span: with_tally(false, s, r.tally),
-        };
-    }
-    let told = lines::tell(heard_due(h, r), out);
+        });
+    };
     // 16 cannot come: the numbers are a capture's
-    if told.code == codes::NO_ROOM {
-        return refuse(codes::NO_ROOM, s);
-    }
-    Eaten {
-        code: codes::DONE,
+    let wrote = lines::tell(heard_due(h, stop, r.tally), out)?;
+    Ok(Eaten {
+        did: Did::Lines,
         consumed: r.at,
-        wrote: told.wrote,
-        span: with_tally(r.code != codes::DONE, s, heard.next),
-    }
+        wrote,
+        span: with_tally(is_refused(stop), s, heard.next),
+    })
 }
 
 // Takes a piece of the input, until lines are due or the piece is used up, and writes those lines at the start of out: 256
-// bytes are room enough. Code 0: the piece is used up, and more is waited for; 1: lines were written, and the rest of the
-// piece is to be handed over again; 2: the span stopped before, and needs no more bytes. Nothing happens with 21, where the
-// span is broken, and then with 20, where out has no room for the lines.
-pub fn eat(s: Span, piece: &[u8], out: &mut [u8]) -> Eaten
-    ensures { (result ≡ (eating_of s piece.now (length out.old)).eaten)
+// bytes are room enough. Where lines were written, the rest of the piece is to be handed over again. It refuses with 21 a span that
+// is broken, and then with 20 where out has no room for the lines; nothing happens then.
+pub fn eat(s: Span, piece: &[u8], out: &mut [u8]) -> Result<Eaten, Refusal>
+    ensures { (eaten_told s result ≡ (eating_of s piece.now (length out.old)).eaten)
         × (out.new ≡ sets out.old 0 (eating_of s piece.now (length out.old)).bytes) }
 {
     if !is_valid(s) {
-        return refuse(codes::BROKEN, s);
+        return Err(Refusal::Broken);
     }
     if s.stopped {
-        return Eaten {
-            code: codes::NO_REPLY_DUE,
+        return Ok(Eaten {
+            did: Did::Stopped,
             consumed: piece.len(),
             wrote: 0,
             span: s,
-        };
+        });
     }
     if lacks(s) {
         return open(s, piece, out);
@@ -172,23 +164,18 @@ pub fn eat(s: Span, piece: &[u8], out: &mut [u8]) -> Eaten
     listen(s, piece, out)
 }
 
-// Writes the lines that the end of the input brings. Code 1: lines were written; 2: the span stopped before, and none are
-// due. Nothing happens with 21, where the span is broken, and then with 20, where out has no room for the lines.
-pub fn finish(s: Span, out: &mut [u8]) -> LinesAnswer
-    ensures { (result ≡ (finishing_of s (length out.old)).answer)
+// Writes the lines that the end of the input brings, and answers how many bytes they are: none are due where the span stopped
+// before. It refuses with 21 a span that is broken, and then with 20 where out has no room for the lines; nothing happens then.
+pub fn finish(s: Span, out: &mut [u8]) -> Result<Option<usize>, Refusal>
+    ensures { (end_told result ≡ (finishing_of s (length out.old)).answer)
         × (out.new ≡ sets out.old 0 (finishing_of s (length out.old)).bytes) }
 {
     if !is_valid(s) {
-        return LinesAnswer {
-            code: codes::BROKEN,
-            wrote: 0,
-        };
+        Err(Refusal::Broken)
+    } else if s.stopped {
+        Ok(None)
+    } else {
+        let wrote = lines::tell(last_due(s), out)?;
+        Ok(Some(wrote))
     }
-    if s.stopped {
-        return LinesAnswer {
-            code: codes::NO_REPLY_DUE,
-            wrote: 0,
-        };
-    }
-    lines::tell(last_due(s), out)
 }

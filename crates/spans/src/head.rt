@@ -1,22 +1,18 @@
 // A span's head: as it comes, and once it is whole.
 ghost use Rattle.std.specs.Prelude.{◌≡◌, ◌≤◌, true};
+ghost use Rattle.wire.specs.Refusal.{code_of};
 ghost use Rattle.heads.specs.Head.{head_read_code};
 ghost use Rattle.spans.specs.Eating.{head_wants, head_lacks, head_ok, head_filled, head_taken};
 
 use crate::Span;
-use heads::Opened;
-use wire::codes;
+use heads::Head;
+use wire::Refusal;
 
-// The code with which a head reads.
-pub(crate) fn head_code(s: &[u8]) -> u8
-    ensures { result ≡ head_read_code s.now }
+// Reads a head: its code is what matters here.
+pub(crate) fn read(s: &[u8]) -> Result<Head, Refusal>
+    ensures { code_of result ≡ head_read_code s.now }
 {
-    let o = heads::read_head(s);
-    match o {
-        Opened::Head(_) => codes::DONE,
-        Opened::NotAHead => codes::NOT_A_HEAD,
-        Opened::OtherVersion => codes::OTHER_VERSION,
-    }
+    heads::read_head(s)
 }
 
 // How many bytes a head has, of which so many have come: its version stands in the first 14.
@@ -49,7 +45,7 @@ pub(crate) fn head_ok(s: Span) -> bool
     if s.came != all {
         return false;
     }
-    head_code(&head) == codes::DONE
+    read(&head).is_ok()
 }
 
 // The span with the bytes of a piece that its head lacks, if it has so many.
@@ -57,16 +53,14 @@ fn filled(all: usize, s: Span, piece: &[u8]) -> Span
     requires { (s.came ≤ all) × (all ≤ 26) }
     ensures { result ≡ head_filled all s piece.now }
 {
-    let came = s.came;
-    let k = wire::lesser(all - came, piece.len());
+    let k = (all - s.came).min(piece.len());
     let mut head = s.head;
-    wire::copy(&piece[..k], &mut head, came);
-    let tally = s.tally;
+    wire::copy(&piece[..k], &mut head, s.came);
     Span {
         stopped: false,
-        came: came + k,
+        came: s.came + k,
         head,
-        tally,
+        ..s
     }
 }
 

@@ -9,3 +9,4 @@ pub mod Serving
 pub mod Setup
 pub mod Talks
 pub mod FreshBoxes
+pub mod Says

@@ -9,9 +9,8 @@ use borrow.Author.Tests.{eq-eqb}
 use lib.Dec.{ltb}
 use lib.ListN.{length, get_or, take, replicate, length-take, length-append, length-replicate}
 use Rattle.wire.specs.Choice.{pick}
-use Rattle.framing.specs.declared.Took.{Took}
 use Rattle.framing.specs.Framing.{Taking, header_in, announced, between, call_takes, could_be_left}
-use Rattle.framing.specs.Telling.{first_ten, lying, took_of, took_in, held_after}
+use Rattle.framing.specs.Telling.{Took, first_ten, lying, took_of, took_in, held_after}
 use Rattle.framing.proofs.Cutting.{taken_unused, taken_long, finished_whole}
 use Rattle.framing.proofs.FirstTen.{ten_bytes, held_opening}
 use Rattle.framing.proofs.Leaving.{left_long, left_open, left_zeros}

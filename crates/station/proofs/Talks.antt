@@ -13,7 +13,7 @@ use lib.ListN.{length, drop, length-append, length-drop}
 use lib.Seq.{sets, length-sets, drop-drop}
 use Rattle.wire.proofs.Laws.{pick_same}
 use Rattle.wire.proofs.Stores.{sets_append}
-use Rattle.station.specs.declared.FedHeld.{FedHeld}
+use Rattle.station.specs.Feeding.{FedHeld}
 use Rattle.station.specs.declared.Station.{Station}
 use Rattle.station.specs.Station.{box_of, valid, fresh_station, session_serial}
 use Rattle.station.specs.Feeding.{Feeding, feeding_of, parts_of}

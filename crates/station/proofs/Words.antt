@@ -1,18 +1,19 @@
 -- A valid box keeps its tuning word, the question answers it; and the answer says all.
 -- Assumes nothing.
 use Prim.Native.Nat.{ℕ}
-use mathlib.Core.Path.{◌≡◌, refl}
+use mathlib.Core.Path.{◌≡◌, refl, ap}
 use mathlib.Core.Bool.{Bool, true, false}
-use mathlib.Core.List.{[], ◌∷◌}
+use mathlib.Core.List.{List, [], ◌∷◌}
 use lib.Dec.{eqb}
 use lib.ListN.{get_or}
 use Rattle.wire.specs.Choice.{pick}
 use Rattle.wire.specs.Told.{Told, tells}
-use Rattle.wire.proofs.Firm.{OneEach, one_by, two_results_coincide}
+use Rattle.wire.proofs.Firm.{OneEach, two_results_coincide}
+use Rattle.wire.proofs.Refusals.{told_one as told_one_each}
+use Rattle.wire.specs.declared.refusal.Refusal.{Refusal}
+use Rattle.std.specs.Prelude.{Result}
 use Rattle.tuning.specs.Word.{word_of}
 use Rattle.station.specs.declared.Station.{Station}
-use Rattle.station.specs.declared.Tuning.{Tuning}
-use Rattle.station.specs.declared.Tuning.TheVariants.{Word, NotAllowed, Broken}
 use Rattle.items.specs.Settings.{channel_at}
 use Rattle.station.specs.Station.{valid, tuning_says, word_code, word_in, tuning_told}
 use Rattle.station.proofs.Kept.{Ranges, ranges}
@@ -44,21 +45,14 @@ told_as_kept s channel = go (valid s) refl
     go true v = rw (word_kept_lem s channel v) refl
     go false v = rw v refl
 
--- the answer says all: the number and the value decide the case
-back : Told → Tuning
-back t = pick (eqb t.code 1) (Word (get_or t.values 0 0)) (pick (eqb t.code 15) NotAllowed Broken)
-
-back_told : (t : Tuning) → back (tuning_says t) ≡ t
-unfolding back
-back_told (Word w) = refl
-back_told NotAllowed = refl
-back_told Broken = refl
-
 -- two answers that tell the same are the same
 pub told_one : OneEach tuning_says
-told_one = one_by tuning_says back back_told
+told_one = told_one_each (λ w. w ∷ []) word_alone
+  where
+    word_alone : OneEach (λ (w : ℕ). w ∷ [])
+    word_alone v w e = ap (λ (l : List ℕ). get_or l 0 0) e
 
 -- so two words that the promise allows coincide
-pub word_one : (s : Station) (channel : ℕ) {r t : Tuning}
+pub word_one : (s : Station) (channel : ℕ) {r t : Result ℕ Refusal}
     → tuning_says r ≡ tuning_told s channel → tuning_says t ≡ tuning_told s channel → r ≡ t
 word_one s channel = two_results_coincide tuning_says told_one (tuning_told s channel)

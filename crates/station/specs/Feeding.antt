@@ -1,5 +1,5 @@
 -- One call of feeding: the box, the host's bytes, and how much room there is for a reply.
-use Rattle.std.specs.Prelude.{ℕ, not, List, [], ◌∷◌, leb, ltb, length}
+use Rattle.std.specs.Prelude.{ℕ, Option, None, Some, Result, Ok, Err, not, List, [], ◌∷◌, leb, ltb, length}
 use Rattle.wire.specs.Choice.{pick, Check, check, first_of}
 use Rattle.wire.specs.Codes as Code
 use Rattle.wire.specs.Header.{length_in, type_in}
@@ -8,9 +8,29 @@ use Rattle.framing.specs.declared.Store.{Store}
 use Rattle.items.specs.declared.Settings.{Settings}
 use Rattle.items.specs.Answer.{Message, code_of, reply_of, settings_after}
 use Rattle.station.specs.declared.Station.{Station}
-use Rattle.station.specs.declared.Fed.{Fed}
-use Rattle.station.specs.declared.FedHeld.{FedHeld}
+use Rattle.station.specs.declared.Parts.{Parts}
+use Rattle.station.specs.declared.Fed as Made
 use Rattle.station.specs.Station.{valid}
+use Rattle.answers.specs.declared.Outcome.{Outcome}
+use Rattle.answers.specs.Replies.{outcome_code}
+use Rattle.wire.specs.Refusal.{refusal_code}
+use Rattle.wire.specs.declared.refusal.Refusal.{Refusal}
+
+-- what one call of feeding did: its code, how many of the host's bytes it consumed, how many bytes of reply it wrote, and the
+-- box after it
+pub record Fed : Type 0 where
+  pub code : ℕ
+  pub consumed : ℕ
+  pub wrote : ℕ
+  pub station : Station
+
+-- the same with a box whose held bytes were lent, and of the box how many bytes of its message are taken, and its settings
+pub record FedHeld : Type 0 where
+  pub code : ℕ
+  pub consumed : ℕ
+  pub wrote : ℕ
+  pub taken : ℕ
+  pub settings : Settings
 
 -- the finished message in a store
 abbrev pub message_in : Store → Message
@@ -78,3 +98,19 @@ parts_of f =
       taken = f.station.store.taken;
       settings = f.station.settings;
     }
+
+-- ---- the same of what the code answers with
+
+-- the code of a call: it waits, or has the message's own
+abbrev pub call_code : Option Outcome → ℕ
+call_code None = Code.waiting
+call_code (Some o) = outcome_code o
+
+abbrev pub fed_says : Station → Result (Made.Fed Station) Refusal → Fed
+fed_says s (Ok f) = record { code = call_code f.outcome; consumed = f.consumed; wrote = f.wrote; station = f.left }
+fed_says s (Err r) = (refused (refusal_code r) s).fed
+
+abbrev pub held_says : Parts → Result (Made.Fed Parts) Refusal → FedHeld
+held_says p (Ok f) =
+    record { code = call_code f.outcome; consumed = f.consumed; wrote = f.wrote; taken = f.left.taken; settings = f.left.settings }
+held_says p (Err r) = record { code = refusal_code r; consumed = 0; wrote = 0; taken = p.taken; settings = p.settings }

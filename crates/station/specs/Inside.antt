@@ -2,8 +2,8 @@
 use Rattle.std.specs.Prelude.{ℕ, ltb, List, length}
 use Rattle.wire.specs.Choice.{pick}
 use Rattle.wire.specs.Codes as Code
-use Rattle.framing.specs.declared.Took.{Took}
 use Rattle.framing.specs.Framing.{Taking}
+use Rattle.framing.specs.Telling.{Took}
 use Rattle.items.specs.Answer.{Message, reply_of}
 use Rattle.station.specs.declared.Station.{Station}
 use Rattle.station.specs.Feeding.{Feeding, message_in, refused, answered}

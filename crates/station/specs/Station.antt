@@ -1,16 +1,16 @@
 -- The box: when it is broken, a fresh one, and its tuning word.
-use Rattle.std.specs.Prelude.{ℕ, Bool, ◌&&◌, not, List, [], ◌∷◌, eqb}
+use Rattle.std.specs.Prelude.{ℕ, Result, Bool, ◌&&◌, not, List, [], ◌∷◌, eqb}
 use Rattle.wire.specs.Choice.{pick, one_of, Check, check, first_of}
 use Rattle.wire.specs.Codes as Code
 use Rattle.wire.specs.Told.{Told, tells}
+use Rattle.wire.specs.Refusal.{told}
+use Rattle.wire.specs.declared.refusal.Refusal.{Refusal}
 use Rattle.tuning.specs.Word.{word_of}
 use Rattle.framing.specs.Framing.{between, could_be_left}
 use Rattle.items.specs.declared.Settings.{Settings}
-use Rattle.items.specs.Settings.{in_range, fresh_of, fresh_answer, open_channels, channel_at}
+use Rattle.items.specs.declared.Begun.{Begun}
+use Rattle.items.specs.Settings.{serial_code, in_range, fresh_of, fresh_answer, open_channels, channel_at}
 use Rattle.station.specs.declared.Station.{Station}
-use Rattle.station.specs.declared.FreshBox.{FreshBox}
-use Rattle.station.specs.declared.Tuning.{Tuning}
-use Rattle.station.specs.declared.Tuning.TheVariants.{Word, NotAllowed, Broken}
 
 -- a box in parts: its settings, the bytes held, and how many were taken
 abbrev pub box_of : Settings → List ℕ → ℕ → Station
@@ -20,6 +20,11 @@ box_of settings held taken = record { settings = settings; store = record { held
 unfoldable pub valid : Station → Bool
 valid s = in_range s.settings && could_be_left s.store
 
+-- a fresh box, and the code for its serial
+pub record FreshBox : Type 0 where
+  pub code : ℕ
+  pub station : Station
+
 -- A fresh box from a serial: "26: serial not eight of A-Z, 0-9 .. the fresh box has serial 00000000".
 abbrev pub fresh_box : List ℕ → FreshBox
 fresh_box serial =
@@ -28,11 +33,13 @@ fresh_box serial =
       station = record { settings = (fresh_answer serial).settings; store = between };
     }
 
+-- the same of what the code answers with
+abbrev pub box_says : Begun Station → FreshBox
+box_says b = record { code = serial_code b.refused; station = b.made }
+
 -- what an answer tells, in the numbers of "What comes back": 1 and the word, 15, or 21
-abbrev pub tuning_says : Tuning → Told
-tuning_says (Word w) = tells Code.done (w ∷ [])
-tuning_says NotAllowed = tells Code.channel_not_allowed []
-tuning_says Broken = tells Code.broken []
+abbrev pub tuning_says : Result ℕ Refusal → Told
+tuning_says = told (λ w. w ∷ [])
 
 -- The question for the word of a channel: a broken box has none; "With 4, frequency, tuning word and gain are open for channels 00 and
 -- 02", and "channel 02 with value 0 is 15".

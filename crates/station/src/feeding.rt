@@ -1,128 +1,115 @@
 // One call of feeding: the host's bytes up to the end of one message, and its reply.
-ghost use Rattle.std.specs.Prelude.{◌≡◌, true, length};
+ghost use Rattle.std.specs.Prelude.{◌≡◌, true, leb, length, is_err};
 ghost use Rattle.std.proofs.lemmas.List.Edits.{sets};
 ghost use Rattle.framing.specs.Framing.{between, could_be_left};
-ghost use Rattle.answers.specs.Replies.{answer_of};
+ghost use Rattle.answers.specs.Replies.{answer_of, answered_says};
 ghost use Rattle.station.specs.Station.{box_of, valid};
-ghost use Rattle.station.specs.Feeding.{feeding_of, parts_of};
+ghost use Rattle.station.specs.Feeding.{feeding_of, parts_of, fed_says, held_says};
 ghost use Rattle.station.specs.Inside.{opened_message};
 
-use crate::{Fed, FedHeld, Station};
+use crate::{Fed, Parts, Station};
 use answers::Answered;
 use framing::Store;
 use items::Settings;
-use wire::codes;
+use wire::Refusal;
 
 // Takes the host's bytes up to the end of one message, and answers it. Of a valid box, with room for 64 bytes, calling
 // again with the bytes that are left comes to the same replies and the same box however they are cut (proofs/Serving:
-// `cuts_do_not_matter`).
-pub fn feed(s: Station, host: &[u8], reply: &mut [u8]) -> Fed
-    ensures { (result ≡ (feeding_of s host.now (length reply.old)).fed)
+// `cuts_do_not_matter`). "Codes from 20 consume nothing and return the state given."
+pub fn feed(s: Station, host: &[u8], reply: &mut [u8]) -> Result<Fed<Station>, Refusal>
+    ensures { (fed_says s result ≡ (feeding_of s host.now (length reply.old)).fed)
+        × (is_err result ≡ leb 20 (feeding_of s host.now (length reply.old)).fed.code)
         × (reply.new
         ≡ sets reply.old 0 (feeding_of s host.now (length reply.old)).bytes) }
 {
-    let settings = s.settings;
-    let store = s.store;
-    let mut held = store.held;
-    let fed = feed_held(settings, &mut held, store.taken, host, reply);
-    let after = fed.settings;
-    let left = Store {
-        held: held,
-        taken: fed.taken,
-    };
-    let station = Station {
-        settings: after,
-        store: left,
-    };
-    Fed {
-        code: fed.code,
+    let mut held = s.store.held;
+    let fed = feed_held(s.parts(), &mut held, host, reply)?;
+    Ok(Fed {
+        outcome: fed.outcome,
         consumed: fed.consumed,
         wrote: fed.wrote,
-        station: station,
-    }
+        left: Station {
+            settings: fed.left.settings,
+            store: Store {
+                held,
+                taken: fed.left.taken,
+            },
+        },
+    })
 }
 
 // The same of a box whose held bytes are lent, and changed where they lie, with its other parts by value: so a call copies
 // no box. Bytes held in another number of places than 64 are a broken box.
 pub fn feed_held(
-    settings: Settings,
+    parts: Parts,
     held: &mut [u8],
-    taken: usize,
     host: &[u8],
     reply: &mut [u8],
-) -> FedHeld
-    ensures { (result ≡ parts_of (feeding_of (box_of settings held.old taken) host.now (length reply.old)).fed)
+) -> Result<Fed<Parts>, Refusal>
+    ensures { (held_says parts result
+        ≡ parts_of (feeding_of (box_of parts.settings held.old parts.taken) host.now (length reply.old)).fed)
+        × (is_err result
+        ≡ leb 20 (feeding_of (box_of parts.settings held.old parts.taken) host.now (length reply.old)).fed.code)
         × (held.new
-        ≡ (feeding_of (box_of settings held.old taken) host.now (length reply.old)).fed.station.store.held)
+        ≡ (feeding_of (box_of parts.settings held.old parts.taken) host.now (length reply.old)).fed.station.store.held)
         × (reply.new
         ≡ sets reply.old 0
-        (feeding_of (box_of settings held.old taken) host.now (length reply.old)).bytes) }
+        (feeding_of (box_of parts.settings held.old parts.taken) host.now (length reply.old)).bytes) }
 {
-    if !crate::is_sound(settings, held, taken) {
-        return refused(codes::BROKEN, settings, taken);
+    if !crate::is_sound(parts, held) {
+        return Err(Refusal::Broken);
     }
-    feed_sound(settings, held, taken, host, reply)
+    feed_sound(parts, held, host, reply)
 }
 
 // The same of a box that is known to be valid: so who feeds one again and again need not test it each time.
 pub(crate) fn feed_sound(
-    settings: Settings,
+    parts: Parts,
     held: &mut [u8],
-    taken: usize,
     host: &[u8],
     reply: &mut [u8],
-) -> FedHeld
-    requires { valid (box_of settings held.old taken) ≡ true }
-    ensures { (result ≡ parts_of (feeding_of (box_of settings held.old taken) host.now (length reply.old)).fed)
+) -> Result<Fed<Parts>, Refusal>
+    requires { valid (box_of parts.settings held.old parts.taken) ≡ true }
+    ensures { (held_says parts result
+        ≡ parts_of (feeding_of (box_of parts.settings held.old parts.taken) host.now (length reply.old)).fed)
+        × (is_err result
+        ≡ leb 20 (feeding_of (box_of parts.settings held.old parts.taken) host.now (length reply.old)).fed.code)
         × (held.new
-        ≡ (feeding_of (box_of settings held.old taken) host.now (length reply.old)).fed.station.store.held)
+        ≡ (feeding_of (box_of parts.settings held.old parts.taken) host.now (length reply.old)).fed.station.store.held)
         × (reply.new
         ≡ sets reply.old 0
-        (feeding_of (box_of settings held.old taken) host.now (length reply.old)).bytes) }
+        (feeding_of (box_of parts.settings held.old parts.taken) host.now (length reply.old)).bytes) }
 {
-    let took = framing::take_in(held, taken, host);
-    if !took.finished {
-        return FedHeld {
-            code: codes::WAITING,
+    let took = framing::take_in(held, parts.taken, host);
+    let Some(opening) = took.opening else {
+        return Ok(Fed {
+            outcome: None,
             consumed: took.count,
             wrote: 0,
-            taken: took.taken,
-            settings: settings,
-        };
-    }
-    let opening = took.opening;
-    let answered = answer(settings, opening, reply);
-    if answered.code == codes::NO_ROOM {
-        return refused(codes::NO_ROOM, settings, taken);
-    }
-    clear(held, taken);
-    let stored = answered.settings;
-    FedHeld {
-        code: answered.code,
+            left: Parts {
+                taken: took.taken,
+                ..parts
+            },
+        });
+    };
+    let answered = answer(parts.settings, opening, reply)?;
+    clear(held, parts.taken);
+    Ok(Fed {
+        outcome: Some(answered.outcome),
         consumed: took.count,
         wrote: answered.wrote,
-        taken: 0,
-        settings: stored,
-    }
+        left: Parts {
+            settings: answered.settings,
+            taken: 0,
+        },
+    })
 }
 
-// "Codes from 20 consume nothing and return the state given."
-fn refused(code: u8, settings: Settings, taken: usize) -> FedHeld
-    ensures { result ≡ record { code = code; consumed = 0; wrote = 0; taken = taken; settings = settings } }
-{
-    FedHeld {
-        code: code,
-        consumed: 0,
-        wrote: 0,
-        taken: taken,
-        settings: settings,
-    }
-}
-
-// The answer to a finished message, which its first ten bytes decide: a reply, nothing, or NAK; 20 where there is no room
-// for it.
-fn answer(settings: Settings, opening: [u8; 10], reply: &mut [u8]) -> Answered
-    ensures { (result ≡ (answer_of settings (opened_message opening) (length reply.old)).answered)
+// The answer to a finished message, which its first ten bytes decide; refused where there is no room for it.
+fn answer(settings: Settings, opening: [u8; 10], reply: &mut [u8]) -> Result<Answered, Refusal>
+    ensures { (answered_says settings result
+        ≡ (answer_of settings (opened_message opening) (length reply.old)).answered)
+        × (is_err result ≡ leb 20 (answer_of settings (opened_message opening) (length reply.old)).answered.code)
         × (reply.new
         ≡ sets reply.old 0 (answer_of settings (opened_message opening) (length reply.old)).bytes) }
 {

@@ -10,15 +10,12 @@ pub fn serve_talk(host: &[u8], replies: &mut [u8]) -> usize
         × (replies.new ≡ sets replies.old 0 (serve_run host.now (length replies.old))) }
 {
     let began = crate::session_box();
-    let store = began.store;
-    let mut settings = began.settings;
-    let mut held = store.held;
-    let mut taken = store.taken;
+    let mut held = began.store.held;
+    let mut parts = began.parts();
     let mut i: usize = 0;
     let mut at: usize = 0;
     // A proved loop has to end: each call consumes a byte or more, so as many calls as there are bytes are enough.
-    let mut calls = host.len();
-    while 0 < calls {
+    for _ in 0..host.len() {
         if host.len() <= i {
             return at;
         }
@@ -27,17 +24,14 @@ pub fn serve_talk(host: &[u8], replies: &mut [u8]) -> usize
         }
         // the held bytes are changed where they lie
         let f = crate::feeding::feed_sound(
-            settings,
+            parts,
             &mut held,
-            taken,
             &host[i..],
             &mut replies[at..],
-        );
-        settings = f.settings;
-        taken = f.taken;
+        ).unwrap();
+        parts = f.left;
         i += f.consumed;
         at += f.wrote;
-        calls -= 1;
     }
     at
 }

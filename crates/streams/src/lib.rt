@@ -1,20 +1,28 @@
-// Standard input, output and error for the programs, a call of std's at a time. What a call came to is a number or a truth value, and the
-// last error is kept, so that a program can say at its end what could not be done.
+// Standard input, output and error for the programs, a call of std's at a time. A call that fails answers std's error, and no call is
+// tried a second time.
 #![tactic(auto)]
 
-ghost use Rattle.std.specs.Prelude.{◌≡◌, ◌≤◌, length, min};
-ghost use Rattle.streams.specs.Moved.{Moved, IsPrefixLen, clamp_len};
+ghost use Rattle.std.specs.Prelude.{◌≤◌, length};
+ghost use Rattle.std.specs.Io.{ReadsAtMost};
+ghost use Rattle.streams.specs.Moved.{Moved, IsPrefixLen};
 
 use std::fmt::InlineText;
+use std::io;
 use std::io::{Error, Read, Stderr, Stdin, Stdout, Write};
 
-// The three streams, and the number of the last error, 0 where there was none.
+// The three streams.
 #[derive(Drop)]
 pub struct Streams {
     input: Stdin,
     output: Stdout,
     errors: Stderr,
-    error: i32,
+}
+
+// Why a program ends before its work is done.
+#[derive(Drop)]
+pub enum Failed {
+    Unread(Error),
+    Unwritten(Error),
 }
 
 impl Streams {
@@ -23,107 +31,69 @@ impl Streams {
             input,
             output,
             errors,
-            error: 0,
         }
     }
 
-    // One read of standard input: it answers -1, or how many bytes it put at the start of buf, 0 at the end of the input. Of the bytes
-    // in buf afterwards the contract says nothing.
-    pub fn read(&mut self, buf: &mut [u8]) -> isize
-        ensures { Moved (length buf.old) result }
+    // One read of standard input: it answers how many bytes it put at the start of buf, 0 at the end of the input. Of the bytes in buf
+    // afterwards the contract says nothing.
+    pub fn read(&mut self, buf: &mut [u8]) -> io::Result<usize>
+        ensures moved { Moved (length buf.old) result }
+        ensures in_bounds { ReadsAtMost result buf.new }
     {
-        get(&mut self.input, buf, &mut self.error)
+        self.input.read(buf)
     }
 
     // Reads until buf is full, the input ends or a read fails, and returns how many bytes it put at the start of buf. On an empty buf
-    // it makes no call.
+    // it makes no call. (std's read_exact does not say how many, and read_to_end needs a heap.)
     pub fn read_full(&mut self, buf: &mut [u8]) -> usize
         ensures { IsPrefixLen result buf.new }
     {
         let mut done = 0;
         while done < buf.len() {
-            let got = self.read(&mut buf[done..]);
-            let n = count(got, &buf[done..]);
-            if n == 0 {
-                break;
+            match self.read(&mut buf[done..]) {
+                Ok(0) | Err(_) => break,
+                Ok(n) => done += n,
             }
-            done += n;
         }
         done
     }
 
-    // Writes all of the bytes to standard output and returns true, or stops at the first write that takes nothing or fails and returns
-    // false, when some of them may have been written. On no bytes it makes no call.
-    pub fn write_all(&mut self, bytes: &[u8]) -> bool {
-        put(&mut self.output, bytes, &mut self.error)
+    // Writes all of the bytes to standard output, or stops at the first write that takes nothing or fails, when some of them may have
+    // been written. On no bytes it makes no call.
+    pub fn write_all(&mut self, bytes: &[u8]) -> io::Result<()> {
+        put(&mut self.output, bytes)
     }
 
     // The same, to standard error.
-    pub fn report(&mut self, bytes: &[u8]) -> bool {
-        put(&mut self.errors, bytes, &mut self.error)
+    pub fn report(&mut self, bytes: &[u8]) -> io::Result<()> {
+        put(&mut self.errors, bytes)
     }
 
-    // Writes a line to standard error: what failed, as the caller names it, a colon and the last error's text.
-    pub fn fail(&mut self, what: &[u8]) {
-        let text = text_of(self.error);
-        self.report(what);
-        self.report(b": ");
-        self.report(without_number(text.as_str()));
-        self.report(b"\n");
-    }
-}
-
-// What a read answered as a number of buf's bytes: 0 where got is negative, and never more than buf's length.
-pub fn count(got: isize, buf: &[u8]) -> usize
-    ensures in_bounds { IsPrefixLen result buf.now }
-    ensures value { result ≡ clamp_len got (length buf.now) }
-{
-    if got < 0 {
-        return 0;
-    }
-    buf.len().min(got as usize)
-}
-
-// One read of an input.
-fn get<R: Read>(from: &mut R, buf: &mut [u8], error: &mut i32) -> isize
-    ensures { Moved (length buf.old) result }
-{
-    match from.read(buf) {
-        Ok(n) => n as isize,
-        Err(e) => {
-            *error = number_of(e);
-            -1
-        }
+    // Writes a line to standard error: what failed, as the caller names it, a colon and the error's text. Where that fails too, nobody
+    // is left to be told.
+    pub fn fail(&mut self, what: &[u8], e: Error) {
+        let text = InlineText::<256>::of(e);
+        let _ = self.report(what);
+        let _ = self.report(b": ");
+        let _ = self.report(without_number(text.as_str()));
+        let _ = self.report(b"\n");
     }
 }
 
-// Writes until all is written, or a write takes nothing or fails.
-fn put<W: Write>(to: &mut W, bytes: &[u8], error: &mut i32) -> bool {
+// Writes until all is written, or a write takes nothing, for which the system has no number, or fails. (std's write_all tries again where
+// a signal interrupts it.)
+fn put<W: Write>(to: &mut W, bytes: &[u8]) -> io::Result<()> {
     let mut rest = bytes;
     while !rest.is_empty() {
-        match to.write(rest) {
-            Ok(0) => return false,
-            Ok(n) => rest = &rest[n..],
-            Err(e) => {
-                *error = number_of(e);
-                return false;
-            }
+        match to.write(rest)? {
+            0 => return Err(Error::from_raw_os_error(0)),
+            n => rest = &rest[n..],
         }
     }
-    true
+    Ok(())
 }
 
-// The system's number of an error.
-fn number_of(e: Error) -> i32 {
-    e.raw_os_error().unwrap_or(0)
-}
-
-// The error's text, as std has it, with its number behind it.
-fn text_of(error: i32) -> InlineText<256> {
-    InlineText::of(Error::from_raw_os_error(error))
-}
-
-// The text alone.
+// The error's text as std has it has its number behind it, which is left out.
 fn without_number(text: &str) -> &[u8] {
     match text.find(" (os error ") {
         Some(n) => text[..n].as_bytes(),

@@ -1,14 +1,14 @@
 -- Tuning word (house): "The offset n is the frequency, or 160,000,000 less the frequency in the second band. The word is
 -- n x 2^32 / clock to the nearest whole number, halves up". Of 01's "it is worked out when asked" 02 has made: "Keep it in the
 -- box's settings, true after every message, refused ones too." (No. 5; items/specs/Settings)
-use Rattle.std.specs.Prelude.{ℕ, ◌-◌, ◌*◌, ◌^◌, Bool, not, ◌&&◌, [], ◌∷◌, ◌==◌}
+use Rattle.std.specs.Prelude.{ℕ, ◌-◌, ◌*◌, ◌^◌, Bool, not, ◌&&◌, [], ◌∷◌, ◌==◌, Result}
 use Rattle.wire.specs.Choice.{pick, check, first_of, first_row, within}
 use Rattle.wire.specs.Codes as Code
 use Rattle.wire.specs.Halves.{halves_up}
 use Rattle.wire.specs.Told.{Told, tells}
+use Rattle.wire.specs.Refusal.{told}
+use Rattle.wire.specs.declared.refusal.Refusal.{Refusal}
 use Rattle.tuning.specs.Bands.{Band, bands, covers, in_bands}
-use Rattle.tuning.specs.declared.word.Word.{Word}
-use Rattle.tuning.specs.declared.word.Word.TheVariants.{Is, NotAllowed}
 
 -- the offset in a band: the frequency where the band has no oscillator, else the oscillator less the frequency
 abbrev pub offset_in : Band → ℕ → ℕ
@@ -34,10 +34,9 @@ has_word hz clock = in_bands hz && is_clock clock
 abbrev pub word_kept : ℕ → ℕ → ℕ
 word_kept hz clock = pick (has_word hz clock) (word_of hz clock) 0
 
--- the number and the value of each case: 1 and the word, or 16
-abbrev pub word_says : Word → Told
-word_says (Is w) = record { code = Code.done; values = w ∷ [] }
-word_says NotAllowed = record { code = Code.value_not_allowed; values = [] }
+-- the number and the value of each answer: 1 and the word, or the refusal's code
+abbrev pub word_says : Result ℕ Refusal → Told
+word_says = told (λ w. w ∷ [])
 
 -- "value not allowed": the frequency lies in no band, or the clock is none that may be set
 abbrev pub word_code : ℕ → ℕ → ℕ

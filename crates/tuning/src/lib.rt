@@ -5,4 +5,4 @@ mod bands;
 mod word;
 
 pub use bands::{FIRST_MAXIMUM, FIRST_MINIMUM, in_bands, put_range};
-pub use word::{Word, agree, is_clock, word_kept, word_of};
+pub use word::{agree, is_clock, word_kept, word_of};

@@ -5,13 +5,7 @@ ghost use Rattle.tuning.specs.Bands.{in_bands};
 ghost use Rattle.tuning.specs.Word.{offset_of, has_word, word_of, word_kept, is_clock, word_says, word_told};
 
 use crate::bands::{FIRST_MAXIMUM, SECOND_OSCILLATOR, in_bands};
-
-// The word, or 01's refusal of a value that is not allowed.
-#[derive(Clone, Copy)]
-pub enum Word {
-    Is(u32),
-    NotAllowed,
-}
+use wire::Refusal;
 
 // The clock is one that may be set.
 pub fn is_clock(hz: u32) -> bool
@@ -51,7 +45,7 @@ fn is_nearest(n: u64, clock: u32, word: u32) -> bool
 fn guess(n: u64, clock: u32) -> u32
     requires { n ≤ 34000000 }
 {
-    let above = std::num::wrapping_sub_u64(clock as u64, 79_992_000) % 0x4000;
+    let above = (clock as u64).wrapping_sub(79_992_000) % 0x4000;
     let slope = 3_022_919_035 - above * 2_475_880 / 0x1_0000;
     let inverse = (241_809_344_857_875_401 - above * slope) / 0x10_0000;
     ((n * inverse + 0x8000_0000) / 0x1_0000_0000 % 0x1_0000_0000) as u32
@@ -71,23 +65,21 @@ fn nearest(n: u64, clock: u32) -> u32
 }
 
 // The tuning word of a frequency at a clock. Refused where the frequency lies in no band, or the clock may not be set.
-pub fn word_of(hz: u64, clock: u32) -> Word
+pub fn word_of(hz: u64, clock: u32) -> Result<u32, Refusal>
     ensures { word_says result ≡ word_told hz clock }
 {
     if !has_word(hz, clock) {
-        return Word::NotAllowed;
+        return Err(Refusal::ValueNotAllowed);
     }
-    Word::Is(nearest(offset_of(hz), clock))
+    Ok(nearest(offset_of(hz), clock))
 }
 
-// The word that a box keeps with a frequency and a clock; 0 where they have none.
+// The word that a box keeps with a frequency and a clock; 0 where they have none, as its definition (specs/Word) and a box's bytes
+// have it.
 pub fn word_kept(hz: u64, clock: u32) -> u32
     ensures { result ≡ word_kept hz clock }
 {
-    match word_of(hz, clock) {
-        Word::Is(w) => w,
-        Word::NotAllowed => 0,
-    }
+    word_of(hz, clock).unwrap_or(0)
 }
 
 // A frequency of a band, a clock that may be set, and their word.

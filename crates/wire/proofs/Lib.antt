@@ -9,3 +9,4 @@ pub mod Halves
 pub mod Firm
 pub mod Lists
 pub mod Held
+pub mod Refusals

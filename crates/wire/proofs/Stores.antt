@@ -7,7 +7,7 @@ use native.Mathlib.Decide.{dec_lt}
 use native.Mathlib.Numerals.{add-one}
 use native.Mathlib.Omega.{arith}
 use lib.ListN.{length, get_or, set, take, drop, length-take, length-drop, take-append-drop, drop_of_length-le}
-use lib.Seq.{sets, drop-cons, drop-drop, sets-eq, set_out, take-set-le, drop-set-lt, drop-set-add}
+use lib.Seq.{sets, drop-cons, drop-drop, sets-eq, set_out, take-set-le, drop-set-lt, drop-set-add, length-sets}
 use lib.Seq.{take_all, take-append_seam, drop_at, length-take-le}
 use borrow.Rule.Slice.PartMut.{mid_of, put_mid}
 
@@ -80,6 +80,31 @@ rest_part i l = take_all (length l - i) (drop i l) (simp length-drop (le_refl _)
 
 pub rest_long : (i : ℕ) (l : List ℕ) → length (take (length l - i) (drop i l)) ≡ length l - i
 rest_long i l = simp (length-take, length-drop) (omega arith)
+
+-- ---- bytes copied as far as there is room
+
+-- all of a part written anew
+pub mid_whole : (a k : ℕ) (s vs : List ℕ) → length vs ≡ k → a + k ≤ length s → put_mid a k s vs ≡ sets s a vs
+mid_whole a k s vs long room =
+    rw (drop-drop k a s, sets-eq vs s a (omega arith), long) (sym (append_assoc (take a s) vs (drop (a + k) s)))
+
+-- what has no room is not stored
+sets_fits : (l vs : List ℕ) (at fits : ℕ) → fits ≡ min (length vs) (length l - at) → sets l at (take fits vs) ≡ sets l at vs
+sets_fits l vs at fits is =
+    let front : length (take fits vs) ≡ fits = length-take-le fits vs (omega arith) in
+    let first : List ℕ = sets l at (take fits vs) in
+    let both : sets first (at + length (take fits vs)) (drop fits vs) ≡ sets l at vs
+    = sets_append l at (take fits vs) (drop fits vs) ∙ ap (sets l at) (take-append-drop fits vs) in
+    let long : length first ≡ length l = length-sets l at (take fits vs) in
+    elim (dec_lt fits (length vs)) [
+      | yes more ↦ sym (sets_out first (at + length (take fits vs)) (drop fits vs) (omega arith)) ∙ both
+      | no all ↦ let none : length vs ≤ fits = omega arith in rw (drop_of_length-le vs none) at both
+    ]
+
+pub copy_fits : (l vs : List ℕ) (at fits k : ℕ) → at ≤ length l → fits ≡ min (length vs) (length l - at) → k ≡ fits
+    → put_mid at k l (take fits vs) ≡ sets l at vs
+copy_fits l vs at fits k there is same =
+    rw same (mid_whole at fits l (take fits vs) (length-take-le fits vs (omega arith)) (omega arith) ∙ sets_fits l vs at fits is)
 
 -- ---- bytes copied one by one: those that are left to copy, stored from here on, give the whole
 

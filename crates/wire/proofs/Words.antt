@@ -7,6 +7,7 @@ use native.Mathlib.Omega.{arith}
 use native.Mathlib.Numerals.{add-one}
 use lib.ListN.{length, get_or, set}
 use lib.Seq.{sets}
+use Rattle.std.specs.Int.{w32, to_le_bytes}
 use Rattle.wire.specs.Number.{number, bytes, field}
 use Rattle.wire.proofs.Numbers.{field_step}
 
@@ -68,6 +69,15 @@ word_put l at v =
     let third : v / 65536 ≡ v / 256 / 256 = omega arith in
     let fourth : v / 16777216 ≡ v / 256 / 256 / 256 = omega arith in
     rw (one, two, three, third, fourth) refl
+
+-- the low four bytes, as the library writes them
+pub le_four : (v : ℕ) → to_le_bytes w32 (v % 4294967296) ≡ bytes 4 v
+le_four v =
+    let first : v % 4294967296 % 256 ≡ v % 256 = omega arith in
+    let second : v % 4294967296 / 256 % 256 ≡ v / 256 % 256 = omega arith in
+    let third : v % 4294967296 / 65536 % 256 ≡ v / 256 / 256 % 256 = omega arith in
+    let fourth : v % 4294967296 / 16777216 % 256 ≡ v / 256 / 256 / 256 % 256 = omega arith in
+    rw (first, second, third, fourth) refl
 
 -- m bytes, and n more, as one number
 pub bytes_join : (m n a b : ℕ) → a < 256 ^ m → bytes (m + n) (a + 256 ^ m * b) ≡ bytes m a ++ bytes n b

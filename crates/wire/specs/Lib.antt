@@ -6,3 +6,4 @@ pub mod Header
 pub mod Codes
 pub mod Halves
 pub mod Told
+pub mod Refusal

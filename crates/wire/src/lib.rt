@@ -4,13 +4,13 @@
 mod bytes;
 mod choice;
 pub mod codes; // codes.rt: what comes back
-mod counts;
 mod header;
 mod number;
+mod refusal; // refusal.rt: the codes from 10 on
 pub mod types; // types.rt: the types of messages
 
 pub use bytes::copy;
 pub use choice::within;
-pub use counts::{left, lesser};
 pub use header::{header_of, length_in, type_in};
 pub use number::{number_at, put, word};
+pub use refusal::{Refusal, code_of};

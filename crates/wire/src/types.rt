@@ -1,4 +1,5 @@
-// The types of messages, which stand in the header's top three bits.
+// The types of messages, which stand in the header's top three bits. Numbers and no enum: `type_in` and `framing::total_of` promise
+// for all eight, and from the box two of them mean something else than from the host.
 
 // from the host
 pub const SET: u8 = 0;

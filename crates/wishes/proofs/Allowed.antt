@@ -2,19 +2,16 @@
 use Prim.Native.Nat.{ℕ, suc, ◌-◌, ◌<◌}
 use mathlib.Core.Path.{◌≡◌, refl, sym, ap, subst, ◌∙◌}
 use mathlib.Core.Bool.{true, false, ◌&&◌}
-use mathlib.Core.List.{List, [], ◌∷◌, map}
+use mathlib.Core.List.{[], ◌∷◌, map}
 use native.Mathlib.Omega.{arith}
 use lib.Dec.{eqb, lit≤}
 use lib.IntN.{ℤ, pos, negsuc}
 use lib.Signed.{mag}
-use denote.Enum.Declared.{tag_of}
 use borrow.Author.Tests.{eqb-true, eqb-false, eq-eqb, ne_eqb}
-use Rattle.wire.specs.Choice.{one_of}
 use Rattle.wire.specs.Signed.{minus, coded, same_integer}
-use Rattle.wire.proofs.Laws.{true_not_false, never, and_left, and_right, within_high, by_test, by_or, one_has}
+use Rattle.wire.proofs.Laws.{never, and_left, and_right, within_high, by_test, by_or, one_has}
 use Rattle.tuning.proofs.Covered.{bands_high}
 use Rattle.items.specs.Settings.{gains, is_gain, is_mode}
-use Rattle.wishes.specs.contracts.Wish.{the_type}
 use Rattle.wishes.specs.declared.StateFields.{StateFields}
 use Rattle.wishes.specs.declared.Wish.{Wish}
 use Rattle.wishes.specs.declared.Wish.TheVariants.{AskName, AskSerial, AskInterface, AskVersion, AskStatus, SetState, AskState}
@@ -101,30 +98,3 @@ value_fits (SetRate c hz) e = omega (arith, within_high 32_000 2_000_000 hz e)
 value_fits (AskRate c) e = omega arith
 value_fits (SetPacketSize n) e = one_has (λ n. n < 256) n (0 ∷ 1 ∷ []) (omega arith, (omega arith, tt)) e
 value_fits AskPacketSize e = omega arith
-
--- the wishes that hold no value, by their place in the enum, are always allowed
-unfoldable pub valueless : List ℕ
-valueless = 0 ∷ 1 ∷ 2 ∷ 4 ∷ 6 ∷ 8 ∷ 10 ∷ 11 ∷ 13 ∷ 15 ∷ 17 ∷ 19 ∷ []
-
-pub valueless_allowed : (w : Wish) → one_of (tag_of the_type w) valueless ≡ true → allowed_wish w ≡ true
-unfolding valueless
-valueless_allowed AskName h = refl
-valueless_allowed AskSerial h = refl
-valueless_allowed AskInterface h = refl
-valueless_allowed (AskVersion id) h = absurd (true_not_false (sym h))
-valueless_allowed AskStatus h = refl
-valueless_allowed (SetState f) h = absurd (true_not_false (sym h))
-valueless_allowed AskState h = refl
-valueless_allowed (SetChannelSetup n) h = absurd (true_not_false (sym h))
-valueless_allowed AskChannelSetup h = refl
-valueless_allowed (SetFrequency c hz) h = absurd (true_not_false (sym h))
-valueless_allowed (AskFrequency c) h = refl
-valueless_allowed (AskFrequencyRange c) h = refl
-valueless_allowed (SetGain c g) h = absurd (true_not_false (sym h))
-valueless_allowed (AskGain c) h = refl
-valueless_allowed (SetClock c hz) h = absurd (true_not_false (sym h))
-valueless_allowed (AskClock c) h = refl
-valueless_allowed (SetRate c hz) h = absurd (true_not_false (sym h))
-valueless_allowed (AskRate c) h = refl
-valueless_allowed (SetPacketSize n) h = absurd (true_not_false (sym h))
-valueless_allowed AskPacketSize h = refl

@@ -1,14 +1,12 @@
 -- What a call of the writer answers, by the first check that holds; and that its answer says all.
 use Prim.Native.Nat.{ℕ, ◌≤◌, ◌<◌}
-use mathlib.Core.Path.{◌≡◌, refl}
+use mathlib.Core.Path.{◌≡◌, sym, ap}
 use mathlib.Core.Bool.{true, false}
-use lib.Dec.{eqb}
 use borrow.Author.Tests.{lt-ltb, le-ltb}
-use Rattle.wire.specs.Choice.{pick}
-use Rattle.wire.proofs.Firm.{one_by}
+use Rattle.std.specs.Prelude.{Result, Ok, Err}
+use Rattle.wire.specs.declared.refusal.Refusal.{Refusal}
+use Rattle.wire.proofs.Refusals.{number_one, done_no_refusal}
 use Rattle.wishes.specs.declared.Wish.{Wish}
-use Rattle.wishes.specs.declared.Written.{Written}
-use Rattle.wishes.specs.declared.Written.TheVariants.{Message, ChannelNotAllowed, NotAllowed, NoRoom}
 use Rattle.wishes.specs.Wishes.{open_wish, allowed_wish}
 use Rattle.wishes.specs.Writing.{Writing, written_says, wish_code}
 
@@ -29,19 +27,9 @@ module _ (w : Wish) (room : ℕ) where
   unfolding wish_code
   code_written o e h = rw (o, e, le-ltb room 16 h)
 
--- the case that tells so
-back : Writing → Written
-back t =
-    pick (eqb t.code 15) ChannelNotAllowed
-    (pick (eqb t.code 16) NotAllowed (pick (eqb t.code 20) NoRoom (Message t.wrote)))
-
-back_written : (a : Written) → back (written_says a) ≡ a
-unfolding back
-back_written (Message n) = refl
-back_written ChannelNotAllowed = refl
-back_written NotAllowed = refl
-back_written NoRoom = refl
-
 -- two answers that tell the same are the same
-pub written_one : (a b : Written) → written_says a ≡ written_says b → a ≡ b
-written_one = one_by written_says back back_written
+pub written_one : (a b : Result ℕ Refusal) → written_says a ≡ written_says b → a ≡ b
+written_one (Ok n) (Ok m) e = ap Ok (ap (λ (t : Writing). t.wrote) e)
+written_one (Ok n) (Err r) e = done_no_refusal r (ap (λ (t : Writing). t.code) e)
+written_one (Err r) (Ok m) e = done_no_refusal r (sym (ap (λ (t : Writing). t.code) e))
+written_one (Err r) (Err q) e = ap Err (number_one r q (ap (λ (t : Writing). t.code) e))

@@ -1,4 +1,3 @@
-pub mod Gains
 pub mod Rows
 pub mod Open
 pub mod Allowed

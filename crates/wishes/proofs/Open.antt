@@ -4,7 +4,6 @@ use mathlib.Core.Path.{◌≡◌, refl, sym, ◌∙◌}
 use mathlib.Core.Bool.{Bool, true, false, ◌||◌, not}
 use mathlib.Core.List.{List, [], ◌∷◌, ◌++◌}
 use lib.Dec.{eqb}
-use denote.Enum.Declared.{tag_of}
 use Rattle.wire.specs.Choice.{pick, one_of}
 use Rattle.wire.specs.Header.{type_set}
 use Rattle.wire.proofs.Laws.{never, or_left, pick_same}
@@ -12,10 +11,8 @@ use Rattle.items.specs.declared.Settings.{Settings}
 use Rattle.items.specs.Settings.{single, dual, open_channels}
 use Rattle.items.specs.Items.{Echoed, no_byte, an_id, any_channel, a_channel}
 use Rattle.items.specs.Answer.{channel_allowed}
-use Rattle.wishes.specs.contracts.Wish.{the_type}
 use Rattle.wishes.specs.declared.Wish.{Wish}
 use Rattle.wishes.specs.Wishes.{asking, open_at, open_wish, closed_now}
-use Rattle.wishes.proofs.Rows.{by_wish}
 
 -- on a request 00, or 00 and 02; on a set FF besides
 pub asked_open : (c : ℕ) → one_of c (0x00 ∷ []) || (one_of c (0x00 ∷ 0x02 ∷ []) || false) ≡ one_of c (0x00 ∷ 0x02 ∷ [])
@@ -85,14 +82,3 @@ closed_everywhere w s h = go (open_at w s.setup) (open_here w s.setup)
     go : (b : Bool) → (b ≡ true → open_wish w ≡ true) → not b ≡ true
     go true is = never (sym h ∙ is refl)
     go false is = refl
-
--- the wishes for other items than frequency and gain, by their place in the enum, are open always
-unfoldable pub channelless : List ℕ
-channelless = 0 ∷ 1 ∷ 2 ∷ 3 ∷ 4 ∷ 5 ∷ 6 ∷ 7 ∷ 8 ∷ 14 ∷ 15 ∷ 16 ∷ 17 ∷ 18 ∷ 19 ∷ []
-
-pub channelless_open : (w : Wish) → one_of (tag_of the_type w) channelless ≡ true → open_wish w ≡ true
-unfolding channelless
-channelless_open =
-    by_wish (λ (w : Wish). one_of (tag_of the_type w) channelless ≡ true → open_wish w ≡ true) (λ h. refl) (λ h. refl) (λ h. refl)
-    (λ id h. refl) (λ h. refl) (λ f h. refl) (λ h. refl) (λ n h. refl) (λ h. refl) (λ c hz. never) (λ c. never) (λ c. never) (λ c g. never)
-    (λ c. never) (λ c hz h. refl) (λ c h. refl) (λ c hz h. refl) (λ c h. refl) (λ n h. refl) (λ h. refl)

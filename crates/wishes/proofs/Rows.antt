@@ -3,8 +3,10 @@ use Prim.Native.Nat.{ℕ, ◌+◌, ◌≤◌}
 use mathlib.Core.Path.{refl}
 use lib.Dec.{eqb, lit≤}
 use lib.IntN.{ℤ, pos}
+use lib.ListN.{length}
+use Rattle.std.specs.Prelude.{Some, None}
 use Rattle.wire.specs.Choice.{pick}
-use Rattle.layouts.specs.Layouts.{size_of}
+use Rattle.layouts.specs.Layouts.{echo_bytes, size_of}
 use Rattle.items.specs.Items.{echoes, Item, name, serial, interface, versions}
 use Rattle.items.specs.Items.{status, state, channel_setup, frequency, gain, clock, rate, packet_size}
 use Rattle.items.specs.Table.{offered}
@@ -53,9 +55,15 @@ of_row P a b c d e f g h i j k l m n o p q r s t =
     by_wish (λ w. P (asking w).item (asking w).kind) a b c (λ _. d) e (λ _. f) g (λ _. h) i (λ _ _. j) (λ _. k) (λ _. l)
     (λ _ _. m) (λ _. n) (λ _ _. o) (λ _. p) (λ _ _. q) (λ _. r) (λ _. s) t
 
--- no message is longer than ten bytes
+-- no message is longer than ten bytes, whatever byte it echoes
 pub short_message : (w : Wish) → size_of (layout_of w) ≤ 10
-short_message w = search (of_row (λ i k. pick (eqb (echoes i.echoed) 1) 5 4 + width_in i (offered i k) ≤ 10), lit≤)
+short_message w = all (asking w).echo
+  where
+    long : ℕ → Item → ℕ → ℕ
+    long echo i k = 4 + length (echo_bytes (pick (eqb (echoes i.echoed) 1) (Some echo) None)) + width_in i (offered i k)
+
+    all : (echo : ℕ) → long echo (asking w).item (asking w).kind ≤ 10
+    all echo = search (of_row (λ i k. long echo i k ≤ 10), lit≤)
 
 -- "One wish for each kind and item above."
 pub one_for_each : OneForEach

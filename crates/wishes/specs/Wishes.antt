@@ -1,5 +1,5 @@
 -- Harvester's wishes: "One wish for each kind and item above". "Wishes gain 0019 and a channel byte" (02, No. 7).
-use Rattle.std.specs.Prelude.{ℕ, ◌+◌, ◌-◌, ◌^◌, ◌≤◌, ◌<◌, Bool, true, false, ◌&&◌, ◌||◌, not, ◌≡◌, List, [], ◌∷◌, ◌++◌, map, eqb, ℤ, length, get_or, replicate}
+use Rattle.std.specs.Prelude.{ℕ, ◌+◌, ◌-◌, ◌^◌, ◌≤◌, ◌<◌, Bool, true, false, ◌&&◌, ◌||◌, not, ◌≡◌, Some, None, List, [], ◌∷◌, ◌++◌, map, eqb, ℤ, length, get_or, replicate}
 use Rattle.std.specs.Int.Signed.{mag}
 use Rattle.wire.specs.Choice.{pick, any_of}
 use Rattle.wire.specs.Lists.{all_bytes}
@@ -175,8 +175,7 @@ layout_of w =
     record {
       kind = (asking w).kind;
       item = (asking w).item.code;
-      echoed = eqb (echoes (asking w).item.echoed) 1;
-      echo = (asking w).echo;
+      echo = pick (eqb (echoes (asking w).item.echoed) 1) (Some (asking w).echo) None;
       width = width_in (asking w).item (offered (asking w).item (asking w).kind);
       value = sent (asking w).value;
     }

@@ -1,11 +1,11 @@
 -- Writing a wish into a lent buffer.
-use Rattle.std.specs.Prelude.{ℕ, not, List, [], ◌∷◌, ltb, length}
+use Rattle.std.specs.Prelude.{ℕ, not, Result, Ok, Err, List, [], ◌∷◌, ltb, length}
 use Rattle.wire.specs.Choice.{Check, check, first_of}
 use Rattle.wire.specs.Codes.{others_write}
 use Rattle.wire.specs.Codes as Code
+use Rattle.wire.specs.Refusal.{refusal_code}
+use Rattle.wire.specs.declared.refusal.Refusal.{Refusal}
 use Rattle.wishes.specs.declared.Wish.{Wish}
-use Rattle.wishes.specs.declared.Written.{Written}
-use Rattle.wishes.specs.declared.Written.TheVariants.{Message, ChannelNotAllowed, NotAllowed, NoRoom}
 use Rattle.wishes.specs.Wishes.{open_wish, allowed_wish, message_of}
 
 -- "a channel byte (15, nothing written, if no box allows it; before 16)" (02, No. 7); "16 values the box would refuse so, with 20 a buffer
@@ -29,12 +29,10 @@ pub record Writing : Type 0 where
   pub code : ℕ
   pub wrote : ℕ
 
--- the number and the value of each case
-abbrev pub written_says : Written → Writing
-written_says (Message n) = record { code = Code.done; wrote = n }
-written_says ChannelNotAllowed = record { code = Code.channel_not_allowed; wrote = 0 }
-written_says NotAllowed = record { code = Code.value_not_allowed; wrote = 0 }
-written_says NoRoom = record { code = Code.no_room; wrote = 0 }
+-- how many bytes the message has, or the refusal's code
+abbrev pub written_says : Result ℕ Refusal → Writing
+written_says (Ok n) = record { code = Code.done; wrote = n }
+written_says (Err r) = record { code = refusal_code r; wrote = 0 }
 
 -- what writing a wish into a buffer of so many bytes answers
 abbrev pub writing_of : Wish → ℕ → Writing

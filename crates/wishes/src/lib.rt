@@ -5,7 +5,6 @@ ghost use Rattle.std.specs.Prelude.{◌≡◌, ◌∷◌, length};
 ghost use Rattle.std.proofs.lemmas.List.Edits.{sets};
 ghost use Rattle.wire.specs.Choice.{one_of};
 ghost use Rattle.wire.specs.Number.{number};
-ghost use Rattle.wire.specs.Signed.{coded};
 ghost use Rattle.wire.specs.Header.{type_set, type_request};
 ghost use Rattle.items.specs.Settings.{dual, open_channels};
 ghost use Rattle.wishes.specs.Wishes.{state_sent, layout_of, open_wish, allowed_wish, may_wish_state};
@@ -13,10 +12,10 @@ ghost use Rattle.wishes.specs.Writing.{written_says, writing_of, bytes_written};
 
 use items::{table, values};
 use layouts::Layout;
-use wire::types;
+use wire::{Refusal, types};
 
 // The state that is wished for: its run byte, 1 for idle or 2 for run, and its capture mode, which idle does not look at.
-#[derive(Clone, Copy)]
+#[derive(Clone, Copy, Debug, PartialEq, Eq)]
 pub struct StateFields {
     pub run: u8,
     pub mode: u8,
@@ -24,7 +23,7 @@ pub struct StateFields {
 
 // "One wish for each kind and item above": a set holds the value to set, frequencies, clock and rate in Hz. Where the message has
 // a channel byte, the wish holds that first (02, No. 7): "Wishes gain 0019 and a channel byte".
-#[derive(Clone, Copy)]
+#[derive(Clone, Copy, Debug, PartialEq, Eq)]
 pub enum Wish {
     AskName,
     AskSerial,
@@ -48,57 +47,37 @@ pub enum Wish {
     AskPacketSize,
 }
 
-// What the writer did: a message of so many bytes; or nothing, since no box allows the channel byte (15), since the box would not
-// allow the value (16), or since the buffer is under 16 bytes (20).
-#[derive(Clone, Copy)]
-pub enum Written {
-    Message(usize),
-    ChannelNotAllowed,
-    NotAllowed,
-    NoRoom,
-}
-
-// The bits of a gain's signed byte.
-fn gain_byte(g: i8) -> u8
-    ensures { result ≡ coded 8 g }
-{
-    ((g as i32 + 256) as u32 % 256) as u8
-}
-
 // "Idle is sent as 00 01 00 00, run as 80 02, mode, 00", as one number.
 fn state_sent(fields: StateFields) -> u64
     ensures { result ≡ number (state_sent fields) }
 {
     if fields.run == values::IDLE {
-        return (values::IDLE as u64) << 8;
+        return u32::from_le_bytes([0x00, values::IDLE, 0x00, 0x00]) as u64;
     }
     values::state_number(fields.run, fields.mode)
 }
 
 // A request has no value.
-fn request(item: u16, echoed: bool, echo: u8) -> Layout
-    ensures { result ≡ record { kind = type_request; item = item; echoed = echoed; echo = echo; width = 0; value = 0 } }
+fn request(item: u16, echo: Option<u8>) -> Layout
+    ensures { result ≡ record { kind = type_request; item = item; echo = echo; width = 0; value = 0 } }
 {
     Layout {
         kind: types::REQUEST,
-        item: item,
-        echoed: echoed,
-        echo: echo,
+        item,
+        echo,
         width: 0,
         value: 0,
     }
 }
 
-fn setting(item: u16, echoed: bool, echo: u8, width: u8, value: u64) -> Layout
-    ensures { result ≡ record { kind = type_set; item = item; echoed = echoed; echo = echo; width = width; value = value } }
+fn setting(item: u16, echo: Option<u8>, width: u8, value: u64) -> Layout
+    ensures { result ≡ record { kind = type_set; item = item; echo = echo; width = width; value = value } }
 {
     Layout {
         kind: types::SET,
-        item: item,
-        echoed: echoed,
-        echo: echo,
-        width: width,
-        value: value,
+        width,
+        value,
+        ..request(item, echo)
     }
 }
 
@@ -107,33 +86,34 @@ pub fn layout_of(w: Wish) -> Layout
     ensures { result ≡ layout_of w }
 {
     match w {
-        Wish::AskName => request(table::NAME, false, 0),
-        Wish::AskSerial => request(table::SERIAL, false, 0),
-        Wish::AskInterface => request(table::INTERFACE, false, 0),
-        Wish::AskVersion(id) => request(table::VERSIONS, true, id),
-        Wish::AskStatus => request(table::STATUS, false, 0),
-        Wish::SetState(fields) => setting(table::STATE, false, 0, 4, state_sent(fields)),
-        Wish::AskState => request(table::STATE, false, 0),
-        Wish::SetChannelSetup(n) => setting(table::CHANNEL_SETUP, false, 0, 1, n as u64),
-        Wish::AskChannelSetup => request(table::CHANNEL_SETUP, false, 0),
-        Wish::SetFrequency(channel, hz) => setting(table::FREQUENCY, true, channel, 5, hz),
-        Wish::AskFrequency(channel) => request(table::FREQUENCY, true, channel),
+        Wish::AskName => request(table::NAME, None),
+        Wish::AskSerial => request(table::SERIAL, None),
+        Wish::AskInterface => request(table::INTERFACE, None),
+        Wish::AskVersion(id) => request(table::VERSIONS, Some(id)),
+        Wish::AskStatus => request(table::STATUS, None),
+        Wish::SetState(fields) => setting(table::STATE, None, 4, state_sent(fields)),
+        Wish::AskState => request(table::STATE, None),
+        Wish::SetChannelSetup(n) => setting(table::CHANNEL_SETUP, None, 1, n as u64),
+        Wish::AskChannelSetup => request(table::CHANNEL_SETUP, None),
+        Wish::SetFrequency(channel, hz) => setting(table::FREQUENCY, Some(channel), 5, hz),
+        Wish::AskFrequency(channel) => request(table::FREQUENCY, Some(channel)),
         Wish::AskFrequencyRange(channel) => Layout {
             kind: types::RANGE,
-            item: table::FREQUENCY,
-            echoed: true,
-            echo: channel,
-            width: 0,
-            value: 0,
+            ..request(table::FREQUENCY, Some(channel))
         },
-        Wish::SetGain(channel, g) => setting(table::GAIN, true, channel, 1, gain_byte(g) as u64),
-        Wish::AskGain(channel) => request(table::GAIN, true, channel),
-        Wish::SetClock(channel, hz) => setting(table::CLOCK, true, channel, 4, hz as u64),
-        Wish::AskClock(channel) => request(table::CLOCK, true, channel),
-        Wish::SetRate(channel, hz) => setting(table::RATE, true, channel, 4, hz as u64),
-        Wish::AskRate(channel) => request(table::RATE, true, channel),
-        Wish::SetPacketSize(n) => setting(table::PACKET_SIZE, false, 0, 1, n as u64),
-        Wish::AskPacketSize => request(table::PACKET_SIZE, false, 0),
+        Wish::SetGain(channel, g) => setting(
+            table::GAIN,
+            Some(channel),
+            1,
+            g.cast_unsigned() as u64,
+        ),
+        Wish::AskGain(channel) => request(table::GAIN, Some(channel)),
+        Wish::SetClock(channel, hz) => setting(table::CLOCK, Some(channel), 4, hz as u64),
+        Wish::AskClock(channel) => request(table::CLOCK, Some(channel)),
+        Wish::SetRate(channel, hz) => setting(table::RATE, Some(channel), 4, hz as u64),
+        Wish::AskRate(channel) => request(table::RATE, Some(channel)),
+        Wish::SetPacketSize(n) => setting(table::PACKET_SIZE, None, 1, n as u64),
+        Wish::AskPacketSize => request(table::PACKET_SIZE, None),
     }
 }
 
@@ -186,7 +166,7 @@ pub fn is_allowed(w: Wish) -> bool
         Wish::SetState(fields) => may_state(fields),
         Wish::SetChannelSetup(n) => items::ranges::is_setup(n as u16),
         Wish::SetFrequency(_, hz) => tuning::in_bands(hz),
-        Wish::SetGain(_, g) => items::ranges::is_gain(gain_byte(g) as u32),
+        Wish::SetGain(_, g) => items::ranges::is_gain(g.cast_unsigned() as u32),
         Wish::SetClock(_, hz) => tuning::is_clock(hz),
         Wish::SetRate(_, hz) => rates::may_ask(hz),
         Wish::SetPacketSize(n) => items::ranges::is_size(n as u32),
@@ -194,19 +174,20 @@ pub fn is_allowed(w: Wish) -> bool
     }
 }
 
-// Writes the message of a wish at the start of the buffer.
-pub fn write(w: Wish, buffer: &mut [u8]) -> Written
+// Writes the message of a wish at the start of the buffer, and says how long it is; or nothing, since no box allows the channel byte
+// (15), since the box would not allow the value (16), or since the buffer is under 16 bytes (20).
+pub fn write(w: Wish, buffer: &mut [u8]) -> Result<usize, Refusal>
     ensures { (written_says result ≡ writing_of w (length buffer.old))
         × (buffer.new ≡ sets buffer.old 0 (bytes_written w (length buffer.old))) }
 {
     if !is_open(w) {
-        return Written::ChannelNotAllowed;
+        return Err(Refusal::ChannelNotAllowed);
     }
     if !is_allowed(w) {
-        return Written::NotAllowed;
+        return Err(Refusal::ValueNotAllowed);
     }
     if buffer.len() < 16 {
-        return Written::NoRoom;
+        return Err(Refusal::NoRoom);
     }
-    Written::Message(layouts::put_message(buffer, layout_of(w)))
+    layout_of(w).put(buffer).ok_or(Refusal::NoRoom)
 }

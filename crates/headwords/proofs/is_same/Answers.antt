@@ -1,5 +1,6 @@
-use Rattle.wire.proofs.Lists.{same_test}
+use Rattle.std.proofs.Common.{◌∙◌}
+use Rattle.headwords.proofs.Words.{same_is}
 use Rattle.headwords.proofs.is_same.Goals as goal
 
 pub returns : goal.returns
-returns c = same_test _ _ _ c.same.ensures.0 c.same.ensures.1
+returns c = c.eq.ensures ∙ same_is c.args.word.now c.args.other.now

@@ -1,42 +1,45 @@
--- Each return knows which words were good.
-use Rattle.std.proofs.Common.{refl, sym, ap}
-use mathlib.Core.Path.{◌∙◌}
-use Rattle.rates.specs.Rate.{is_d}
-use Rattle.tuning.specs.Bands.{in_bands}
-use Rattle.headwords.proofs.Heads.{plain_by_lem, plain_is}
+use Rattle.std.proofs.Common.{refl, sym, subst}
+use Rattle.std.proofs.lemmas.Result.{err_from_is_err_and}
+use Rattle.headwords.specs.Words.{Fit}
+use Rattle.headwords.proofs.Words.{found, missing}
+use Rattle.headwords.proofs.Heads.{plain_by_lem, plain_fit}
 use Rattle.headwords.proofs.plain.Goals as goal
 
-pub returns-then-not-is_d : goal.returns-then-not-is_d
-returns-then-not-is_d c =
-    let d = ap is_d (sym c.number_of-divisor.ensures) ∙ sym c.is_d.ensures ∙ c.if-not-is_d.true in
-    (sym (plain_by_lem _ _ _ _ d refl refl refl), tt)
+pub returns-in_err-divisor : goal.returns-in_err-divisor
+returns-in_err-divisor c =
+    let p = err_from_is_err_and c.from_residual.result c.from_residual.ensures.1 in
+    let d = missing _ _ _ _ c.divisor_of.ensures c.in_err-divisor.ensures.value in
+    rw (p.1, p.2, d.1) (sym (plain_by_lem _ _ _ _ d.0 refl refl refl), tt)
 
-pub returns-then-not-in_bands : goal.returns-then-not-in_bands
-returns-then-not-in_bands c =
-    let d = ap is_d (sym c.number_of-divisor.ensures) ∙ sym c.is_d.ensures ∙ c.if-not-is_d.false in
-    let hz = ap in_bands (sym c.number_of-frequency.ensures) ∙ sym c.in_bands.ensures ∙ c.if-not-in_bands.true in
-    (sym (plain_by_lem _ _ _ _ d hz refl refl), tt)
+pub returns-in_err-frequency : goal.returns-in_err-frequency
+returns-in_err-frequency c =
+    let p = err_from_is_err_and c.from_residual-in_err-frequency.result c.from_residual-in_err-frequency.ensures.1 in
+    let d = found _ _ _ _ c.divisor_of.ensures c.in_ok-divisor.ensures.value in
+    let hz = missing _ _ _ _ c.frequency_of.ensures c.in_err-frequency.ensures.value in
+    rw (p.1, p.2, hz.1) (sym (plain_by_lem _ _ _ _ d.0 hz.0 refl refl), tt)
 
-pub returns-then-not-is_bits_word : goal.returns-then-not-is_bits_word
-returns-then-not-is_bits_word c =
-    let d = ap is_d (sym c.number_of-divisor.ensures) ∙ sym c.is_d.ensures ∙ c.if-not-is_d.false in
-    let hz = ap in_bands (sym c.number_of-frequency.ensures) ∙ sym c.in_bands.ensures ∙ c.if-not-in_bands.false in
-    let bits = sym c.is_bits_word.ensures ∙ c.if-not-is_bits_word.true in
-    (sym (plain_by_lem _ _ _ _ d hz bits refl), tt)
+pub returns-in_err-mode : goal.returns-in_err-mode
+returns-in_err-mode c =
+    let p = err_from_is_err_and c.from_residual-in_err-mode.result c.from_residual-in_err-mode.ensures.1 in
+    let d = found _ _ _ _ c.divisor_of.ensures c.in_ok-divisor.ensures.value in
+    let hz = found _ _ _ _ c.frequency_of.ensures c.in_ok-frequency.ensures.value in
+    let bits = missing _ _ _ _ c.mode_of.ensures c.in_err-mode.ensures.value in
+    rw (p.1, p.2, bits.1) (sym (plain_by_lem _ _ _ _ d.0 hz.0 bits.0 refl), tt)
 
-pub returns-then-not-is_either : goal.returns-then-not-is_either
-returns-then-not-is_either c =
-    let d = ap is_d (sym c.number_of-divisor.ensures) ∙ sym c.is_d.ensures ∙ c.if-not-is_d.false in
-    let hz = ap in_bands (sym c.number_of-frequency.ensures) ∙ sym c.in_bands.ensures ∙ c.if-not-in_bands.false in
-    let bits = sym c.is_bits_word.ensures ∙ c.if-not-is_bits_word.false in
-    let size = sym c.is_either.ensures ∙ c.if-not-is_either.true in
-    (sym (plain_by_lem _ _ _ _ d hz bits size), tt)
+pub returns-in_err-size : goal.returns-in_err-size
+returns-in_err-size c =
+    let p = err_from_is_err_and c.from_residual-in_err-size.result c.from_residual-in_err-size.ensures.1 in
+    let d = found _ _ _ _ c.divisor_of.ensures c.in_ok-divisor.ensures.value in
+    let hz = found _ _ _ _ c.frequency_of.ensures c.in_ok-frequency.ensures.value in
+    let bits = found _ _ _ _ c.mode_of.ensures c.in_ok-mode.ensures.value in
+    let size = missing _ _ _ _ c.size_of.ensures c.in_err-size.ensures.value in
+    rw (p.1, p.2, size.1) (sym (plain_by_lem _ _ _ _ d.0 hz.0 bits.0 size.0), tt)
 
 pub returns : goal.returns
 returns c =
-    let d = ap is_d (sym c.number_of-divisor.ensures) ∙ sym c.is_d.ensures ∙ c.if-not-is_d.false in
-    let hz = ap in_bands (sym c.number_of-frequency.ensures) ∙ sym c.in_bands.ensures ∙ c.if-not-in_bands.false in
-    let bits = sym c.is_bits_word.ensures ∙ c.if-not-is_bits_word.false in
-    let size = sym c.is_either.ensures ∙ c.if-not-is_either.false in
-    plain_is _ _ _ _ c.number_of-divisor.ensures c.number_of-frequency.ensures c.mode_of.ensures c.chosen.ensures
-    (plain_by_lem _ _ _ _ d hz bits size)
+    let d = found _ _ _ _ c.divisor_of.ensures c.in_ok-divisor.ensures.value in
+    let hz = found _ _ _ _ c.frequency_of.ensures c.in_ok-frequency.ensures.value in
+    let bits = found _ _ _ _ c.mode_of.ensures c.in_ok-mode.ensures.value in
+    let size = found _ _ _ _ c.size_of.ensures c.in_ok-size.ensures.value in
+    let whole = plain_by_lem _ _ _ _ d.0 hz.0 bits.0 size.0 in
+    rw (d.1, hz.1, bits.1, size.1) (sym whole, subst Fit whole (plain_fit _ _ _ _))

@@ -1,21 +1,24 @@
-use Rattle.std.proofs.Common.{refl, sym, ap}
-use mathlib.Core.Path.{◌∙◌}
-use Rattle.tuning.specs.Word.{is_clock}
+use Rattle.std.proofs.Common.{refl, sym}
+use Rattle.std.proofs.lemmas.Result.{err_from_is_err_and}
+use Rattle.headwords.proofs.Words.{found, missing}
 use Rattle.headwords.proofs.Heads.{names_by_lem}
 use Rattle.headwords.proofs.with_names.Goals as goal
 
-pub returns-then-not-is_serial_word : goal.returns-then-not-is_serial_word
-returns-then-not-is_serial_word c =
-    sym (names_by_lem _ _ _ (sym c.is_serial_word.ensures ∙ c.if-not-is_serial_word.true) refl)
+pub returns-in_err-serial : goal.returns-in_err-serial
+returns-in_err-serial c =
+    let p = err_from_is_err_and c.from_residual.result c.from_residual.ensures.1 in
+    let serial = missing _ _ _ _ c.serial_of.ensures c.in_err-serial.ensures.value in
+    rw (p.1, p.2, serial.1) (sym (names_by_lem _ _ _ serial.0 refl))
 
-pub returns-then-not-is_clock : goal.returns-then-not-is_clock
-returns-then-not-is_clock c =
-    let serial = sym c.is_serial_word.ensures ∙ c.if-not-is_serial_word.false in
-    let clock = ap is_clock (sym c.number_of-hz.ensures) ∙ sym c.is_clock.ensures ∙ c.if-not-is_clock.true in
-    sym (names_by_lem _ _ _ serial clock)
+pub returns-in_err-clock : goal.returns-in_err-clock
+returns-in_err-clock c =
+    let p = err_from_is_err_and c.from_residual-in_err-clock.result c.from_residual-in_err-clock.ensures.1 in
+    let serial = found _ _ _ _ c.serial_of.ensures c.in_ok-serial.ensures.value in
+    let clock = missing _ _ _ _ c.clock_of.ensures c.in_err-clock.ensures.value in
+    rw (p.1, p.2, clock.1) (sym (names_by_lem _ _ _ serial.0 clock.0))
 
 pub returns : goal.returns
 returns c =
-    let serial = sym c.is_serial_word.ensures ∙ c.if-not-is_serial_word.false in
-    let clock = ap is_clock (sym c.number_of-hz.ensures) ∙ sym c.is_clock.ensures ∙ c.if-not-is_clock.false in
-    rw (c.serial_of.ensures, c.number_of-hz.ensures) (sym (names_by_lem _ _ _ serial clock))
+    let serial = found _ _ _ _ c.serial_of.ensures c.in_ok-serial.ensures.value in
+    let clock = found _ _ _ _ c.clock_of.ensures c.in_ok-clock.ensures.value in
+    rw (serial.1, clock.1) (sym (names_by_lem _ _ _ serial.0 clock.0))

@@ -4,7 +4,7 @@ use Rattle.moves.proofs.Firsts.{head_inside}
 use Rattle.moves.proofs.write_moved.Goals as goal
 
 pub slice_bounds-write_first-count : goal.slice_bounds-write_first-count
-slice_bounds-write_first-count c = omega (arith, c.head_length_in-behind.ensures, head_inside _ _ 26 c.requires.0.moves)
+slice_bounds-write_first-count g c = omega (arith, c.head_length_in-behind.ensures, head_inside _ _ 26 c.requires.0.moves)
 
 pub slice_bounds-write_first-start : goal.slice_bounds-write_first-start
-slice_bounds-write_first-start c = omega (arith, c.head_length_in-behind.ensures, head_inside _ _ 26 c.requires.0.moves)
+slice_bounds-write_first-start g c = omega (arith, c.head_length_in-behind.ensures, head_inside _ _ 26 c.requires.0.moves)

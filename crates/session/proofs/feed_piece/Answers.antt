@@ -1,30 +1,30 @@
-use Rattle.std.proofs.Common.{◌<◌, ◌^◌, length, arith, rules}
-use borrow.Author.Tests.{not-false}
-use Rattle.session.proofs.Pieces.{Turn, begins, ends, turns}
+use Rattle.std.proofs.Common.{◌<◌, length, rules}
+use Rattle.session.proofs.Pieces.{begins, ends, turns}
 use Rattle.session.proofs.feed_piece.Goals as goal
 
-pub loop-at-init : goal.loop-at-init
-loop-at-init c = begins _ _ c.requires.0.valid
+pub loop-rest-init : goal.loop-rest-init
+loop-rest-init c = begins _ _ c.requires.valid
 
 -- what a call did whose reply was written
-pub overflow_add-at : goal.overflow_add-at
-overflow_add-at c =
-    let did : Turn c.args.s c.args.piece.now c.loop-at.at c.feed_once-answered.result.fed =
-    turns _ _ _ _ c.loop-at.invariant c.loop-at-test.true _ (c.feed_once-answered.ensures (not-false _ c.if-not-answered.false)) in
-    let short : length c.args.piece.now < 2 ^ 64 = search rules in
-    omega (arith, short, did.going.inside)
+pub slice_bounds-rest-count : goal.slice_bounds-rest-count
+slice_bounds-rest-count c =
+    let more : 0 < length c.loop-rest.rest.now = search rules in
+    (turns _ _ _ _ c.loop-rest.invariant more _ c.in_ok-fed.ensures).inside
 
-pub loop-at-smaller : goal.loop-at-smaller
-loop-at-smaller c =
-    let did : Turn c.args.s c.args.piece.now c.loop-at.at c.feed_once-answered.result.fed =
-    turns _ _ _ _ c.loop-at.invariant c.loop-at-test.true _ (c.feed_once-answered.ensures (not-false _ c.if-not-answered.false)) in
-    omega (arith, did.some)
+pub slice_bounds-rest-start : goal.slice_bounds-rest-start
+slice_bounds-rest-start c =
+    let more : 0 < length c.loop-rest.rest.now = search rules in
+    (turns _ _ _ _ c.loop-rest.invariant more _ c.in_ok-fed.ensures).inside
 
-pub loop-at-preserved : goal.loop-at-preserved
-loop-at-preserved c =
-    let did : Turn c.args.s c.args.piece.now c.loop-at.at c.feed_once-answered.result.fed =
-    turns _ _ _ _ c.loop-at.invariant c.loop-at-test.true _ (c.feed_once-answered.ensures (not-false _ c.if-not-answered.false)) in
-    did.going
+pub loop-rest-smaller : goal.loop-rest-smaller
+loop-rest-smaller c =
+    let more : 0 < length c.loop-rest.rest.now = search rules in
+    (turns _ _ _ _ c.loop-rest.invariant more _ c.in_ok-fed.ensures).less
+
+pub loop-rest-preserved : goal.loop-rest-preserved
+loop-rest-preserved c =
+    let more : 0 < length c.loop-rest.rest.now = search rules in
+    (turns _ _ _ _ c.loop-rest.invariant more _ c.in_ok-fed.ensures).going
 
 pub returns : goal.returns
-returns c = λ w. ends _ _ _ _ c.loop-at.invariant c.loop-at-test.false
+returns c = ends _ _ _ _ c.loop-rest.invariant (search rules)

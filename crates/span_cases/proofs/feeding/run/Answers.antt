@@ -1,28 +1,34 @@
-use Rattle.std.proofs.Common.{◌≤◌, length, arith}
-use Rattle.hearing.specs.Hearing.{farthest}
-use Rattle.span_cases.proofs.Steps.{handed_none, Step, steps}
+use Rattle.std.proofs.Common.{◌<◌, length, refl, arith, rules}
+use Rattle.spans.specs.Eating.{eaten_told}
+use Rattle.spans.proofs.Eats.{is_ok}
+use Rattle.span_cases.proofs.Steps.{all_left, steps}
 use Rattle.span_cases.proofs.feeding.run.Goals as goal
 
-pub loop-at-init : goal.loop-at-init
-loop-at-init c = rw c.fresh-span.ensures (handed_none _)
+pub loop-rest-init : goal.loop-rest-init
+loop-rest-init c = rw c.fresh-span.ensures (all_left _ (omega arith))
 
-pub overflow_add-at : goal.overflow_add-at
-overflow_add-at c =
-    let short : length c.args.input.now ≤ farthest = omega arith in
-    let did : Step c.args.input.now c.loop-at.at c.hand_over-e.result =
-    steps _ _ _ _ c.loop-at.invariant c.loop-at-test.true c.requires short _ _ c.first.ensures c.hand_over-e.ensures in
-    omega (arith, did.next.inside, short)
+pub unwrap-e-requires : goal.unwrap-e-requires
+unwrap-e-requires c =
+    let more : 0 < length c.loop-rest.rest.now = search rules in
+    let did = steps _ _ _ c.loop-rest.invariant more c.requires _ (eaten_told c.loop-rest.span c.hand_over.result) c.first.ensures c.hand_over.ensures in
+    is_ok _ _ _ refl did.some
 
-pub loop-at-smaller : goal.loop-at-smaller
-loop-at-smaller c =
-    let short : length c.args.input.now ≤ farthest = omega arith in
-    let did : Step c.args.input.now c.loop-at.at c.hand_over-e.result =
-    steps _ _ _ _ c.loop-at.invariant c.loop-at-test.true c.requires short _ _ c.first.ensures c.hand_over-e.ensures in
-    omega (arith, did.some)
+pub slice_bounds-rest-count : goal.slice_bounds-rest-count
+slice_bounds-rest-count c =
+    let more : 0 < length c.loop-rest.rest.now = search rules in
+    (steps _ _ _ c.loop-rest.invariant more c.requires _ _ c.first.ensures (rw c.unwrap-e.ensures at c.hand_over.ensures)).inside
 
-pub loop-at-preserved : goal.loop-at-preserved
-loop-at-preserved c =
-    let short : length c.args.input.now ≤ farthest = omega arith in
-    let did : Step c.args.input.now c.loop-at.at c.hand_over-e.result =
-    steps _ _ _ _ c.loop-at.invariant c.loop-at-test.true c.requires short _ _ c.first.ensures c.hand_over-e.ensures in
-    did.next
+pub slice_bounds-rest-start : goal.slice_bounds-rest-start
+slice_bounds-rest-start c =
+    let more : 0 < length c.loop-rest.rest.now = search rules in
+    (steps _ _ _ c.loop-rest.invariant more c.requires _ _ c.first.ensures (rw c.unwrap-e.ensures at c.hand_over.ensures)).inside
+
+pub loop-rest-smaller : goal.loop-rest-smaller
+loop-rest-smaller c =
+    let more : 0 < length c.loop-rest.rest.now = search rules in
+    (steps _ _ _ c.loop-rest.invariant more c.requires _ _ c.first.ensures (rw c.unwrap-e.ensures at c.hand_over.ensures)).less
+
+pub loop-rest-preserved : goal.loop-rest-preserved
+loop-rest-preserved c =
+    let more : 0 < length c.loop-rest.rest.now = search rules in
+    (steps _ _ _ c.loop-rest.invariant more c.requires _ _ c.first.ensures (rw c.unwrap-e.ensures at c.hand_over.ensures)).next

@@ -1,10 +1,10 @@
--- Each call brings the place further, and it stays within the input.
-use Rattle.std.proofs.Common.{◌-◌, length}
-use Rattle.span_cases.proofs.Steps.{HandedUpTo}
+-- Each call leaves less of the input.
+use Rattle.std.proofs.Common.{length}
+use Rattle.span_cases.proofs.Steps.{Left}
 use Rattle.span_cases.proofs.feeding.run.Given as goal
 
-abbrev pub invariant-loop-at : goal.invariant-loop-at
-invariant-loop-at l = HandedUpTo l.input l.span l.at
+abbrev pub invariant-loop-rest : goal.invariant-loop-rest
+invariant-loop-rest l = Left l.span l.rest
 
-abbrev pub decreases-loop-at : goal.decreases-loop-at
-decreases-loop-at l = length l.input - l.at
+abbrev pub decreases-loop-rest : goal.decreases-loop-rest
+decreases-loop-rest l = length l.rest
