@@ -5,18 +5,18 @@ use mathlib.Core.Path.{◌≡◌, refl, sym, ap, ◌∙◌}
 use mathlib.Core.Bool.{true}
 use mathlib.Core.List.{List, [], ◌∷◌, ◌++◌}
 use native.Mathlib.Decide.{dec_lt}
-use native.Mathlib.Nat.{add-zero, zero-add, add-suc, suc-add, le_refl}
+use native.Mathlib.Nat.{add-zero, add-suc, suc-add, le_refl}
 use native.Mathlib.Omega.{arith}
 use borrow.Author.Tests.{eqb-true}
 use lib.Dec.{eqb}
 use lib.ListN.{length, get_or, set, take, drop, drop_of_length-le, length-set, replicate}
 use lib.ListN.{length-append, length-take, length-replicate, get_or-replicate}
 use lib.ListN.{get_or-eq_default as get_or_past, get_or-append}
-use lib.Seq.{sets, get_or-take, get_or-drop, get_or-set_same, get_or-append-add, take-append-le, take_all, length-take-le, length-sets, ext_get_or}
+use lib.Seq.{sets, get_or-take, get_or-drop, get_or-set_same, get_or-append-add, take-append-le, take_all, length-take-le, ext_get_or}
 use Rattle.wire.specs.Number.{number, bytes, field}
 use Rattle.wire.proofs.Laws.{and_left, and_right}
 use Rattle.wire.proofs.Numbers.{field_step}
-use Rattle.wire.proofs.Stores.{take_sets, drop_sets}
+use Rattle.wire.proofs.Stores.{take_sets}
 use Rattle.framing.specs.Framing.{zeros}
 use Rattle.framing.specs.Telling.{first_ten}
 
@@ -113,6 +113,12 @@ reads_alike l k same =
     ∙ padded l 10 i ∙ same i ten
     ∙ sym (get_or-take 10 (k ++ replicate 10 0) i 0 ten ∙ padded k 10 i))
 
+-- ten bytes that read as a list's are its first ten
+pub ten_held : (ten l : List ℕ) → length ten ≡ 10 → ((i : ℕ) → i < 10 → get_or ten i 0 ≡ get_or l i 0) → ten ≡ first_ten l
+unfolding first_ten
+ten_held ten l long same =
+    sym (take_all 10 ten (omega arith)) ∙ sym (take-append-le 10 ten (replicate 10 0) (omega arith)) ∙ reads_alike ten l same
+
 pub held_opening : (n : ℕ) (l : List ℕ) → 10 ≤ length l → zeros (drop n l) ≡ true → first_ten (take n l) ≡ take 10 l
 unfolding first_ten
 held_opening n l long h =
@@ -150,66 +156,6 @@ module _ (held host : List ℕ) (had : ℕ) where
   -- past the host's last
   pub past_sent : (i : ℕ) → had ≤ i → i < length held → length host ≤ i - had → get_or joined i 0 ≡ 0
   past_sent i more inside past = joined_sent i more inside ∙ get_or_past host 0 past
-
-  -- the held ones stored in ten places, and the host's behind them
-  abbrev front : List ℕ
-  front = sets (replicate 10 0) 0 (take (min had 10) held)
-
-  abbrev both : List ℕ
-  both = sets front had host
-
-  module _ (long : 10 ≤ length held) where
-    front_held : (i : ℕ) → i < 10 → i < had → get_or front i 0 ≡ get_or held i 0
-    front_held i ten less =
-        let there : i < length (take (min had 10) held) = simp length-take (omega arith) in
-        let inside : 0 + i < length {A = ℕ} (replicate 10 0) = simp length-replicate (omega arith) in
-        (rw (zero-add i) at (stored_reads (take (min had 10) held) (replicate 10 0) 0 i inside there))
-        ∙ get_or-take (min had 10) held i 0 (omega arith)
-
-    front_past : (i : ℕ) → i < 10 → had ≤ i → get_or front i 0 ≡ 0
-    front_past i ten more =
-        let ends : 0 + length (take (min had 10) held) ≤ had = simp length-take (omega arith) in
-        let place : had + (i - had) ≡ i = omega arith in
-        let same : drop had front ≡ drop had (replicate 10 0) = drop_sets had (replicate 10 0) 0 (take (min had 10) held) ends in
-        (rw place at (sym (get_or-drop had front (i - had) 0)))
-        ∙ ap (λ (r : List ℕ). get_or r (i - had) 0) same
-        ∙ (rw place at (get_or-drop {A = ℕ} had (replicate 10 0) (i - had) 0))
-        ∙ get_or-replicate 10 i 0 0 ten
-
-    ten_long : length both ≡ 10
-    ten_long = length-sets front had host ∙ length-sets (replicate 10 0) 0 (take (min had 10) held) ∙ length-replicate {A = ℕ} 10 0
-
-    both_reads : (i : ℕ) → i < 10 → get_or both i 0 ≡ get_or joined i 0
-    both_reads i ten =
-        elim (dec_lt i had) [
-          | yes w ↦
-              sym (get_or-take had both i 0 w)
-              ∙ ap (λ (r : List ℕ). get_or r i 0) (take_sets had front had host (le_refl had))
-              ∙ get_or-take had front i 0 w
-              ∙ front_held i ten w
-              ∙ sym (joined_held i w (omega arith))
-          | no w ↦ elim (dec_lt (i - had) (length host)) [
-            | yes v ↦ (
-                let place : had + (i - had) ≡ i = omega arith in
-                let inside : had + (i - had) < length front
-                = omega (arith, length-sets front had host, ten_long) in
-                (rw place at (stored_reads host front had (i - had) inside v)) ∙ sym (joined_sent i (omega arith) (omega arith)))
-            | no v ↦ (
-                let same : drop i both ≡ drop i front = drop_sets i front had host (omega arith) in
-                (rw (add-zero i) at (sym (get_or-drop i both 0 0)))
-                ∙ ap (λ (r : List ℕ). get_or r 0 0) same
-                ∙ (rw (add-zero i) at (get_or-drop i front 0 0))
-                ∙ front_past i ten (omega arith)
-                ∙ sym (past_sent i (omega arith) (omega arith) (omega arith)))
-          ]
-        ]
-
-    pub opened : both ≡ first_ten joined
-    unfolding first_ten
-    opened =
-        sym (take_all 10 both (omega (arith, ten_long)))
-        ∙ sym (take-append-le 10 both (replicate 10 0) (omega (arith, ten_long)))
-        ∙ reads_alike both joined both_reads
 
   -- it reads as it would with these bytes stored
   module _ (count : ℕ) (long : 10 ≤ length held) (sent : count ≤ length host) where

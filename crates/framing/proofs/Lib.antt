@@ -7,3 +7,4 @@ pub mod Cutting
 pub mod Stream
 pub mod FirstTen
 pub mod Whole
+pub mod Says

@@ -2,7 +2,7 @@
 // not finished.
 #![tactic(auto)]
 
-ghost use Rattle.std.specs.Prelude.{◌≡◌, true, ◌++◌, ◌+◌, ◌*◌, ◌-◌, ◌≤◌, ◌<◌, eqb, length, take, drop};
+ghost use Rattle.std.specs.Prelude.{◌≡◌, true, ◌++◌, ◌+◌, ◌*◌, ◌-◌, ◌≤◌, ◌<◌, eqb, length, take, drop, get_or};
 ghost use Rattle.framing.specs.Framing.{between, total_of, announced_by, finished, zeros, could_be_left};
 ghost use Rattle.framing.specs.Telling.{first_ten, took_says, took_in, held_after};
 ghost use Rattle.framing.specs.Inside.{total_ahead};
@@ -115,15 +115,31 @@ fn first_ten(host: &[u8]) -> [u8; 10]
     ten
 }
 
-// The first ten of a message of which `had` bytes are held and the host's come next.
+// The first ten of a message of which `had` bytes are held and the host's come next. (Byte after byte: of two copies the compiler makes
+// calls of memset and memcpy. See `wire::copy`.)
 fn opening(held: &[u8], had: usize, host: &[u8]) -> [u8; 10]
     requires { length held.now ≡ 64 }
     ensures { result ≡ first_ten (take had held.now ++ host.now) }
 {
     let mut ten = [0u8; 10];
-    wire::copy(&held[..had.min(10)], &mut ten, 0);
-    wire::copy(host, &mut ten, had);
+    for i in 0..10 {
+        ten[i] = byte_of(held, had, host, i);
+    }
     ten
+}
+
+// One of them, zero past their end.
+fn byte_of(held: &[u8], had: usize, host: &[u8], i: usize) -> u8
+    requires { (length held.now ≡ 64) × (i < 64) }
+    ensures { result ≡ get_or (take had held.now ++ host.now) i 0 }
+{
+    if i < had {
+        return held[i];
+    }
+    if host.len() <= i - had {
+        return 0;
+    }
+    host[i - had]
 }
 
 // The header that two bytes make.

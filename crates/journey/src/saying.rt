@@ -19,6 +19,7 @@ pub(crate) fn say_number(out: Stdout, word: &[u8], n: u64) {
 
 // A space and a number that may be below zero.
 pub(crate) fn say_signed(out: Stdout, n: i32) {
-    say(out, b" ");
-    let _ = out.print(n);
+    let sign: &[u8] = if n < 0 { b" -" } else { b" " };
+    say(out, sign);
+    let _ = out.print(n.unsigned_abs());
 }

@@ -1,12 +1,25 @@
 -- What the program does with the pieces that it reads, in the words of station/specs/Serving.
 use Rattle.std.specs.Prelude.{ℕ, ◌≡◌, true, List, [], ◌∷◌, ◌++◌, length}
 use Rattle.station.specs.declared.Station.{Station}
-use Rattle.station.specs.Station.{valid, fresh_station, session_serial}
+use Rattle.station.specs.declared.Parts.{Parts}
+use Rattle.station.specs.declared.Fed as Made
+use Rattle.station.specs.Station.{valid, box_of, fresh_station, session_serial}
+use Rattle.station.specs.Feeding.{Fed, call_code}
 use Rattle.station.specs.Serving.{Served, unserved, Piece, serving, joined}
 
 -- a piece as it was read; each call has 64 bytes of room for its reply
 abbrev pub piece : List ℕ → Piece
 piece host = record { rooms = λ calls. 64; host = host }
+
+-- what a call did with a box whose held bytes were lent, and the bytes that it left held: as of a whole box
+abbrev pub fed_with : Made.Fed Parts → List ℕ → Fed
+fed_with f held =
+    record {
+      code = call_code f.outcome;
+      consumed = f.consumed;
+      wrote = f.wrote;
+      station = box_of f.left.settings held f.left.taken;
+    }
 
 -- the box after a piece, and the replies to it
 abbrev pub handed : Station → List ℕ → Served

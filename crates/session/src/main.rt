@@ -2,14 +2,15 @@
 // output. It stands behind a TCP relay, so every reply is written before the program waits for more input.
 #![tactic(auto)]
 
-ghost use Rattle.std.specs.Prelude.{◌≡◌, true, Ok, IfOk};
-ghost use Rattle.station.specs.Station.{valid};
-ghost use Rattle.station.specs.Feeding.{feeding_of, fed_says};
+ghost use Rattle.std.specs.Prelude.{◌≡◌, true, IfOk};
+ghost use Rattle.station.specs.Station.{valid, box_of};
+ghost use Rattle.station.specs.Feeding.{feeding_of};
 ghost use Rattle.reads.specs.Got.{Whole};
-ghost use Rattle.session.specs.Session.{HandedOver, ReadSoFar};
+ghost use Rattle.session.specs.Session.{HandedOver, ReadSoFar, fed_with};
 
+use framing::Store;
 use reads::{Ended, Piece, Taker};
-use station::{Fed, Station};
+use station::{Fed, Parts, Station};
 use std::io;
 use streams::{Failed, Streams};
 
@@ -21,32 +22,54 @@ fn write_reply(io: &mut Streams, s: Station, host: &[u8], reply: &[u8]) -> io::R
     io.write_all(reply)
 }
 
-// One call of feeding on what is left of a piece, and its reply. Where the reply could not be written there is no box to go on with.
-fn feed_once(io: &mut Streams, s: Station, host: &[u8]) -> io::Result<Fed<Station>>
-    requires { valid s ≡ true }
-    ensures { IfOk result (λ fed. fed_says s (Ok fed) ≡ (feeding_of s host.now 64).fed) }
+// A box of its parts and the bytes that it holds.
+fn box_of(parts: Parts, held: [u8; 64]) -> Station
+    ensures { result ≡ box_of parts.settings held parts.taken }
 {
+    Station {
+        settings: parts.settings,
+        store: Store {
+            held,
+            taken: parts.taken,
+        },
+    }
+}
+
+// One call of feeding on what is left of a piece, and its reply. Where the reply could not be written there is no box to go on with.
+// The bytes held are lent, and changed where they lie: a box that comes and goes by value is copied for each message.
+fn feed_once(
+    io: &mut Streams,
+    parts: Parts,
+    held: &mut [u8; 64],
+    host: &[u8],
+) -> io::Result<Fed<Parts>>
+    requires { valid (box_of parts.settings held.old parts.taken) ≡ true }
+    ensures { IfOk result (λ fed. fed_with fed held.new ≡ (feeding_of (box_of parts.settings held.old parts.taken) host.now 64).fed) }
+{
+    // for the contract of the write alone
+    let before = box_of(parts, *held);
     let mut reply = [0u8; 64];
     // any reply of a valid box has room
-    let fed = station::feed(s, host, &mut reply).unwrap();
-    write_reply(io, s, host, &reply[..fed.wrote])?;
+    let fed = station::feed_held(parts, held, host, &mut reply).unwrap();
+    write_reply(io, before, host, &reply[..fed.wrote])?;
     Ok(fed)
 }
 
 // Hands a piece over by calling again until its bytes are used up, or a reply cannot be written. (span's hand_over has the same loop: one
-// function for both would take a trait with the invariant in it, and two impls, which is no plainer than the five lines.)
+// function for both would take a trait with the invariant in it, and two impls, which is no plainer than the few lines.)
 fn feed_piece(io: &mut Streams, s: Station, piece: Piece<'_>) -> io::Result<Station>
     requires { ReadSoFar s piece.read }
     ensures { IfOk result (HandedOver s piece.entry.bytes.now) }
 {
-    let mut station = s;
+    let mut held = s.store.held;
+    let mut parts = s.parts();
     let mut rest = piece.bytes;
     while !rest.is_empty() {
-        let fed = feed_once(io, station, rest)?;
-        station = fed.left;
+        let fed = feed_once(io, parts, &mut held, rest)?;
+        parts = fed.left;
         rest = &rest[fed.consumed..];
     }
-    Ok(station)
+    Ok(box_of(parts, held))
 }
 
 // The box, as the pieces so far have left it.

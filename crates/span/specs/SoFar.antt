@@ -29,7 +29,7 @@ ReadToItsEnd s got = (s.stopped ≡ true) ⊎ Whole got
 -- ---- what is proved of it: proofs/Inputs
 
 -- Where the last write meets what it requires (`SpanSoFar s read`, and the lines of the end), the lines of those pieces and the
--- last ones are their report. (That they are the pieces that were read is for a reader of `run` to see.)
+-- last ones are their report. (That they are the pieces that were read is for a reader of `reads::take_all` to see.)
 abbrev pub LastWriteEndsTheReport : Type 0
 LastWriteEndsTheReport =
     (s : Span) (read : ℕ) (lines : List ℕ) (r : SpanSoFar s read) → lines ≡ (finishing_of s room).bytes

@@ -2,20 +2,28 @@
 use Rattle.std.proofs.Common.{refl, sym, ◌∙◌}
 use Rattle.std.proofs.Math.Seq.{length-take-le}
 use native.Mathlib.Nat.{le_refl}
+use Rattle.station.specs.Station.{box_of}
 use Rattle.station.proofs.Calls.{not_refused, ok_of}
-use Rattle.session.proofs.Calls.{reply_is}
+use Rattle.session.proofs.Calls.{reply_is, put_together}
 use Rattle.session.proofs.feed_once.Goals as goal
 
 pub unwrap-fed-requires : goal.unwrap-fed-requires
 unwrap-fed-requires c =
-    ok_of c.feed.result (c.feed.ensures.1 ∙ not_refused c.args.s c.args.host.now 64 c.requires (le_refl 64))
+    let a = c.args in
+    ok_of c.feed_held.result
+    (c.feed_held.ensures.1 ∙ not_refused (box_of a.parts.settings a.held.now a.parts.taken) a.host.now 64 c.requires (le_refl 64))
 
 pub slice_bounds-reply-end : goal.slice_bounds-reply-end
-slice_bounds-reply-end c = (reply_is _ _ _ _ _ refl (rw c.unwrap-fed.ensures at c.feed.ensures.0) c.feed.ensures.2).inside
+slice_bounds-reply-end c =
+    let whole = put_together c.args.parts _ _ _ (rw c.unwrap-fed.ensures at c.feed_held.ensures.0) c.feed_held.ensures.2 in
+    (reply_is _ _ _ _ _ refl whole c.feed_held.ensures.3).inside
 
 pub slice_bounds-write_reply-end : goal.slice_bounds-write_reply-end
 slice_bounds-write_reply-end c =
-    sym (length-take-le _ _ (reply_is _ _ _ _ _ refl (rw c.unwrap-fed.ensures at c.feed.ensures.0) c.feed.ensures.2).inside)
+    let whole = put_together c.args.parts _ _ _ (rw c.unwrap-fed.ensures at c.feed_held.ensures.0) c.feed_held.ensures.2 in
+    sym (length-take-le _ _ (reply_is _ _ _ _ _ refl whole c.feed_held.ensures.3).inside)
 
 pub write_reply-requires : goal.write_reply-requires
-write_reply-requires c = (reply_is _ _ _ _ _ refl (rw c.unwrap-fed.ensures at c.feed.ensures.0) c.feed.ensures.2).bytes
+write_reply-requires c =
+    let whole = put_together c.args.parts _ _ _ (rw c.unwrap-fed.ensures at c.feed_held.ensures.0) c.feed_held.ensures.2 in
+    rw c.box_of-before.ensures (reply_is _ _ _ _ _ refl whole c.feed_held.ensures.3).bytes

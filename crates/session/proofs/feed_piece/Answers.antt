@@ -3,7 +3,10 @@ use Rattle.session.proofs.Pieces.{begins, ends, turns}
 use Rattle.session.proofs.feed_piece.Goals as goal
 
 pub loop-rest-init : goal.loop-rest-init
-loop-rest-init c = begins _ _ c.requires.valid
+loop-rest-init c = rw c.parts-parts.ensures (begins _ _ c.requires.valid)
+
+pub feed_once-requires : goal.feed_once-requires
+feed_once-requires c = c.loop-rest.invariant.valid
 
 -- what a call did whose reply was written
 pub slice_bounds-rest-count : goal.slice_bounds-rest-count
@@ -27,4 +30,4 @@ loop-rest-preserved c =
     (turns _ _ _ _ c.loop-rest.invariant more _ c.in_ok-fed.ensures).going
 
 pub returns : goal.returns
-returns c = ends _ _ _ _ c.loop-rest.invariant (search rules)
+returns c = rw c.box_of.ensures (ends _ _ _ _ c.loop-rest.invariant (search rules))

@@ -1,13 +1,15 @@
--- What has room is copied; the rest would not be stored.
-use Rattle.std.proofs.Common.{sym, arith}
-use Rattle.wire.proofs.Stores.{sets_out, copy_fits}
+-- At the end nothing is left to store, or no place is.
+use Rattle.std.proofs.Common.{refl, arith}
+use lib.ListN.{length-set}
+use Rattle.wire.proofs.Stores.{copy_turn, copy_end}
 use Rattle.wire.proofs.bytes.copy.Goals as goal
 
-pub returns-then-at-dst : goal.returns-then-at-dst
-returns-then-at-dst c =
-    let a = c.args in
-    rw c.copy_from_slice.ensures.after
-    (copy_fits a.dst.now a.src.now a.at c.min-fits.result _ (omega arith) c.min-fits.ensures (omega arith))
+pub loop-i-preserved : goal.loop-i-preserved
+loop-i-preserved c =
+    let l = c.loop-i in
+    (simp length-set l.invariant.0, copy_turn _ _ _ _ l.i _ (omega arith) refl l.invariant.1)
 
-pub returns-else-at-dst : goal.returns-else-at-dst
-returns-else-at-dst c = sym (sets_out c.args.dst.now c.args.at c.args.src.now c.if-at-dst.false)
+pub returns : goal.returns
+returns c =
+    let l = c.loop-i in
+    copy_end _ _ _ _ l.i (omega arith) l.invariant.1
