@@ -60,13 +60,6 @@ void *memset(void *to, int value, size n) {
     for (size i = 0; i < n; i++) ((byte *)to)[i] = (byte)value;
     return to;
 }
-void *memcpy(void *restrict to, const void *restrict from, size n) {
-    char *t = to;
-    const char *f = from;
-    while (n--) *t++ = *f++;
-    return to;
-}
-
 void *memmove(void *to, const void *from, size n) {
     byte *t = to;
     const byte *f = from;
