@@ -3,7 +3,7 @@
 #![tactic(auto)]
 
 ghost use Rattle.std.specs.Prelude.{ℕ, ◌≡◌, false, ◌⊎◌, ◌+◌, ◌<◌, ◌≤◌, length, get_or, IfOk, OnOk};
-ghost use Rattle.reads.specs.Got.{AllOf, Whole, most};
+ghost use Rattle.reads.specs.Got.{AllOf, Whole, IfUnread, failed_of, most};
 
 use std::io;
 use std::io::Error;
@@ -45,6 +45,24 @@ pub struct Ended {
     pub got: io::Result<usize>,
 }
 
+// Why reading ended early: a read failed, when so many bytes had been read; or what was due could not be written.
+#[derive(Drop)]
+pub enum Early {
+    Unread(usize, Error),
+    Unwritten(Error),
+}
+
+impl From<Early> for Failed {
+    ghost from_gives = { λ early failed. failed ≡ failed_of early };
+
+    fn from(early: Early) -> Failed {
+        match early {
+            Early::Unread(_, e) => Failed::Unread(e),
+            Early::Unwritten(e) => Failed::Unwritten(e),
+        }
+    }
+}
+
 // A proved loop has to end, and nothing says that the input does. So the loop counts the bytes that it reads, up to a number that no run
 // comes to; past it the program ends as where a read fails, for which the system has no number.
 const MOST: usize = 0x8000_0000_0000_0000;
@@ -56,26 +74,27 @@ pub fn take_all<T: Taker>(
     taker: &mut T,
     have: usize,
     buf: &mut [u8],
-) -> Result<Ended, Failed>
+) -> Result<Ended, Early>
     requires { T.so_far taker.old have × (have ≤ most) }
-    ensures { IfOk result (λ ended. T.so_far taker.new ended.read × (T.stopped taker.new ⊎ Whole ended.got)) }
+    ensures ended { IfOk result (λ ended. T.so_far taker.new ended.read × (T.stopped taker.new ⊎ Whole ended.got)) }
+    ensures unread { IfUnread result (λ read. T.so_far taker.new read) }
 {
     let mut read = have;
     'pieces: loop {
         let got = io.read(buf);
-        let n = got.map_err(Failed::Unread)?;
+        let n = got.map_err(|e| Early::Unread(read, e))?;
         if n == 0 {
             return Ok(Ended { read, got });
         }
         if MOST - read < n {
-            return Err(Failed::Unread(Error::from_raw_os_error(0)));
+            return Err(Early::Unread(read, Error::from_raw_os_error(0)));
         }
         let piece = Piece {
             read,
             got,
             bytes: &buf[..n],
         };
-        let wants_more = taker.take(io, piece).map_err(Failed::Unwritten)?;
+        let wants_more = taker.take(io, piece).map_err(Early::Unwritten)?;
         read += n;
         if !wants_more {
             return Ok(Ended { read, got });

@@ -9,10 +9,10 @@ ghost use Rattle.reads.specs.Got.{Whole};
 ghost use Rattle.session.specs.Session.{HandedOver, ReadSoFar, fed_with};
 
 use framing::Store;
-use reads::{Ended, Piece, Taker};
+use reads::{Early, Ended, Piece, Taker};
 use station::{Fed, Parts, Station};
 use std::io;
-use streams::{Failed, Streams};
+use streams::Streams;
 
 // Writes the reply of a box to some bytes of the host, in one write. Box and bytes are there for the contract alone, which says
 // whose reply it is.
@@ -105,7 +105,7 @@ fn main(rt: HostRuntime) {
     };
     match reads::take_all(&mut io, &mut serving, 0, &mut buf) {
         Ok(ended) => served(serving.station, ended),
-        Err(Failed::Unwritten(e)) => io.fail(b"session: a reply could not be written", e),
-        Err(Failed::Unread(e)) => io.fail(b"session: the input could not be read to its end", e),
+        Err(Early::Unwritten(e)) => io.fail(b"session: a reply could not be written", e),
+        Err(Early::Unread(_, e)) => io.fail(b"session: the input could not be read to its end", e),
     }
 }

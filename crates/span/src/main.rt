@@ -7,11 +7,11 @@ ghost use Rattle.spans.specs.Eating.{eating_of, finishing_of, eaten_told};
 ghost use Rattle.spans.specs.Pieces.{handed};
 ghost use Rattle.span.specs.SoFar.{SpanSoFar, ReadToItsEnd};
 
-use reads::{Ended, Piece, Taker};
+use reads::{Early, Ended, Piece, Taker};
 use spans::{Eaten, Span};
 use std::io;
 use std::io::Error;
-use streams::{Failed, Streams};
+use streams::Streams;
 
 // Writes the lines that are due in a piece. Span and piece are there for the contract alone, which says whose lines these are.
 fn write_lines(io: &mut Streams, s: Span, piece: &[u8], lines: &[u8]) -> io::Result<()>
@@ -101,7 +101,7 @@ fn main(rt: HostRuntime) {
     };
     match reads::take_all(&mut io, &mut telling, 0, &mut buf) {
         Ok(ended) => finish(&mut io, telling.span, ended),
-        Err(Failed::Unwritten(e)) => unwritten(&mut io, e),
-        Err(Failed::Unread(e)) => io.fail(b"span: the input could not be read to its end", e),
+        Err(Early::Unwritten(e)) => unwritten(&mut io, e),
+        Err(Early::Unread(_, e)) => io.fail(b"span: the input could not be read to its end", e),
     }
 }
