@@ -33,13 +33,16 @@ pub fn cut_packet(s: Station, samples: &[i32], packet: &mut [u8]) -> Result<Cut<
         × (packet.new
         ≡ sets packet.old 0 (cutting_of s samples.now (length packet.old)).bytes) }
 {
-    let cut = cut_held(s.parts(), &s.store.held, samples, packet)?;
+    // The bytes held are lent by themselves, and put back, though they are as they were. (Of a box of which a part is lent the compiler
+    // copies the whole by memcpy; and where another copy of them is answered it keeps both on the stack.)
+    let held = s.store.held;
+    let cut = cut_held(s.parts(), &held, samples, packet)?;
+    let mut left = s;
+    left.settings = cut.left;
+    left.store.held = held;
     Ok(Cut {
         wrote: cut.wrote,
-        left: Station {
-            settings: cut.left,
-            ..s
-        },
+        left,
     })
 }
 

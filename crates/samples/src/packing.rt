@@ -100,6 +100,8 @@ fn pack16(samples: &[i32], packet: &mut [u8])
 
 // Writes the sample bytes of a packet of a form after its four leading bytes. It refuses, and writes nothing, where the
 // form is not listed, the samples are not its I/Q pairs, the slice has no room for the packet, or a sample is outside 24 bits.
+// (In line, what its loops keep would lie on the stack of who cuts packets, beside the box: docs/TRUSTED.md, "The stack".)
+#[inline(never)]
 pub fn pack(f: Form, samples: &[i32], packet: &mut [u8]) -> bool
     ensures { (result ≡ may_pack f samples.now (length packet.old))
         × (packet.new ≡ sets packet.old 4 (packed_of f samples.now (length packet.old))) }
