@@ -17,13 +17,13 @@ AllOf got piece = got ≡ Ok (length piece)
 abbrev pub most : ℕ
 most = 0x8000_0000_0000_0000
 
--- why reading ended early: of a read that failed this holds, and of how many bytes were read before it
+-- where reading ended early because a read failed, this holds of how many bytes were read before it
 abbrev pub IfUnread : {A : Type 0} → Result A Early → (ℕ → Type 0) → Type 0
 IfUnread (Ok a) Holds = Unit {0}
 IfUnread (Err (Unread read e)) Holds = Holds read
 IfUnread (Err (Unwritten e)) Holds = Unit {0}
 
--- the same without the count
+-- why reading ended early, without that count
 abbrev pub failed_of : Early → Failed
 failed_of (Unread read e) = Told.Unread e
 failed_of (Unwritten e) = Told.Unwritten e
